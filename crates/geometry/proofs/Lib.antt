@@ -1,2 +1,3 @@
 pub mod Guard
 pub mod Box
+pub mod Reading
