@@ -1,8 +1,8 @@
 -- A list that is rewritten in place from the front, equal tables, and a row put back into its plane.
 -- Assumes nothing.
-use mathlib.Core.Path.{_≡_, sym, ap, _∙_}
+use mathlib.Core.Path.{_≡_, sym, ap, _∙_, subst}
 use mathlib.Core.List.{List, _++_}
-use mathlib.Core.Logic.{_≢_, ⊎-elim}
+use mathlib.Core.Logic.{⊎-elim}
 use Prim.Native.Nat.{ℕ, _+_, _*_, _-_, _≤_, _<_}
 use native.Mathlib.Omega.{arith}
 use lib.ListN.{length, getD, set, take, drop, length-take, List·getD-append}
@@ -59,3 +59,13 @@ module _ {A : Type 0} (d : A) (h w y k : ℕ) (l row : List A) (inside : y < h) 
   pub put-other : (j x : ℕ) → (j ≡ y → ⊥) → x < w → getD put (j * w + x) d ≡ getD l (j * w + x) d
   put-other j x n g =
       ⊎-elim (λ (f : j < y). put-before j x f g) (λ (f : y ≤ j). ⊎-elim (λ (q : y < j). put-behind j x q g) (λ (q : j ≤ y). absurd (n (omega arith))) (which y j)) (which j y)
+
+  -- one row more is done
+  pub put-done : (f : ℕ → ℕ → A) → row ≡ table (f y) 0 w → ((j x : ℕ) → j < y → x < w → getD l (j * w + x) d ≡ f j x) → (j x : ℕ) → j < y + 1 → x < w → getD put (j * w + x) d ≡ f j x
+  put-done f e p j x g q =
+      ⊎-elim
+      (λ (z : j < y). put-other j x (λ n. omega arith) q ∙ p j x z q)
+      (λ (z : y ≤ j).
+      let n : y ≡ j = omega arith in
+      subst (λ (i : ℕ). getD put (i * w + x) d ≡ f i x) n (put-same x q ∙ ap (λ (r : List A). getD r x d) e ∙ table-at (f y) w x d q))
+      (which j y)
