@@ -4,7 +4,7 @@ use mathlib.Core.Path.{_≡_, refl, ap, _∙_}
 use mathlib.Core.List.{List}
 use mathlib.Core.Logic.{⊎-elim}
 use Prim.Native.Nat.{ℕ, _+_, _*_, _-_, _≤_, _<_}
-use native.Mathlib.Nat.{mul-add, add-mul, mul-comm, mul-left-comm, mul-le-mul-right, le-div-iff-mul-le, div-lt-iff-lt-mul, mul-le-mul}
+use native.Mathlib.Nat.{mul-add, add-mul, one-mul, mul-one, mul-comm, mul-left-comm, mul-le-mul-right, le-div-iff-mul-le, div-lt-iff-lt-mul, mul-le-mul}
 use native.Mathlib.Omega.{arith}
 use Rattle.plane.specs.Plane.{apart}
 use Rattle.plane.proofs.Search.{which}
@@ -97,3 +97,18 @@ apart-fits x i a b = omega arith
 -- so the square of their distance is below 2^32
 pub gap-fits : (x i d : ℕ) → d ≡ apart x i → x < 65536 → i < 65536 → d * d ≤ 4294836225
 gap-fits x i d e a b = square-fits d (let z = apart-fits x i a b in omega arith)
+
+-- squares are in the order of their roots
+pub square-le : {a b : ℕ} → a ≤ b → a * a ≤ b * b
+square-le {a} {b} h = mul-le-mul {n₁ = a} {m₁ = a} {n₂ = b} {m₂ = b} h h
+
+pub square-lt : {a b : ℕ} → a < b → a * a < b * b
+square-lt {a} {b} h =
+    let m : (a + 1) * (a + 1) ≤ b * b = mul-le-mul {n₁ = a + 1} {m₁ = a + 1} {n₂ = b} {m₂ = b} (omega arith) (omega arith) in
+    omega (arith, rw (add-mul, mul-add, one-mul, mul-one) at m)
+
+pub root-le : (a b : ℕ) → a * a ≤ b * b → a ≤ b
+root-le a b h = ⊎-elim (λ (l : b < a). (let z = square-lt l in absurd (omega arith))) (λ (l : a ≤ b). l) (which b a)
+
+pub root-lt : (a b : ℕ) → a * a < b * b → a < b
+root-lt a b h = ⊎-elim (λ (l : a < b). l) (λ (l : b ≤ a). (let z = square-le l in absurd (omega arith))) (which a b)

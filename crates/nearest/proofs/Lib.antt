@@ -1,0 +1,4 @@
+pub mod Cases
+pub mod InPlace
+pub mod Sweep
+pub mod Stages
