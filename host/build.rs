@@ -21,7 +21,10 @@ fn archive_folder(root: &Path) -> PathBuf {
     let archive = folder.join("libstand.a");
     println!("cargo:rerun-if-changed={}", archive.display());
     if own && !archive.is_file() {
-        let run = Command::new("rt").args(["staticlib", "stand"]).current_dir(root).output();
+        let run = Command::new("rt")
+            .args(["staticlib", "stand"])
+            .current_dir(root)
+            .output();
         match run {
             Ok(out) if out.status.success() => {}
             Ok(out) => fail(format!(
@@ -72,11 +75,17 @@ fn the_rust(root: &Path, host: &Path) {
 
 fn main() {
     let host = PathBuf::from(env::var_os("CARGO_MANIFEST_DIR").expect("CARGO_MANIFEST_DIR"));
-    let root = host.parent().expect("host/ lies in the repository").to_path_buf();
+    let root = host
+        .parent()
+        .expect("host/ lies in the repository")
+        .to_path_buf();
     println!("cargo:rerun-if-changed=build.rs");
     let folder = archive_folder(&root);
     println!("cargo:rustc-link-search=native={}", folder.display());
     println!("cargo:rustc-link-lib=static=stand");
-    println!("cargo:rustc-env=STAND_ARCHIVE={}", folder.join("libstand.a").display());
+    println!(
+        "cargo:rustc-env=STAND_ARCHIVE={}",
+        folder.join("libstand.a").display()
+    );
     the_rust(&root, &host);
 }

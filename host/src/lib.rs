@@ -195,7 +195,10 @@ pub fn labels(mask: &[u8], h: usize, w: usize) -> Result<Labels, Refusal> {
     let mut plane = zeros(plane_len(h, w));
     let answer = raw::labels(mask, h, w, &mut stack, &mut plane);
     Refusal::check(answer.number)?;
-    Ok(Labels { plane, count: answer.parts })
+    Ok(Labels {
+        plane,
+        count: answer.parts,
+    })
 }
 
 /// The mask grown by squares: a pixel is 1 exactly when an on-pixel of `mask` is at most k rows and
@@ -249,6 +252,8 @@ pub fn fill_transparent(
     let mut rows = zeros(work_len(h, w));
     let mut cols = zeros(work_len(h, w));
     let mut out = zeros(plane_len(h, w).map(|n| 3 * n));
-    Refusal::check(raw::fill(colours, mask, h, w, &mut rows, &mut cols, &mut out))?;
+    Refusal::check(raw::fill(
+        colours, mask, h, w, &mut rows, &mut cols, &mut out,
+    ))?;
     Ok(out)
 }

@@ -68,7 +68,15 @@ impl Lent {
 
     pub fn fill(&mut self, colours: &[f64], mask: &[u8], h: usize, w: usize) -> &[f64] {
         let out = &mut self.filled[..3 * h * w];
-        let answer = raw::fill(colours, mask, h, w, &mut self.row_work, &mut self.col_work, out);
+        let answer = raw::fill(
+            colours,
+            mask,
+            h,
+            w,
+            &mut self.row_work,
+            &mut self.col_work,
+            out,
+        );
         assert_eq!(answer, 0, "fill {h} × {w}");
         out
     }

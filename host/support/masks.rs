@@ -20,12 +20,16 @@ impl Random {
 
     /// A mask in which about `per_mille` of a thousand pixels are on.
     pub fn mask(&mut self, n: usize, per_mille: usize) -> Vec<u8> {
-        (0..n).map(|_| (self.below(1000) < per_mille) as u8).collect()
+        (0..n)
+            .map(|_| (self.below(1000) < per_mille) as u8)
+            .collect()
     }
 
     /// The same mask with any non-zero byte for on.
     pub fn any_bytes(&mut self, mask: &[u8]) -> Vec<u8> {
-        mask.iter().map(|&m| if m == 0 { 0 } else { 1 + self.below(255) as u8 }).collect()
+        mask.iter()
+            .map(|&m| if m == 0 { 0 } else { 1 + self.below(255) as u8 })
+            .collect()
     }
 }
 
@@ -74,7 +78,9 @@ pub fn complement(mask: &[u8]) -> Vec<u8> {
 
 /// Every other pixel: each is a part of its own.
 pub fn checkerboard(h: usize, w: usize) -> Vec<u8> {
-    (0..h * w).map(|i| ((i / w + i % w + 1) % 2) as u8).collect()
+    (0..h * w)
+        .map(|i| ((i / w + i % w + 1) % 2) as u8)
+        .collect()
 }
 
 /// One line of one pixel's width that turns inwards with a gap of one pixel.
@@ -104,13 +110,19 @@ pub fn spiral(h: usize, w: usize) -> Vec<u8> {
 
 /// Teeth of one pixel's width, joined along the last row.
 pub fn comb(h: usize, w: usize) -> Vec<u8> {
-    (0..h * w).map(|i| (i / w + 1 == h || (i % w) % 2 == 0) as u8).collect()
+    (0..h * w)
+        .map(|i| (i / w + 1 == h || (i % w) % 2 != 1) as u8)
+        .collect()
 }
 
 /// The mask as lines of digits.
 pub fn show(mask: &[u8], w: usize) -> String {
     mask.chunks(w)
-        .map(|row| row.iter().map(|&m| if m == 0 { '0' } else { '1' }).collect::<String>())
+        .map(|row| {
+            row.iter()
+                .map(|&m| if m == 0 { '0' } else { '1' })
+                .collect::<String>()
+        })
         .collect::<Vec<_>>()
         .join("\n")
 }

@@ -8,9 +8,12 @@ use std::process::Command;
 /// Compiles and runs a program; `None` where there is no such compiler.
 fn run(compiler: &str, words: &[&str], program: &str) -> Option<String> {
     let host = Path::new(env!("CARGO_MANIFEST_DIR"));
-    let label: String = words.concat().chars().filter(|c| c.is_alphanumeric()).collect();
-    let binary: PathBuf =
-        Path::new(env!("CARGO_TARGET_TMPDIR")).join(format!("{program}-{label}"));
+    let label: String = words
+        .concat()
+        .chars()
+        .filter(|c| c.is_alphanumeric())
+        .collect();
+    let binary: PathBuf = Path::new(env!("CARGO_TARGET_TMPDIR")).join(format!("{program}-{label}"));
     let compiled = Command::new(compiler)
         .args(words)
         .args(["-Wall", "-Wextra", "-Werror", "-pedantic"])
@@ -32,8 +35,13 @@ fn run(compiler: &str, words: &[&str], program: &str) -> Option<String> {
         other => other.expect("the compiler"),
     };
     let said = String::from_utf8_lossy(&compiled.stderr);
-    assert!(compiled.status.success(), "{compiler} {words:?} {program}:\n{said}");
-    let ran = Command::new(&binary).output().expect("the compiled program");
+    assert!(
+        compiled.status.success(),
+        "{compiler} {words:?} {program}:\n{said}"
+    );
+    let ran = Command::new(&binary)
+        .output()
+        .expect("the compiled program");
     assert!(ran.status.success(), "{program}: {:?}", ran.status);
     Some(String::from_utf8(ran.stdout).expect("text"))
 }

@@ -69,7 +69,10 @@ mod with {
 
     impl Comparison {
         fn new(h: usize, w: usize) -> Comparison {
-            Comparison { lent: Lent::new(h, w), covered: Covered::default() }
+            Comparison {
+                lent: Lent::new(h, w),
+                covered: Covered::default(),
+            }
         }
 
         fn mask(&mut self, pixels: usize) {
@@ -151,7 +154,11 @@ mod with {
                 for i in 0..h * w {
                     let dy = (rows[i] as i64 - (i / w) as i64).unsigned_abs();
                     let dx = (cols[i] as i64 - (i % w) as i64).unsigned_abs();
-                    assert_eq!(ours[i] as u64, dy * dy + dx * dx, "square distance, {h} × {w}");
+                    assert_eq!(
+                        ours[i] as u64,
+                        dy * dy + dx * dx,
+                        "square distance, {h} × {w}"
+                    );
                     assert_eq!((ours[i] as f64).sqrt(), roots[i], "distance, {h} × {w}");
                 }
                 self.covered.distance += 1;
@@ -248,7 +255,16 @@ mod with {
             masks::checkerboard,
             masks::comb,
         ];
-        for (h, w) in [(1, 1), (1, 2), (2, 1), (2, 2), (7, 64), (64, 7), (33, 31), (128, 128)] {
+        for (h, w) in [
+            (1, 1),
+            (1, 2),
+            (2, 1),
+            (2, 2),
+            (7, 64),
+            (64, 7),
+            (33, 31),
+            (128, 128),
+        ] {
             for kind in kinds {
                 for mask in [kind(h, w), masks::complement(&kind(h, w))] {
                     let mask = random.any_bytes(&mask);

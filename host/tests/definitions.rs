@@ -19,9 +19,9 @@ fn nearest(mask: &[u8], h: usize, w: usize, y: usize, x: usize) -> (i32, i32) {
 
 /// Some on-pixel is within k rows and k columns.
 fn square(mask: &[u8], w: usize, k: u64, y: usize, x: usize) -> bool {
-    mask.iter().enumerate().any(|(i, &m)| {
-        m != 0 && (i / w).abs_diff(y) as u64 <= k && (i % w).abs_diff(x) as u64 <= k
-    })
+    mask.iter()
+        .enumerate()
+        .any(|(i, &m)| m != 0 && (i / w).abs_diff(y) as u64 <= k && (i % w).abs_diff(x) as u64 <= k)
 }
 
 /// Each part is spread from its first pixel until nothing changes.
@@ -59,21 +59,45 @@ fn hold(mask: &[u8], h: usize, w: usize) {
     for i in 0..h * w {
         let (y, x) = (i / w, i % w);
         let (r, c) = nearest(mask, h, w, y, x);
-        assert_eq!((planes.rows[i], planes.cols[i]), (r, c), "({y}, {x}) of\n{}", shown());
+        assert_eq!(
+            (planes.rows[i], planes.cols[i]),
+            (r, c),
+            "({y}, {x}) of\n{}",
+            shown()
+        );
         let square = (r - y as i32).pow(2) + (c - x as i32).pow(2);
         assert_eq!(distance[i], square as u32, "({y}, {x}) of\n{}", shown());
         let row = if r < 0 { h - 1 } else { r as usize };
         let source = 3 * (row * w + c as usize);
-        assert_eq!(filled[3 * i..3 * i + 3], colours[source..source + 3], "of\n{}", shown());
+        assert_eq!(
+            filled[3 * i..3 * i + 3],
+            colours[source..source + 3],
+            "of\n{}",
+            shown()
+        );
     }
     let parts = stand::labels(mask, h, w).unwrap();
-    assert_eq!((parts.plane, parts.count), labels(mask, h, w), "labels of\n{}", shown());
+    assert_eq!(
+        (parts.plane, parts.count),
+        labels(mask, h, w),
+        "labels of\n{}",
+        shown()
+    );
     for iterations in [0, 1, 2, 3, h.max(w) as u64, u64::MAX - 1, u64::MAX] {
-        let k = if iterations == 0 { h.max(w) as u64 } else { iterations };
+        let k = if iterations == 0 {
+            h.max(w) as u64
+        } else {
+            iterations
+        };
         let out = stand::squares(mask, h, w, iterations).unwrap();
-        for i in 0..h * w {
+        for (i, &out) in out.iter().enumerate() {
             let on = square(mask, w, k, i / w, i % w);
-            assert_eq!(out[i], on as u8, "squares, {iterations} iterations, of\n{}", shown());
+            assert_eq!(
+                out,
+                on as u8,
+                "squares, {iterations} iterations, of\n{}",
+                shown()
+            );
         }
     }
 }
@@ -106,8 +130,8 @@ fn random_masks() {
 fn square_distance_of_an_empty_mask() {
     let (h, w) = (4096, 3);
     let out = stand::square_distance(&vec![0; h * w], h, w).unwrap();
-    for i in 0..h * w {
-        assert_eq!(out[i] as usize, (i / w + 1).pow(2) + (i % w).pow(2));
+    for (i, &out) in out.iter().enumerate() {
+        assert_eq!(out as usize, (i / w + 1).pow(2) + (i % w).pow(2));
     }
 }
 
@@ -127,7 +151,10 @@ fn document_cases() {
     assert_eq!((parts.plane, parts.count), (vec![1, 0, 0, 2], 2));
     let parts = stand::labels(&[1, 0, 1, 1, 1, 1], 2, 3).unwrap();
     assert_eq!((parts.plane, parts.count), (vec![1, 0, 1, 1, 1, 1], 1));
-    assert_eq!(stand::squares(&[1, 0, 0, 0, 0], 1, 5, 1).unwrap(), [1, 1, 0, 0, 0]);
+    assert_eq!(
+        stand::squares(&[1, 0, 0, 0, 0], 1, 5, 1).unwrap(),
+        [1, 1, 0, 0, 0]
+    );
     assert_eq!(stand::squares(&[1, 0, 0, 0, 0], 1, 5, 0).unwrap(), [1; 5]);
     assert_eq!(stand::squares(&[0; 5], 1, 5, 0).unwrap(), [0; 5]);
 }
@@ -152,16 +179,28 @@ fn refusals_of_the_safe_functions() {
     }
     for len in [0, 5, 7, 12] {
         let refused = [Some(Refusal::InputLength); 5];
-        assert_eq!(all(&vec![1; len], &[0.0; 18], 2, 3), refused, "mask of {len}");
+        assert_eq!(
+            all(&vec![1; len], &[0.0; 18], 2, 3),
+            refused,
+            "mask of {len}"
+        );
     }
     for len in [0, 6, 17, 19] {
         let colours = vec![0.0; len];
         assert_eq!(all(&[1; 6], &colours, 2, 3)[4], Some(Refusal::InputLength));
     }
     assert_eq!(all(&[1; 6], &[0.0; 18], 2, 3), [None; 5]);
-    for refusal in [Refusal::Side, Refusal::InputLength, Refusal::Room, Refusal::Unknown(99)] {
+    for refusal in [
+        Refusal::Side,
+        Refusal::InputLength,
+        Refusal::Room,
+        Refusal::Unknown(99),
+    ] {
         assert_eq!(Refusal::check(refusal.number()), Err(refusal));
         let sentence = refusal.to_string();
-        assert!(sentence.starts_with(&format!("refused {}: ", refusal.number())), "{sentence}");
+        assert!(
+            sentence.starts_with(&format!("refused {}: ", refusal.number())),
+            "{sentence}"
+        );
     }
 }

@@ -6,7 +6,9 @@ use std::io::Write as _;
 use std::path::{Path, PathBuf};
 
 fn folder(name: &str) -> PathBuf {
-    Path::new(env!("CARGO_MANIFEST_DIR")).join("recorded").join(name)
+    Path::new(env!("CARGO_MANIFEST_DIR"))
+        .join("recorded")
+        .join(name)
 }
 
 /// The text that the cases in `stdin` must give.
@@ -16,7 +18,9 @@ fn answered(stdin: &str) -> (String, usize) {
     let mut lines = stdin.lines();
     while let Some(head) = lines.next() {
         let words: Vec<&str> = head.split(' ').collect();
-        let [op, h, w, k] = words[..] else { panic!("`{head}` is no head line") };
+        let [op, h, w, k] = words[..] else {
+            panic!("`{head}` is no head line")
+        };
         let (h, w): (usize, usize) = (h.parse().unwrap(), w.parse().unwrap());
         let k: u64 = k.parse().unwrap();
         let mut mask = Vec::new();
@@ -35,16 +39,24 @@ fn answered(stdin: &str) -> (String, usize) {
                 let parts = stand::labels(&mask, h, w).unwrap();
                 writeln!(out, "{}", parts.count).unwrap();
                 let rows = parts.plane.chunks(w);
-                rows.map(|r| r.iter().map(u32::to_string).collect::<Vec<_>>().join(" ")).collect()
+                rows.map(|r| r.iter().map(u32::to_string).collect::<Vec<_>>().join(" "))
+                    .collect()
             }
             "S" => {
                 let plane = stand::squares(&mask, h, w, k).unwrap();
-                plane.chunks(w).map(|r| r.iter().map(u8::to_string).collect()).collect()
+                plane
+                    .chunks(w)
+                    .map(|r| r.iter().map(u8::to_string).collect())
+                    .collect()
             }
             "N" => {
                 let planes = stand::nearest(&mask, h, w).unwrap();
-                let pairs: Vec<String> =
-                    planes.rows.iter().zip(&planes.cols).map(|(r, c)| format!("{r},{c}")).collect();
+                let pairs: Vec<String> = planes
+                    .rows
+                    .iter()
+                    .zip(&planes.cols)
+                    .map(|(r, c)| format!("{r},{c}"))
+                    .collect();
                 pairs.chunks(w).map(|r| r.join(" ")).collect()
             }
             other => panic!("there is no operation {other}"),
@@ -82,13 +94,26 @@ fn scipys_answers() {
 
 /// The list in the repository is what the generator writes today.
 #[test]
-#[cfg_attr(not(mask_rs), ignore = "mask.rs is not there: PIXELFORGE_MASK_RS names its place")]
+#[cfg_attr(
+    not(mask_rs),
+    ignore = "mask.rs is not there: PIXELFORGE_MASK_RS names its place"
+)]
 fn the_rusts_list_is_what_record_writes() {
     let made = Path::new(env!("CARGO_TARGET_TMPDIR")).join("recorded");
-    let run = std::process::Command::new(env!("CARGO_BIN_EXE_record")).arg(&made).output().unwrap();
-    assert!(run.status.success(), "{}", String::from_utf8_lossy(&run.stderr));
+    let run = std::process::Command::new(env!("CARGO_BIN_EXE_record"))
+        .arg(&made)
+        .output()
+        .unwrap();
+    assert!(
+        run.status.success(),
+        "{}",
+        String::from_utf8_lossy(&run.stderr)
+    );
     for file in ["stdin", "stdout"] {
         let kept = fs::read(folder("rust").join(file)).unwrap();
-        assert!(fs::read(made.join(file)).unwrap() == kept, "recorded/rust/{file}");
+        assert!(
+            fs::read(made.join(file)).unwrap() == kept,
+            "recorded/rust/{file}"
+        );
     }
 }

@@ -24,7 +24,10 @@ impl<T: Copy + PartialEq> Buffer<T> {
     fn new(len: usize, pattern: impl FnMut() -> T) -> Buffer<T> {
         let mut pattern = pattern;
         let before: Vec<T> = (0..len + 2 * BESIDE).map(|_| pattern()).collect();
-        Buffer { all: before.clone(), before }
+        Buffer {
+            all: before.clone(),
+            before,
+        }
     }
 
     fn lent(&mut self) -> &mut [T] {
@@ -60,7 +63,13 @@ enum Call {
     Fill,
 }
 
-const CALLS: [Call; 5] = [Call::Nearest, Call::Labels, Call::Squares, Call::Distance, Call::Fill];
+const CALLS: [Call; 5] = [
+    Call::Nearest,
+    Call::Labels,
+    Call::Squares,
+    Call::Distance,
+    Call::Fill,
+];
 
 impl Call {
     /// The slices of the call, in the order of the parameters.
@@ -77,7 +86,9 @@ impl Call {
     /// The lengths that are accepted; for sides that are not, any.
     fn fitting(self, h: usize, w: usize) -> Vec<usize> {
         let n = h.wrapping_mul(w);
-        let work = n.wrapping_mul(2).wrapping_add(h.wrapping_add(w).wrapping_mul(2));
+        let work = n
+            .wrapping_mul(2)
+            .wrapping_add(h.wrapping_add(w).wrapping_mul(2));
         self.kinds()
             .iter()
             .map(|kind| match kind {
@@ -99,7 +110,9 @@ impl Call {
         };
         let some = |input: bool| {
             let kinds = self.kinds().iter().zip(lengths);
-            kinds.into_iter().any(|(k, &len)| matches!(k, Input(_)) == input && wrong(k, len))
+            kinds
+                .into_iter()
+                .any(|(k, &len)| matches!(k, Input(_)) == input && wrong(k, len))
         };
         match (some(true), some(false)) {
             (true, _) => 2,
@@ -154,8 +167,7 @@ impl Call {
                 let mut rows = Buffer::new(lengths[1], || random.next() as i32);
                 let mut cols = Buffer::new(lengths[2], || random.next() as i32);
                 let mut out = Buffer::new(lengths[3], || random.next() as u32);
-                let number =
-                    raw::distance(mask.lent(), h, w, rows.lent(), cols.lent(), out.lent());
+                let number = raw::distance(mask.lent(), h, w, rows.lent(), cols.lent(), out.lent());
                 (
                     number,
                     mask.unchanged() && rows.unchanged() && cols.unchanged() && out.unchanged(),
@@ -193,9 +205,15 @@ impl Call {
         };
         assert_eq!(number, expected, "{self:?}, {h} × {w}, lengths {lengths:?}");
         if number == 0 {
-            assert!(accepted_ok, "{self:?}, {h} × {w}, accepted: an input or a neighbour changed");
+            assert!(
+                accepted_ok,
+                "{self:?}, {h} × {w}, accepted: an input or a neighbour changed"
+            );
         } else {
-            assert!(refused_ok, "{self:?}, {h} × {w}, lengths {lengths:?}: a refusal wrote");
+            assert!(
+                refused_ok,
+                "{self:?}, {h} × {w}, lengths {lengths:?}: a refusal wrote"
+            );
         }
         number
     }
@@ -221,7 +239,17 @@ impl Count {
 fn every_length_by_one_either_way() {
     let mut random = Random(11);
     let mut count = Count::default();
-    let shapes = [(1, 1), (1, 2), (2, 1), (3, 5), (5, 3), (16, 16), (1, 33), (33, 1), (40, 27)];
+    let shapes = [
+        (1, 1),
+        (1, 2),
+        (2, 1),
+        (3, 5),
+        (5, 3),
+        (16, 16),
+        (1, 33),
+        (33, 1),
+        (40, 27),
+    ];
     for call in CALLS {
         for (h, w) in shapes {
             let fitting = call.fitting(h, w);
@@ -255,7 +283,16 @@ fn lengths_that_are_far_off() {
             let fitting = call.fitting(h, w);
             let n = h * w;
             for at in 0..fitting.len() {
-                for len in [0, 1, n / 2, n, 2 * n, 3 * n, fitting[at] / 2, 2 * fitting[at]] {
+                for len in [
+                    0,
+                    1,
+                    n / 2,
+                    n,
+                    2 * n,
+                    3 * n,
+                    fitting[at] / 2,
+                    2 * fitting[at],
+                ] {
                     let mut lengths = fitting.clone();
                     lengths[at] = len;
                     let number = call.hold(&mut random, h, w, 2, &lengths);

@@ -138,7 +138,8 @@ fn looked_up(file: &str, key: &str) -> Option<String> {
 fn said(command: &str, words: &[&str]) -> String {
     let out = Command::new(command).args(words).output().ok();
     let text = out.map(|out| String::from_utf8_lossy(&out.stdout).trim().to_string());
-    text.filter(|text| !text.is_empty()).unwrap_or_else(|| "not known".into())
+    text.filter(|text| !text.is_empty())
+        .unwrap_or_else(|| "not known".into())
 }
 
 fn head(runs: usize) {
@@ -146,7 +147,10 @@ fn head(runs: usize) {
     let cores = std::thread::available_parallelism().map_or(0, |n| n.get());
     let load = fs::read_to_string("/proc/loadavg").unwrap_or_default();
     let load = load.split(' ').next().unwrap_or("not known").to_string();
-    println!("Machine: {cpu}, {cores} cores, load {load} at the start. {}.", said("rustc", &["-V"]));
+    println!(
+        "Machine: {cpu}, {cores} cores, load {load} at the start. {}.",
+        said("rustc", &["-V"])
+    );
     println!("Date: {}.", said("date", &["-u", "+%Y-%m-%d %H:%M UTC"]));
     println!("Median of {runs} runs, in turn; ns per pixel; ratio: mask.rs's time over ours.");
     if !cfg!(mask_rs) {
@@ -166,8 +170,16 @@ fn memory(side: usize, lent: &Lent) {
     let pair = size_of_val(&lent.row_work[..]) + size_of_val(&lent.col_work[..]);
     let of = |name, work, out| println!("| {name} | {} | {} |", bytes(work), bytes(out));
     of("nearest", 0, planes);
-    of("labels", size_of_val(&lent.stack[..]), size_of_val(&lent.labels[..]));
-    of("squares", size_of_val(&lent.work[..]), size_of_val(&lent.out[..]));
+    of(
+        "labels",
+        size_of_val(&lent.stack[..]),
+        size_of_val(&lent.labels[..]),
+    );
+    of(
+        "squares",
+        size_of_val(&lent.work[..]),
+        size_of_val(&lent.out[..]),
+    );
     of("square distance", pair, size_of_val(&lent.distance[..]));
     of("fill", pair, size_of_val(&lent.filled[..]));
 }
@@ -192,8 +204,9 @@ fn main() {
     for &side in &sides {
         let mut random = Random(side as u64);
         let mut lent = Lent::new(side, side);
-        let colours: Vec<f64> =
-            (0..3 * side * side).map(|_| (random.next() >> 11) as f64 / 9e15).collect();
+        let colours: Vec<f64> = (0..3 * side * side)
+            .map(|_| (random.next() >> 11) as f64 / 9e15)
+            .collect();
         let object = masks::object(side, side);
         let complement = masks::complement(&object);
         let planes = [

@@ -81,7 +81,12 @@ mod with {
             let (rows, cols) = mask::feature_transform(&b, h, w);
             let pairs: Vec<(i32, i32)> = rows.into_iter().zip(cols).collect();
             for row in pairs.chunks(w) {
-                writeln!(self.stdout, "{}", line(row, " ", |(r, c)| format!("{r},{c}"))).unwrap();
+                writeln!(
+                    self.stdout,
+                    "{}",
+                    line(row, " ", |(r, c)| format!("{r},{c}"))
+                )
+                .unwrap();
             }
             self.cases[2] += 1;
         }
@@ -198,9 +203,14 @@ mod with {
     }
 
     pub fn main() {
-        let folder = std::env::args_os().nth(1).map(PathBuf::from).unwrap_or_else(|| {
-            PathBuf::from(env!("CARGO_MANIFEST_DIR")).join("recorded").join("rust")
-        });
+        let folder = std::env::args_os()
+            .nth(1)
+            .map(PathBuf::from)
+            .unwrap_or_else(|| {
+                PathBuf::from(env!("CARGO_MANIFEST_DIR"))
+                    .join("recorded")
+                    .join("rust")
+            });
         let mut list = List::default();
         document(&mut list);
         ties(&mut list);
