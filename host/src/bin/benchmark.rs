@@ -1,0 +1,250 @@
+//! Ours and mask.rs side by side, in one process, on the same masks.
+//!
+//! ```text
+//! cargo run --release --manifest-path host/Cargo.toml --bin benchmark [-- [RUNS] [SIDE..]]
+//! ```
+//!
+//! RUNS is how often each is timed (at least 5, which is the default), in turn; the median counts.
+//! SIDE is the side of the square planes: 1024 2048 4096 by default. Ours writes into buffers that
+//! were made and touched before the clock starts; mask.rs allocates its planes, as it always does,
+//! and gives them back after the clock has stopped. Both are built for release.
+//!
+//! Prints a Markdown page with ns per pixel, the ratio (mask.rs's time over ours), and the memory
+//! that is lent.
+
+include!(concat!(env!("OUT_DIR"), "/the_rust.rs"));
+
+#[path = "../../support/lent.rs"]
+mod lent;
+#[path = "../../support/masks.rs"]
+mod masks;
+
+use lent::Lent;
+use masks::Random;
+use std::fs;
+use std::hint::black_box;
+use std::mem::size_of_val;
+use std::process::Command;
+use std::time::Instant;
+
+/// What is timed.
+#[derive(Clone, Copy, PartialEq)]
+enum Call {
+    Nearest,
+    Labels,
+    Squares(u64),
+    Distance,
+    Fill,
+}
+
+impl Call {
+    fn name(self) -> String {
+        match self {
+            Call::Nearest => "nearest".into(),
+            Call::Labels => "labels".into(),
+            Call::Squares(k) => format!("squares, k {k}"),
+            Call::Distance => "square distance".into(),
+            Call::Fill => "fill".into(),
+        }
+    }
+
+    /// Seconds that one call of ours takes.
+    fn ours(self, lent: &mut Lent, p: &Plane) -> f64 {
+        let (h, w) = (p.side, p.side);
+        let start = Instant::now();
+        match self {
+            Call::Nearest => _ = black_box(lent.nearest(black_box(&p.mask), h, w)),
+            Call::Labels => _ = black_box(lent.labels(black_box(&p.mask), h, w)),
+            Call::Squares(k) => _ = black_box(lent.squares(black_box(&p.mask), h, w, k)),
+            Call::Distance => _ = black_box(lent.distance(black_box(&p.mask), h, w)),
+            Call::Fill => _ = black_box(lent.fill(p.colours, black_box(&p.mask), h, w)),
+        }
+        start.elapsed().as_secs_f64()
+    }
+
+    /// Seconds that the same takes mask.rs.
+    #[cfg(mask_rs)]
+    fn theirs(self, p: &Plane) -> Option<f64> {
+        fn time<T>(call: impl FnOnce() -> T) -> f64 {
+            let start = Instant::now();
+            let planes = black_box(call());
+            let time = start.elapsed().as_secs_f64();
+            drop(planes);
+            time
+        }
+        let (h, w, mask) = (p.side, p.side, black_box(&p.bools[..]));
+        Some(match self {
+            Call::Nearest => time(|| mask::feature_transform(mask, h, w)),
+            Call::Labels => time(|| mask::label4(mask, h, w)),
+            Call::Squares(k) => time(|| mask::binary_dilation8(mask, h, w, k as usize)),
+            Call::Distance => time(|| mask::edt(mask, h, w)),
+            Call::Fill => time(|| mask::fill_transparent(p.colours, mask, h, w)),
+        })
+    }
+
+    #[cfg(not(mask_rs))]
+    fn theirs(self, _: &Plane) -> Option<f64> {
+        None
+    }
+}
+
+struct Plane<'a> {
+    side: usize,
+    name: &'static str,
+    mask: Vec<u8>,
+    #[cfg_attr(not(mask_rs), allow(dead_code))]
+    bools: Vec<bool>,
+    colours: &'a [f64],
+}
+
+fn median(mut times: Vec<f64>) -> f64 {
+    times.sort_by(f64::total_cmp);
+    let n = times.len();
+    (times[(n - 1) / 2] + times[n / 2]) / 2.0
+}
+
+/// One line of the table.
+fn measure(call: Call, plane: &Plane, lent: &mut Lent, runs: usize) {
+    let pixels = (plane.side * plane.side) as f64;
+    let (mut ours, mut theirs) = (Vec::new(), Vec::new());
+    call.ours(lent, plane);
+    call.theirs(plane);
+    for _ in 0..runs {
+        theirs.extend(call.theirs(plane));
+        ours.push(call.ours(lent, plane));
+    }
+    let ours = median(ours) * 1e9 / pixels;
+    let (theirs, ratio) = if theirs.is_empty() {
+        ("-".to_string(), "-".to_string())
+    } else {
+        let theirs = median(theirs) * 1e9 / pixels;
+        (format!("{theirs:.2}"), format!("{:.1}", theirs / ours))
+    };
+    println!(
+        "| {} | {} | {} | {theirs} | {ours:.2} | {ratio} |",
+        call.name(),
+        plane.name,
+        plane.side
+    );
+}
+
+/// The first line of a file of the system that has this key, after its colon.
+fn looked_up(file: &str, key: &str) -> Option<String> {
+    let text = fs::read_to_string(file).ok()?;
+    let line = text.lines().find(|line| line.starts_with(key))?;
+    Some(line.split_once(':')?.1.trim().to_string())
+}
+
+fn said(command: &str, words: &[&str]) -> String {
+    let out = Command::new(command).args(words).output().ok();
+    let text = out.map(|out| String::from_utf8_lossy(&out.stdout).trim().to_string());
+    text.filter(|text| !text.is_empty())
+        .unwrap_or_else(|| "not known".into())
+}
+
+fn head(runs: usize) {
+    let cpu = looked_up("/proc/cpuinfo", "model name").unwrap_or_else(|| "not known".into());
+    let cores = std::thread::available_parallelism().map_or(0, |n| n.get());
+    let load = fs::read_to_string("/proc/loadavg").unwrap_or_default();
+    let load = load.split(' ').next().unwrap_or("not known").to_string();
+    println!(
+        "Machine: {cpu}, {cores} cores, load {load} at the start. {}.",
+        said("rustc", &["-V"])
+    );
+    println!("Date: {}.", said("date", &["-u", "+%Y-%m-%d %H:%M UTC"]));
+    println!("Median of {runs} runs, in turn; ns per pixel; ratio: mask.rs's time over ours.");
+    if !cfg!(mask_rs) {
+        println!("mask.rs is not at hand (PIXELFORGE_MASK_RS names its place): ours alone.");
+    }
+    println!();
+}
+
+/// What a caller lends beside inputs: bytes per pixel.
+fn memory(side: usize, lent: &Lent) {
+    let per_pixel = |bytes: usize| format!("{:.2}", bytes as f64 / (side * side) as f64);
+    let bytes = |n: usize| per_pixel(n);
+    println!("\nMemory lent by the caller at {side} × {side}, bytes per pixel (nothing else is");
+    println!("allocated):\n");
+    println!("| call | work buffers | outputs |\n|---|---:|---:|");
+    let planes = size_of_val(&lent.rows[..]) + size_of_val(&lent.cols[..]);
+    let pair = size_of_val(&lent.row_work[..]) + size_of_val(&lent.col_work[..]);
+    let of = |name, work, out| println!("| {name} | {} | {} |", bytes(work), bytes(out));
+    of("nearest", 0, planes);
+    of(
+        "labels",
+        size_of_val(&lent.stack[..]),
+        size_of_val(&lent.labels[..]),
+    );
+    of(
+        "squares",
+        size_of_val(&lent.work[..]),
+        size_of_val(&lent.out[..]),
+    );
+    of("square distance", pair, size_of_val(&lent.distance[..]));
+    of("fill", pair, size_of_val(&lent.filled[..]));
+}
+
+fn main() {
+    let words: Vec<String> = std::env::args().skip(1).collect();
+    let numbers: Option<Vec<usize>> = words.iter().map(|word| word.parse().ok()).collect();
+    let usage = "usage: benchmark [RUNS] [SIDE..], RUNS at least 5, each SIDE from 16 to 4096";
+    let (runs, sides) = match numbers.as_deref() {
+        Some([]) => (5, vec![1024, 2048, 4096]),
+        Some([runs]) if *runs >= 5 => (*runs, vec![1024, 2048, 4096]),
+        Some([runs, sides @ ..]) if *runs >= 5 && sides.iter().all(|s| (16..=4096).contains(s)) => {
+            (*runs, sides.to_vec())
+        }
+        _ => {
+            eprintln!("{usage}");
+            std::process::exit(2);
+        }
+    };
+    head(runs);
+    println!("| call | mask | side | mask.rs | ours | ratio |\n|---|---|---:|---:|---:|---:|");
+    for &side in &sides {
+        let mut random = Random(side as u64);
+        let mut lent = Lent::new(side, side);
+        let colours: Vec<f64> = (0..3 * side * side)
+            .map(|_| (random.next() >> 11) as f64 / 9e15)
+            .collect();
+        let object = masks::object(side, side);
+        let complement = masks::complement(&object);
+        let planes = [
+            ("object", object),
+            ("complement", complement),
+            ("random half", random.mask(side * side, 500)),
+            ("single pixel", masks::single(side, side)),
+            ("sparse 0.1 %", random.mask(side * side, 1)),
+            ("full", masks::full(side, side)),
+            ("empty", masks::empty(side, side)),
+            ("spiral", masks::spiral(side, side)),
+            ("checkerboard", masks::checkerboard(side, side)),
+        ]
+        .map(|(name, mask)| Plane {
+            side,
+            name,
+            bools: masks::bools(&mask),
+            mask,
+            colours: &colours,
+        });
+        for plane in &planes[..7] {
+            measure(Call::Nearest, plane, &mut lent, runs);
+        }
+        for plane in [&planes[0], &planes[2]] {
+            for k in [1, 4, 64, 4096] {
+                measure(Call::Squares(k), plane, &mut lent, runs);
+            }
+        }
+        for plane in &planes {
+            measure(Call::Labels, plane, &mut lent, runs);
+        }
+        for call in [Call::Distance, Call::Fill] {
+            for plane in [&planes[0], &planes[2]] {
+                measure(call, plane, &mut lent, runs);
+            }
+        }
+        if side == *sides.last().unwrap() {
+            memory(side, &lent);
+        }
+    }
+}
