@@ -3,9 +3,46 @@ mod number;
 mod read;
 
 ghost use mathlib.Core.Path.{_≡_};
-ghost use Prim.Native.Nat.{ℕ};
+ghost use Prim.Native.Nat.{ℕ, _≤_};
 ghost use lib.ListN.{length};
+ghost use Rattle.plane.specs.Refusal.{after};
+ghost use Rattle.nearest.specs.Nearest.{rowsPlane, columnsPlane, distancePlane};
+ghost use Rattle.geometry.specs.Answer.{answerFor};
+ghost use Rattle.geometry.specs.Number.{nearestNumber, distanceNumber, fillNumber};
+ghost use Rattle.geometry.specs.Fill.{filledColours};
 ghost use Rattle.geometry.specs.Crop.{cropNumber, cropPart};
+
+// What a call answers: it is done, or declined by its number.
+pub enum Answer {
+    Done,
+    Refused(u32),
+}
+
+// What labels answers: the number of parts, or the number by which it declines.
+pub enum Labelled {
+    Parts(u32),
+    Refused(u32),
+}
+
+// Row and column of the nearest on-pixel of each pixel; with nothing on, row -1 and column 0.
+pub fn feature_transform(
+    mask: &[u8],
+    h: usize,
+    w: usize,
+    rows: &mut [i32],
+    cols: &mut [i32],
+) -> Answer
+    ensures { λ r. ⌜ r ≡ answerFor (nearestNumber h w (length (now (mask .entry))) (length (now (rows .entry))) (length (now (cols .entry)))) ⌝ }
+    ensures { λ r. ⌜ now (rows .exit) ≡ after (nearestNumber h w (length (now (mask .entry))) (length (now (rows .entry))) (length (now (cols .entry)))) (rowsPlane (now (mask .entry)) h w) (now (rows .entry)) ⌝ }
+    ensures { λ r. ⌜ now (cols .exit) ≡ after (nearestNumber h w (length (now (mask .entry))) (length (now (rows .entry))) (length (now (cols .entry)))) (columnsPlane (now (mask .entry)) h w) (now (cols .entry)) ⌝ }
+{
+    let number = number::nearest_number(h, w, mask.len(), rows.len(), cols.len());
+    if number != 0 {
+        return Answer::Refused(number);
+    }
+    nearest::nearest_planes(mask, h, w, rows, cols);
+    Answer::Done
+}
 
 // 0 where crop_row with the same arguments hands the row back, else the number by which it declines.
 pub fn crop_row_number(
