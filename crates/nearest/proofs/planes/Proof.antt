@@ -106,13 +106,15 @@ row-pass-requires c κs =
     let sides = room .sides in
     let lines = l .inv .1 in
     let k = l .y * a .w + a .w - l .y * a .w in
-    let next : nearerLine (l .y) (take k (drop (l .y * a .w) (l .rows))) (l .near) ≡ nearLine m (a .h) (a .w) (l .y) = near-next m (a .h) (a .w) (l .y) k (l .rows) (l .near) t (omega arith) (omega arith) (l .inv .2) (λ x g. l .inv .6 (l .y) x (omega arith) t g) in
-    (record {
-      short = omega arith;
-      lines = record { near-long = refl; costs-long = omega arith; s-long = omega arith; t-long = omega arith; places-long = omega arith };
-      rows-long = simp (length-take, length-drop) (omega arith);
-      cols-long = simp (length-take, length-drop) (omega arith);
-    }, (omega arith, (rw (l .inv .2) (near-low m (a .h) (a .w) (l .y - 1) (omega arith)), rw next (near-low m (a .h) (a .w) (l .y) (omega arith)))))
+    let next : nearerLine (l .y) (take k (drop (l .y * a .w) (l .rows))) (l .near) ≡ nearLine m (a .h) (a .w) (l .y) = near-next m (a .h) (a .w) (l .y) k (l .rows) (l .near) t (omega arith) (omega arith) (l .inv .2) (λ x g. l .inv .6 (l .y) x (omega arith) t g) in (
+      record {
+        short = omega arith;
+        lines = record { near-long = refl; costs-long = omega arith; s-long = omega arith; t-long = omega arith; places-long = omega arith };
+        rows-long = simp (length-take, length-drop) (omega arith);
+        cols-long = simp (length-take, length-drop) (omega arith);
+      },
+      (omega arith, (rw (l .inv .2) (near-low m (a .h) (a .w) (l .y - 1) (omega arith)), rw next (near-low m (a .h) (a .w) (l .y) (omega arith)))),
+    )
 
 add-y : tie.Need-add-y Inv-loop μ-loop
 add-y c = let t = c .before .before .before .before .before .before .before .before .before .before .before .before .before .before .before .before .before .before .before .before .loop-test .taken in let h = c .before .before .before .before .before .before .before .before .before .before .before .before .before .before .before .before .before .before .before .before .before .before .before .before .before .before .before .before .before .before .before .before .before .before .pre .0 .sides .tall in omega arith
