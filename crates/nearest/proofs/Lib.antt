@@ -2,3 +2,4 @@ pub mod Cases
 pub mod InPlace
 pub mod Sweep
 pub mod Stages
+pub mod Laws
