@@ -1,0 +1,5 @@
+pub mod Cases
+pub mod Counts
+pub mod Joined
+pub mod Firsts
+pub mod Laws
