@@ -53,3 +53,8 @@ module _ {mask : List ℕ} {w : ℕ} where
   pub spreads : (P : ℕ → Type 0) → ((i j : ℕ) → P i → beside w i j ≡ true → isOn mask j ≡ true → P j) → {i j : ℕ} → Joined mask w i j → P i → P j
   spreads P s (same e) p = p
   spreads P s (onward {j = j} {k = k} r b e) p = s j k (spreads P s r p) b e
+
+-- what is joined in a mask is joined in every mask that has its on-pixels
+pub joined-in : {mask more : List ℕ} {w : ℕ} → ((k : ℕ) → isOn mask k ≡ true → isOn more k ≡ true) → {i j : ℕ} → Joined mask w i j → Joined more w i j
+joined-in h (same {i = i} e) = same (h i e)
+joined-in h (onward {k = k} r b e) = onward (joined-in h r) b (h k e)
