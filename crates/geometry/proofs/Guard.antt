@@ -8,7 +8,7 @@ use lib.Dec.{eqb, leb}
 use Rattle.plane.specs.Plane.{mostSide, Sides}
 use Rattle.plane.specs.Refusal.{sidesOk, roomFor, numberFor}
 use Rattle.plane.proofs.Plane.{area-most}
-use Rattle.plane.proofs.Refusal.{sides-are}
+use Rattle.plane.proofs.Refusal.{sides-are, sides-accepted}
 
 -- where a side is declined, what the lengths are compared with does not matter
 pub guarded : (sides : Bool) (area room : ℕ) (inputs buffers : ℕ → ℕ → Bool)
@@ -27,3 +27,7 @@ guarded-area h w = by-case (sidesOk h w) refl
     by-case : (t : Bool) → sidesOk h w ≡ t → cond t (h * w) 0 ≤ 16777216
     by-case true e = area-small h w e
     by-case false e = omega arith
+
+-- accepted sides have their own area
+pub area-of : (h w : ℕ) → Sides h w → cond (sidesOk h w) (h * w) 0 ≡ h * w
+area-of h w s = ap (λ (t : Bool). cond t (h * w) 0) (sides-accepted h w s)
