@@ -7,7 +7,7 @@ ghost use lib.ListN.{length, getD};
 ghost use Rattle.plane.specs.Plane.{Sides, table, planeOf};
 ghost use Rattle.line.specs.Line.{mostLength, lineOf};
 ghost use Rattle.nearest.specs.Nearest.{rowsPlane, columnsPlane};
-ghost use Rattle.nearest.specs.Stages.{noRow, Room, Lines, RowRoom, Low, belowAt, ownOr, codeOf, nearer, nearerLine, squareCost, costsLine, rowAt, columnAt, rowsLine, columnsLine, rowsOf, columnsOf};
+ghost use Rattle.nearest.specs.Stages.{noRow, Room, Lines, RowRoom, Low, From, belowAt, ownOr, codeOf, nearer, nearerLine, squareCost, costsLine, rowAt, columnAt, rowsLine, columnsLine, rowsOf, columnsOf};
 
 // Stands for the row of a column that has no on-pixel.
 const NO_ROW: u32 = 1073741824;
@@ -28,13 +28,15 @@ fn below_line(mask: &[u8], y: u32, near: &mut [u32], rows: &mut [i32])
     requires { ⌜ length (now rows) ≡ length (now near) ⌝ }
     requires { ⌜ y ≤ noRow ⌝ }
     requires { ⌜ Low (now near) ⌝ }
+    requires { ⌜ From y (now near) ⌝ }
     ensures { λ _. ⌜ now (near .exit) ≡ table (ownOr (now (mask .entry)) y (now (near .entry))) 0 (length (now (near .entry))) ⌝ }
     ensures { λ _. ⌜ now (rows .exit) ≡ table (λ (x : ℕ). pos (ownOr (now (mask .entry)) y (now (near .entry)) x)) 0 (length (now (near .entry))) ⌝ }
 {
     let mut x = 0usize;
     while x < near.len() {
+        let own = if mask[x] == 0 { NO_ROW } else { y };
         let b = near[x];
-        let v = if mask[x] == 0 { b } else { y };
+        let v = if b < own { b } else { own };
         near[x] = v;
         rows[x] = v as i32;
         x += 1;

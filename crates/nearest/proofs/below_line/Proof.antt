@@ -2,7 +2,7 @@
 -- Assumes nothing.
 use mathlib.Core.Path.{_≡_, refl, sym, ap, _∙_}
 use mathlib.Core.Bool.{cond}
-use mathlib.Core.Logic.{⊎-elim}
+use mathlib.Core.Logic.{_⊎_, inl, inr, ⊎-elim}
 use Prim.Native.Nat.{ℕ, _-_, _≤_, _<_}
 use lib.Dec.{eqb}
 use lib.IntN.{pos}
@@ -30,33 +30,45 @@ Inv-loop mask y near₀ rows₀ x₀ near rows x =
 abbrev μ-loop : tie.MeasureT-loop
 μ-loop mask y near₀ rows₀ x₀ near rows x = length near₀ - x
 
+-- the row's own number: y where its pixel is on, else noRow
+own : (c : tie.Joined1 Inv-loop μ-loop)
+    → ((getD (c .before .before .before .before .args .mask .now) (c .before .before .before .loop .x) 0 ≡ 0) × (c .if1 .own ≡ 1073741824))
+    ⊎ ((getD (c .before .before .before .before .args .mask .now) (c .before .before .before .loop .x) 0 ≡ 0 → ⊥) × (c .if1 .own ≡ c .before .before .before .before .args .y))
+own c = ⊎-elim (λ w. inl (w .0 .taken, w .1)) (λ w. inr (w .0 .left, w .1)) (c .if1 .came)
+
 -- what is stored is the definition's number, and a row or noRow
-chosen : (c : tie.Joined1 Inv-loop μ-loop)
-    → (c .if1 .v ≡ ownOr (c .before .before .before .before .before .args .mask .now) (c .before .before .before .before .before .args .y) (c .before .before .before .before .before .args .near .now) (c .before .before .before .before .loop .x))
-    × (c .if1 .v ≤ 1073741824)
+chosen : (c : tie.Joined2 Inv-loop μ-loop)
+    → (c .if2 .v ≡ ownOr (c .before .before .before .before .before .before .args .mask .now) (c .before .before .before .before .before .before .args .y) (c .before .before .before .before .before .before .args .near .now) (c .before .before .before .before .before .loop .x))
+    × (c .if2 .v ≤ 1073741824)
 unfolding ownOr on
 chosen c =
-    let l = c .before .before .before .before .loop in
-    let o = c .before .before .before .before .before in
+    let l = c .before .before .before .before .before .loop in
+    let o = c .before .before .before .before .before .before in
     let a = o .args in
     let b = l .inv .4 (l .x) (omega arith) in
-    let low = o .pre .1 .1 .1 .low (l .x) (omega arith) in
+    let low = o .pre .1 .1 .1 .0 .low (l .x) (omega arith) in
+    let from = o .pre .1 .1 .1 .1 .from (l .x) (omega arith) in
+    let up = c .if2 .came in
     ⊎-elim
-    (λ w. (w .1 ∙ b ∙ rw (eq-eqb (getD (a .mask .now) (l .x) 0) 0 (w .0 .taken)), (let e = w .1 in omega arith)))
-    (λ w. (w .1 ∙ rw (ne-eqb (getD (a .mask .now) (l .x) 0) 0 (w .0 .left)), (let e = w .1 in omega arith)))
-    (c .if1 .came)
+    (λ w.
+    let z : c .if2 .v ≡ getD (a .near .now) (l .x) 0 = let own-is = w .1 in ⊎-elim (λ u. (let e = u .1 in let t = u .0 .taken in omega arith)) (λ u. (let e = u .1 in let t = u .0 .left in omega arith)) up in
+    (z ∙ rw (eq-eqb (getD (a .mask .now) (l .x) 0) 0 (w .0)), omega arith))
+    (λ w.
+    let z : c .if2 .v ≡ a .y = let own-is = w .1 in ⊎-elim (λ u. (let e = u .1 in let t = u .0 .taken in omega arith)) (λ u. (let e = u .1 in let t = u .0 .left in omega arith)) up in
+    (z ∙ rw (ne-eqb (getD (a .mask .now) (l .x) 0) 0 (w .0)), omega arith))
+    (own (c .before .before))
 
 loop-holds : tie.Need-loop-holds Inv-loop μ-loop
 loop-holds c = let p = c .pre in (omega arith, refl, p .1 .0, (λ k h. absurd (omega arith)), (λ k h. refl), (λ k h. absurd (omega arith)))
+
+shared-slice-read-if1 : tie.Need-shared-slice-read-if1 Inv-loop μ-loop
+shared-slice-read-if1 c = omega arith
 
 mul-b : tie.Need-mul-b Inv-loop μ-loop
 mul-b c = omega arith
 
 slice-read-b : tie.Need-slice-read-b Inv-loop μ-loop
 slice-read-b c = omega arith
-
-shared-slice-read-if1 : tie.Need-shared-slice-read-if1 Inv-loop μ-loop
-shared-slice-read-if1 c = omega arith
 
 mul-near : tie.Need-mul-near Inv-loop μ-loop
 mul-near c = omega arith
@@ -67,8 +79,8 @@ slice-write-near c = omega arith
 cast-rows : tie.Need-cast-rows Inv-loop μ-loop
 cast-rows c = let l = chosen c .1 in record { sfits = omega arith }
 
-mul-t8 : tie.Need-mul-t8 Inv-loop μ-loop
-mul-t8 c = omega arith
+mul-t9 : tie.Need-mul-t9 Inv-loop μ-loop
+mul-t9 c = omega arith
 
 slice-set-from-rows : tie.Need-slice-set-from-rows Inv-loop μ-loop
 slice-set-from-rows c = omega arith
@@ -81,10 +93,10 @@ loop-less c = omega arith
 
 loop-again : tie.Need-loop-again Inv-loop μ-loop
 loop-again c =
-    let l = c .before .before .before .before .loop in
-    let o = c .before .before .before .before .before in
+    let l = c .before .before .before .before .before .loop in
+    let o = c .before .before .before .before .before .before in
     let a = o .args in
-    let v = c .if1 .v in
+    let v = c .if2 .v in
     let e = chosen c .0 in
     let m = chosen c .1 in
     let z = toZ-pos w32 {n = v} (omega arith) in (
@@ -117,13 +129,13 @@ below-line-spec =
     Inv-loop
     μ-loop
     loop-holds
+    shared-slice-read-if1
     mul-b
     slice-read-b
-    shared-slice-read-if1
     mul-near
     slice-write-near
     cast-rows
-    mul-t8
+    mul-t9
     slice-set-from-rows
     add-x
     loop-less

@@ -1,5 +1,7 @@
 -- `nearest::nearer_row` meets its contract.
 -- Assumes nothing.
+use Prim.Native.Nat.{_+_, _*_}
+use native.Mathlib.Omega.{arith}
 use borrow.Author.Tests.{lt-ltb, le-ltb}
 use borrow.Author.Needs.{needs}
 use Rattle.nearest.specs.Stages.{nearer}
@@ -14,11 +16,11 @@ mul-if1 c = search needs
 
 returns : tie.Need-returns
 unfolding nearer
-returns c = rw (lt-ltb _ _ (c .if1 .taken))
+returns c = let a = c .before .args in let t = c .if1 .taken in rw (lt-ltb (a .a + a .b) (2 * a .y) (omega arith))
 
 returns-2 : tie.Need-returns-2
 unfolding nearer
-returns-2 c = rw (le-ltb _ _ (c .if1 .left))
+returns-2 c = let a = c .before .args in let t = c .if1 .left in rw (le-ltb (a .a + a .b) (2 * a .y) (omega arith))
 
 pub nearer-row-spec : {M : Type 1} → statement M
 nearer-row-spec = tie.close (tie.spec add-if1 mul-if1 returns returns-2)
