@@ -3,14 +3,14 @@
 use mathlib.Core.Path.{_≡_, refl, sym, ap, _∙_}
 use mathlib.Core.Bool.{Bool, true, false, cond, _&&_}
 use mathlib.Core.List.{List, _++_}
-use mathlib.Core.Logic.{⊎-elim}
+use mathlib.Core.Logic.{_⊎_, inl, inr, ⊎-elim}
 use Prim.Native.Nat.{ℕ, zero, suc, _+_, _*_, _-_, _/_, _%_, _≤_, _<_}
 use native.Mathlib.Nat.{ne-of-lt, not-suc-le-zero}
 use native.Mathlib.Numerals.{add-one}
 use native.Mathlib.Omega.{arith}
 use lib.Dec.{leb, ltb}
 use lib.ListN.{length, getD, set, take, drop, length-set, length-take, length-drop, List·getD-append}
-use lib.Seq.{getD-set-same, getD-set-other}
+use lib.Seq.{getD-set-same, getD-set-other, getD-append-add, getD-drop}
 use borrow.Author.Count.{below-more}
 use borrow.Author.Tests.{le-leb, lt-leb, lt-ltb, le-ltb}
 use Rattle.plane.specs.Search.{someBelow, countBelow}
@@ -19,7 +19,7 @@ use Rattle.plane.proofs.Search.{which, some-same, none-is}
 use Rattle.plane.proofs.Plane.{row-in, pixel-in, row-of, column-of, index-of, plane-length, plane-at, plane-same, table-length, table-at, table-is, filled, part-at}
 use Rattle.squares.specs.Window.{windowCount, inWindow, entering, leaving, onIn, onDown, rowCount, columnCount, dilatedRow, dilatedRows, dilatedColumns, addedLine, takenLine, testedLine, radiusOf, Passed, Addable, Takable, Bits, Columns, Entered}
 use Rattle.squares.specs.Squares.{reach, inSquare, squaresPlane}
-use Rattle.squares.proofs.Laws.{square-radius}
+use Rattle.squares.proofs.Laws.{on-bit, square-radius}
 use Rattle.squares.proofs.Count.{and-yes, and-no, count-more, slide, window-some, window-most}
 
 -- ---- the line pass
@@ -213,12 +213,6 @@ module _ {plane : List ℕ} {h w k : ℕ} (b : Bits plane h w k) where
 
 -- ---- the two passes one after the other
 
--- a byte that is written for a pixel says whether the pixel is on
-pub on-bit : (t : Bool) → on (bit t) ≡ t
-unfolding on bit
-on-bit true = refl
-on-bit false = refl
-
 -- a test beside a search goes into it
 spread : (n : ℕ) (p q : ℕ → Bool) (t : Bool) → someBelow n (λ (i : ℕ). p i && q i) && t ≡ someBelow n (λ (i : ℕ). p i && (t && q i))
 spread n p q true = and-yes (someBelow n (λ (i : ℕ). p i && q i))
@@ -259,3 +253,19 @@ passes-are mask rest h w n =
     let k = radiusOf h w n in
     plane-same h w (λ (y x : ℕ). bit (inWindow h k y (onDown (between mask rest h w k) w x))) (λ (y x : ℕ). bit (inSquare mask h w (reach h w n) y x)) 0
     (λ y x a b. ap bit (two-passes mask rest h w k y x a b ∙ square-radius mask h w n y x a b))
+
+-- every place of the buffer between the passes holds afterwards 0, 1 or its old number
+pub work-kept : (mask old : List ℕ) (h w k : ℕ) → 0 < w → (i : ℕ) → (getD (between mask (drop (h * w) old) h w k) i 0 ≤ 1) ⊎ (getD (between mask (drop (h * w) old) h w k) i 0 ≡ getD old i 0)
+unfolding dilatedRows
+work-kept mask old h w k p i =
+    let rest = drop (h * w) old in
+    let f : ℕ → ℕ → ℕ = λ (y x : ℕ). bit (inWindow w k x (onAt mask w y)) in
+    let long = plane-length h w f in
+    ⊎-elim {C = (getD (between mask rest h w k) i 0 ≤ 1) ⊎ (getD (between mask rest h w k) i 0 ≡ getD old i 0)}
+    (λ (l : i < h * w). inl (between-bits mask rest h w k p i l))
+    (λ (l : h * w ≤ i).
+    let e : i ≡ length (planeOf h w f) + (i - h * w) = omega arith in
+    let back : h * w + (i - h * w) ≡ i = omega arith in
+    inr
+    (ap (λ (n : ℕ). getD (between mask rest h w k) n 0) e ∙ getD-append-add (planeOf h w f) rest (i - h * w) 0 ∙ getD-drop (h * w) old (i - h * w) 0 ∙ ap (λ (n : ℕ). getD old n 0) back))
+    (which i (h * w))

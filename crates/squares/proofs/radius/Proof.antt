@@ -18,21 +18,21 @@ returns c =
     let a = c .before .before .args in
     let s = side-is (c .before) in
     let e : reach (a .h) (a .w) (a .iterations) ≡ larger (a .h) (a .w) = ap (reach (a .h) (a .w)) (c .if2 .taken) ∙ reach-none (a .h) (a .w) in
-    s ∙ sym (radius-near (a .h) (a .w) (a .iterations) (omega arith) ∙ e)
+    omega (arith, radius-near (a .h) (a .w) (a .iterations) (omega arith))
 
 returns-2 : tie.Need-returns-2
 returns-2 c =
     let a = c .before .before .before .args in
     let s = side-is (c .before .before) in
     let e = reach-some (a .h) (a .w) (a .iterations) (omega arith) in
-    sym (radius-near (a .h) (a .w) (a .iterations) (omega arith) ∙ e)
+    omega (arith, radius-near (a .h) (a .w) (a .iterations) (omega arith))
 
 returns-3 : tie.Need-returns-3
 returns-3 c =
     let a = c .before .before .before .args in
     let s = side-is (c .before .before) in
     let e = reach-some (a .h) (a .w) (a .iterations) (omega arith) in
-    s ∙ sym (radius-far (a .h) (a .w) (a .iterations) (omega arith))
+    omega (arith, radius-far (a .h) (a .w) (a .iterations) (omega arith))
 
 pub radius-spec : {M : Type 1} → statement M
 radius-spec = tie.close (tie.spec returns returns-2 returns-3)
