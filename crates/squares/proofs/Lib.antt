@@ -1,0 +1,4 @@
+pub mod Cases
+pub mod Count
+pub mod Laws
+pub mod Passes
