@@ -44,53 +44,41 @@ above-requires c κs = search needs
 below-requires : tie.Need-below-requires
 below-requires c κs =
     let o = c .before .before .before .before .before .before .before .before .before .before .before .before in
-    let a = o .args in
     let g = o .pre in
-    let p = getD (a .stack .now) (a .top - 1) 0 in
-    let s0 = state (a .top - 1) (a .stack .now) (a .labels .now) in
+    let s0 = state (o .args .top - 1) (o .args .stack .now) (o .args .labels .now) in
     let f1 = c .before .before .before .before .before .before .above in
     let s1 = state (f1 .result) (f1 .last .1 .1 .1 .1 .0) (f1 .last .1 .1 .1 .1 .1 .0) in
-    let e1 : s1 ≡ visitIf (leb (a .w) p) (a .n) (p - a .w) s0 = f1 .ensures in
-    let k1 : Kept (a .area) s1 = rw e1 (kept-above g s0 (kept-first g)) in
+    let k1 = kept-above g s0 s1 (kept-first g) (f1 .ensures) in
     (k1 .long, k1 .room)
 
 left-requires : tie.Need-left-requires
 left-requires c κs =
     let o = c .before .before .before .before .before .before .before .before .before .before .before .before .before .before .before .before .before .before .before in
-    let a = o .args in
     let g = o .pre in
-    let p = getD (a .stack .now) (a .top - 1) 0 in
-    let s0 = state (a .top - 1) (a .stack .now) (a .labels .now) in
+    let s0 = state (o .args .top - 1) (o .args .stack .now) (o .args .labels .now) in
     let f1 = c .before .before .before .before .before .before .before .before .before .before .before .before .before .above in
     let s1 = state (f1 .result) (f1 .last .1 .1 .1 .1 .0) (f1 .last .1 .1 .1 .1 .1 .0) in
-    let e1 : s1 ≡ visitIf (leb (a .w) p) (a .n) (p - a .w) s0 = f1 .ensures in
-    let k1 : Kept (a .area) s1 = rw e1 (kept-above g s0 (kept-first g)) in
+    let k1 = kept-above g s0 s1 (kept-first g) (f1 .ensures) in
     let f2 = c .before .before .before .before .before .before .below in
     let s2 = state (f2 .result) (f2 .last .1 .1 .1 .1 .0) (f2 .last .1 .1 .1 .1 .1 .0) in
-    let e2 : s2 ≡ visitIf (ltb (p + a .w) (a .area)) (a .n) (p + a .w) s1 = f2 .ensures in
-    let k2 : Kept (a .area) s2 = rw e2 (kept-below g s1 k1) in
-    (omega (arith, g .inside, k2 .long), (mod-le p (a .w), k2 .room))
+    let k2 = kept-below g s1 s2 k1 (f2 .ensures) in
+    (omega (arith, g .inside, k2 .long), (mod-le (getD (o .args .stack .now) (o .args .top - 1) 0) (o .args .w), k2 .room))
 
 right-requires : tie.Need-right-requires
 right-requires c κs =
     let o = c .before .before .before .before .before .before .before .before .before .before .before .before .before .before .before .before .before .before .before .before .before .before .before .before .before .before in
-    let a = o .args in
     let g = o .pre in
-    let p = getD (a .stack .now) (a .top - 1) 0 in
-    let s0 = state (a .top - 1) (a .stack .now) (a .labels .now) in
+    let s0 = state (o .args .top - 1) (o .args .stack .now) (o .args .labels .now) in
     let f1 = c .before .before .before .before .before .before .before .before .before .before .before .before .before .before .before .before .before .before .before .before .above in
     let s1 = state (f1 .result) (f1 .last .1 .1 .1 .1 .0) (f1 .last .1 .1 .1 .1 .1 .0) in
-    let e1 : s1 ≡ visitIf (leb (a .w) p) (a .n) (p - a .w) s0 = f1 .ensures in
-    let k1 : Kept (a .area) s1 = rw e1 (kept-above g s0 (kept-first g)) in
+    let k1 = kept-above g s0 s1 (kept-first g) (f1 .ensures) in
     let f2 = c .before .before .before .before .before .before .before .before .before .before .before .before .before .below in
     let s2 = state (f2 .result) (f2 .last .1 .1 .1 .1 .0) (f2 .last .1 .1 .1 .1 .1 .0) in
-    let e2 : s2 ≡ visitIf (ltb (p + a .w) (a .area)) (a .n) (p + a .w) s1 = f2 .ensures in
-    let k2 : Kept (a .area) s2 = rw e2 (kept-below g s1 k1) in
+    let k2 = kept-below g s1 s2 k1 (f2 .ensures) in
     let f3 = c .before .before .before .before .before .before .left in
     let s3 = state (f3 .result) (f3 .last .1 .1 .1 .1 .0) (f3 .last .1 .1 .1 .1 .1 .0) in
-    let e3 : s3 ≡ visitIf (ltb 0 (p % a .w)) (a .n) (p - 1) s2 = f3 .ensures in
-    let k3 : Kept (a .area) s3 = rw e3 (kept-left g s2 k2) in
-    (mod-lt p (g .wide), ((λ l. (let z = g .row l in omega (arith, k3 .long))), k3 .room))
+    let k3 = kept-left g s2 s3 k2 (f3 .ensures) in
+    (mod-lt (getD (o .args .stack .now) (o .args .top - 1) 0) (g .wide), ((λ l. (let z = g .row l in omega (arith, k3 .long))), k3 .room))
 
 same-length : tie.Need-same-length
 same-length c = search needs
