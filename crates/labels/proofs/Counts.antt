@@ -1,13 +1,13 @@
 -- Laws of counting below n.
 -- Assumes nothing.
-use mathlib.Core.Path.{_≡_, refl, sym, ap, _∙_}
+use mathlib.Core.Path.{_≡_}
 use mathlib.Core.Bool.{Bool, true, false, cond}
 use mathlib.Core.Logic.{⊎-elim}
 use Prim.Native.Nat.{ℕ, zero, suc, _+_, _≤_, _<_}
 use native.Mathlib.Nat.{not-suc-le-zero}
 use native.Mathlib.Omega.{arith}
 use Rattle.plane.specs.Search.{countBelow}
-use Rattle.plane.proofs.Search.{which, either, not-both, count-same}
+use Rattle.plane.proofs.Search.{which, either, count-same}
 
 module _ (p : ℕ → Bool) where
   -- one number more

@@ -4,7 +4,7 @@ use mathlib.Core.Path.{_≡_, refl, sym, ap, _∙_}
 use mathlib.Core.Bool.{Bool, true, false, not}
 use mathlib.Core.Logic.{_⊎_, inl, inr, ⊎-elim}
 use mathlib.Core.List.{List}
-use Prim.Native.Nat.{ℕ, zero, suc, _+_, _*_, _-_, _%_, _≤_, _<_}
+use Prim.Native.Nat.{ℕ, _+_, _-_, _%_, _≤_, _<_}
 use native.Mathlib.Omega.{arith}
 use lib.Dec.{eqb, ltb, leb}
 use lib.ListN.{length, getD, set, length-set, List·getD-eq-default}
@@ -13,8 +13,8 @@ use borrow.Author.Tests.{ltb-true, leb-true, eqb-true, eqb-false, eq-eqb, ne-eqb
 use Rattle.plane.specs.Plane.{on}
 use Rattle.plane.proofs.Search.{which, either, not-both}
 use Rattle.labels.specs.Labels.{isOn, beside, Joined, same, onward}
-use Rattle.labels.specs.Flood.{unset, State, state, pushed, visited, visitIf, spreadFrom, waiting, Room, Number, Spreads, Ready, Flooded}
-use Rattle.labels.proofs.Joined.{on-inside, start-on, end-on, spreads, joined-in}
+use Rattle.labels.specs.Flood.{unset, State, state, pushed, visited, visitIf, spreadFrom, Number, Spreads, Ready, Flooded}
+use Rattle.labels.proofs.Joined.{on-inside, end-on, spreads, joined-in}
 use Rattle.labels.proofs.Steps.{beside-above, beside-below, beside-left, beside-right, beside-sides, next-in}
 use Rattle.labels.proofs.Room.{Kept, room-for, first-room, pushed-room}
 

@@ -1,18 +1,18 @@
 -- Laws of labels, over the definitions alone.
 -- Assumes nothing.
-use mathlib.Core.Path.{_≡_, refl, sym, ap, _∙_}
-use mathlib.Core.Bool.{Bool, true, false, cond}
+use mathlib.Core.Path.{_≡_, sym, ap, _∙_}
+use mathlib.Core.Bool.{true, false}
 use mathlib.Core.Logic.{⊎-elim}
 use mathlib.Core.List.{List}
-use Prim.Native.Nat.{ℕ, zero, suc, _+_, _*_, _-_, _≤_, _<_}
+use Prim.Native.Nat.{ℕ, _+_, _*_, _-_, _≤_, _<_}
 use native.Mathlib.Omega.{arith}
-use lib.ListN.{length, getD}
+use lib.ListN.{length}
 use Rattle.plane.specs.Search.{countBelow}
-use Rattle.plane.proofs.Search.{which, either, not-both}
-use Rattle.labels.specs.Labels.{isOn, beside, Joined, firstPixel, isFirst, parts, labelOf, labelAt, labelsPlane}
+use Rattle.plane.proofs.Search.{which, either}
+use Rattle.labels.specs.Labels.{isOn, Joined, firstPixel, isFirst, parts, labelOf}
 use Rattle.labels.proofs.Counts.{count-mono, count-strict, count-reached}
 use Rattle.labels.proofs.Joined.{on-inside, start-on, end-on}
-use Rattle.labels.proofs.Firsts.{first-joined, first-least, first-same, same-first, first-first, is-first, first-on}
+use Rattle.labels.proofs.Firsts.{first-least, first-same, same-first, is-first, first-on}
 
 module _ (mask : List ℕ) (h w : ℕ) where
   -- an off-pixel has the label 0

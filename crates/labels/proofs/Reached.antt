@@ -1,23 +1,23 @@
 -- The labels plane when the parts that begin below n are labelled.
 -- Assumes nothing.
-use mathlib.Core.Path.{_≡_, refl, sym, ap, _∙_}
-use mathlib.Core.Bool.{Bool, true, false, cond}
-use mathlib.Core.Logic.{_⊎_, inl, inr, ⊎-elim}
+use mathlib.Core.Path.{_≡_, sym, ap, _∙_}
+use mathlib.Core.Bool.{true, false}
+use mathlib.Core.Logic.{⊎-elim}
 use mathlib.Core.List.{List}
-use Prim.Native.Nat.{ℕ, zero, suc, _+_, _*_, _-_, _≤_, _<_}
+use Prim.Native.Nat.{ℕ, _+_, _*_, _≤_, _<_}
 use native.Mathlib.Numerals.{add-one}
 use native.Mathlib.Omega.{arith}
-use lib.Dec.{eqb, ltb}
+use lib.Dec.{eqb}
 use lib.ListN.{length, getD, List·getD-eq-default}
-use borrow.Author.Tests.{ltb-true, ltb-false, lt-ltb, le-ltb, eqb-true, eqb-false}
+use borrow.Author.Tests.{lt-ltb, le-ltb, eqb-true, eqb-false}
 use Rattle.plane.specs.Plane.{Sides, table}
 use Rattle.plane.specs.Search.{countBelow}
-use Rattle.plane.proofs.Plane.{area-most, table-at, table-length, table-is, plane-is, pixel-in}
+use Rattle.plane.proofs.Plane.{area-most, table-at, table-length, table-is, plane-is}
 use Rattle.plane.proofs.Search.{which, either, not-both, count-most}
-use Rattle.labels.specs.Labels.{isOn, Joined, firstPixel, isFirst, parts, labelOf, labelAt, labelsPlane}
-use Rattle.labels.specs.Flood.{unset, Begun, waitingAt, reachedAt, reached, Number, Ready, Flooded}
+use Rattle.labels.specs.Labels.{isOn, firstPixel, isFirst, parts, labelOf, labelAt, labelsPlane}
+use Rattle.labels.specs.Flood.{unset, Begun, waitingAt, reachedAt, reached, Ready, Flooded}
 use Rattle.labels.proofs.Counts.{count-more, count-no-more, count-strict}
-use Rattle.labels.proofs.Joined.{on-inside, start-on, end-on, joined-in}
+use Rattle.labels.proofs.Joined.{on-inside, end-on, joined-in}
 use Rattle.labels.proofs.Firsts.{first-least, first-same, same-first, is-first, first-on}
 use Rattle.labels.proofs.Laws.{label-on, label-off, label-most}
 use Rattle.labels.proofs.Flooding.{number-on, on-number}

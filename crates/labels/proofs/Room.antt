@@ -1,16 +1,15 @@
 -- The stack of a flood has room for every pixel that waits, and visits keep it so.
 -- Assumes nothing.
 use mathlib.Core.Path.{_≡_, refl, sym, ap, _∙_}
-use mathlib.Core.Bool.{Bool, true, false, cond}
+use mathlib.Core.Bool.{Bool, true, false}
 use mathlib.Core.Logic.{⊎-elim}
 use mathlib.Core.List.{List}
-use Prim.Native.Nat.{ℕ, zero, suc, _+_, _*_, _-_, _/_, _%_, _≤_, _<_}
+use Prim.Native.Nat.{ℕ, _+_, _-_, _%_, _≤_, _<_}
 use native.Mathlib.Omega.{arith}
 use lib.Dec.{eqb, ltb, leb}
 use lib.ListN.{length, getD, set, length-set}
 use lib.Seq.{getD-set-same, getD-set-other}
-use borrow.Author.Tests.{ltb-true, eqb-true, eqb-false, eq-eqb, ne-eqb}
-use Rattle.plane.specs.Search.{countBelow}
+use borrow.Author.Tests.{ltb-true, eqb-true, eq-eqb, ne-eqb}
 use Rattle.plane.proofs.Search.{either, count-most}
 use Rattle.labels.specs.Flood.{unset, State, state, pushed, visited, visitIf, spreadFrom, waiting, Room, Number, Spreads}
 use Rattle.labels.proofs.Counts.{count-without}
@@ -108,17 +107,14 @@ module _ {w area n top : ℕ} {stack labels : List ℕ} (g : Spreads w area n to
       let r = g .room in
       record { room = record { small = r .small; tall = r .tall; fits = omega (arith, r .fits) }; long = g .long }
 
-  pub kept-above : (s : State) → Kept area s → Kept area (visitIf (leb w pixel) n (pixel - w) s)
-  kept-above s k = if-kept area n (pixel - w) (leb w pixel) s (g .number) (λ t. omega (arith, g .inside)) k
+  pub kept-above : (s t : State) → Kept area s → t ≡ visitIf (leb w pixel) n (pixel - w) s → Kept area t
+  kept-above s t k e = rw e (if-kept area n (pixel - w) (leb w pixel) s (g .number) (λ v. omega (arith, g .inside)) k)
 
-  pub kept-below : (s : State) → Kept area s → Kept area (visitIf (ltb (pixel + w) area) n (pixel + w) s)
-  kept-below s k = if-kept area n (pixel + w) (ltb (pixel + w) area) s (g .number) (λ t. ltb-true (pixel + w) area t) k
+  pub kept-below : (s t : State) → Kept area s → t ≡ visitIf (ltb (pixel + w) area) n (pixel + w) s → Kept area t
+  kept-below s t k e = rw e (if-kept area n (pixel + w) (ltb (pixel + w) area) s (g .number) (λ v. ltb-true (pixel + w) area v) k)
 
-  pub kept-left : (s : State) → Kept area s → Kept area (visitIf (ltb 0 (pixel % w)) n (pixel - 1) s)
-  kept-left s k = if-kept area n (pixel - 1) (ltb 0 (pixel % w)) s (g .number) (λ t. omega (arith, g .inside)) k
-
-  pub kept-right : (s : State) → Kept area s → Kept area (visitIf (ltb (pixel % w + 1) w) n (pixel + 1) s)
-  kept-right s k = if-kept area n (pixel + 1) (ltb (pixel % w + 1) w) s (g .number) (λ t. g .row (ltb-true (pixel % w + 1) w t)) k
+  pub kept-left : (s t : State) → Kept area s → t ≡ visitIf (ltb 0 (pixel % w)) n (pixel - 1) s → Kept area t
+  kept-left s t k e = rw e (if-kept area n (pixel - 1) (ltb 0 (pixel % w)) s (g .number) (λ v. omega (arith, g .inside)) k)
 
   -- and the height with those that wait
   pub same-total : (has : Bool) (q : ℕ) → (has ≡ true → q < area) → (s : State) → Kept area s → total (visitIf has n q s) ≡ total s
@@ -134,9 +130,9 @@ module _ {w area n top : ℕ} {stack labels : List ℕ} (g : Spreads w area n to
       let s1 = visitIf (leb w pixel) n (pixel - w) s0 in
       let s2 = visitIf (ltb (pixel + w) area) n (pixel + w) s1 in
       let s3 = visitIf (ltb 0 (pixel % w)) n (pixel - 1) s2 in
-      let k1 = kept-above s0 kept-first in
-      let k2 = kept-below s1 k1 in
-      let k3 = kept-left s2 k2 in
+      let k1 = kept-above s0 s1 kept-first refl in
+      let k2 = kept-below s1 s2 k1 refl in
+      let k3 = kept-left s2 s3 k2 refl in
       omega (
         arith,
         g .some,

@@ -1,9 +1,9 @@
 -- The four steps as indices: w less, w more, 1 less, 1 more.
 -- Assumes nothing.
-use mathlib.Core.Path.{_≡_, refl, sym, ap, _∙_}
-use mathlib.Core.Bool.{Bool, true, false}
+use mathlib.Core.Path.{_≡_, ap, _∙_}
+use mathlib.Core.Bool.{true}
 use mathlib.Core.Logic.{_⊎_, inl, inr, ⊎-elim}
-use Prim.Native.Nat.{ℕ, suc, _+_, _*_, _-_, _/_, _%_, _≤_, _<_}
+use Prim.Native.Nat.{ℕ, _+_, _*_, _-_, _/_, _%_, _≤_, _<_}
 use native.Mathlib.Nat.{add-mul, one-mul, add-zero, div-add-mod', mod-lt, mul-add-div-right, mul-add-mod-self-right, div-eq-of-lt, mod-eq-of-lt, add-div-right, add-mod-right}
 use native.Mathlib.Omega.{arith}
 use lib.Dec.{eqb}
@@ -20,6 +20,11 @@ row-is y x w l = mul-add-div-right {m = w} (omega arith) y x ∙ ap (λ (n : ℕ
 
 pub column-is : (y x w : ℕ) → x < w → (y * w + x) % w ≡ x
 column-is y x w l = mul-add-mod-self-right y w x ∙ mod-eq-of-lt l
+
+-- whether (j, i) is one step from (y, x)
+pub beside-is : (w y x j i : ℕ) → x < w → i < w → beside w (y * w + x) (j * w + i) ≡ eqb (apart y j + apart x i) 1
+unfolding beside
+beside-is w y x j i a b = rw (row-is y x w a, column-is y x w a, row-is j i w b, column-is j i w b)
 
 module _ (w : ℕ) (wide : 0 < w) where
   -- pixel p + 1 is in p's row unless p ends it

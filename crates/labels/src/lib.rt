@@ -38,22 +38,12 @@ fn above(w: usize, n: u32, p: usize, top: usize, stack: &mut [u32], labels: &mut
     top
 }
 
-// The pixel below p is visited, if p is not in the last row.
-fn below(
-    w: usize,
-    area: usize,
-    n: u32,
-    p: usize,
-    top: usize,
-    stack: &mut [u32],
-    labels: &mut [u32],
-) -> usize
-    requires { ⌜ p + w < 4294967296 ⌝ }
+// The pixel q below another is visited, if the plane has it.
+fn below(q: usize, area: usize, n: u32, top: usize, stack: &mut [u32], labels: &mut [u32]) -> usize
     requires { ⌜ area ≡ length (now labels) ⌝ }
     requires { ⌜ Room (state top (now stack) (now labels)) ⌝ }
-    ensures { λ r. ⌜ state r (now (stack .exit)) (now (labels .exit)) ≡ visitIf (ltb (p + w) area) n (p + w) (state top (now (stack .entry)) (now (labels .entry))) ⌝ }
+    ensures { λ r. ⌜ state r (now (stack .exit)) (now (labels .exit)) ≡ visitIf (ltb q area) n q (state top (now (stack .entry)) (now (labels .entry))) ⌝ }
 {
-    let q = p + w;
     if q < area {
         return visit(q, n, top, stack, labels);
     }
@@ -103,8 +93,9 @@ fn spread(w: usize, area: usize, n: u32, top: usize, stack: &mut [u32], labels: 
     let pixel = stack[t0];
     let p = pixel as usize;
     let x = (pixel % (w as u32)) as usize;
+    let q = p + w;
     let t1 = above(w, n, p, t0, stack, labels);
-    let t2 = below(w, area, n, p, t1, stack, labels);
+    let t2 = below(q, area, n, t1, stack, labels);
     let t3 = left(n, p, x, t2, stack, labels);
     right(w, n, p, x, t3, stack, labels)
 }

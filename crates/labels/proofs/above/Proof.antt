@@ -1,35 +1,24 @@
 -- `labels::above` meets its contract.
 -- Assumes nothing.
-use mathlib.Core.Path.{refl}
-use Prim.Native.Nat.{_+_}
-use native.Mathlib.Omega.{arith}
 use borrow.Author.Needs.{needs}
 use borrow.Author.Tests.{le-leb, lt-leb}
 use Rattle.labels.specs.Flood.{visitIf}
 use Rattle.labels.proofs.above.Statement.{statement}
 use Rattle.labels.proofs.above.Tie as tie
-use Rattle.labels.proofs.above.Reads as reads
-use Rattle.labels.proofs.above.Lts as lts
-use Rattle.labels.proofs.visit.Reads as visit-reads
 
--- src/lib.rt:34:9
 visit-requires : tie.Need-visit-requires
 visit-requires c κs = search needs
 
--- src/lib.rt:34:9
 same-length : tie.Need-same-length
 same-length c = search needs
 
--- src/lib.rt:34:9
 same-length-2 : tie.Need-same-length-2
 same-length-2 c = search needs
 
--- src/lib.rt:34:9
 returns : tie.Need-returns
 unfolding visitIf
 returns c = let b = c .before .before .before .before in let i = b .before .before .before in let a = i .before .before .before .args in rw (le-leb (a .w) (a .p) (i .if1 .taken)) (b .visit .ensures)
 
--- src/lib.rt:28:1
 returns-2 : tie.Need-returns-2
 unfolding visitIf
 returns-2 c = let a = c .before .before .before .args in rw (lt-leb (a .w) (a .p) (c .if1 .left))

@@ -1,18 +1,14 @@
 -- `labels::flood` meets its contract.
 -- Assumes nothing.
-use mathlib.Core.Path.{_≡_, refl, sym, ap, _∙_}
-use Prim.Native.Nat.{_+_, _-_, _≤_, _<_}
+use mathlib.Core.Path.{_≡_, refl, ap, _∙_}
+use Prim.Native.Nat.{_+_, _-_, _<_}
 use native.Mathlib.Omega.{arith}
-use borrow.Author.Needs.{needs}
 use lib.ListN.{length, getD, length-set}
-use Rattle.labels.specs.Flood.{State, state, spreadFrom, waiting}
+use Rattle.labels.specs.Flood.{state, spreadFrom, waiting}
 use Rattle.labels.proofs.Flooding.{Flooding, i-in, first-floods, spread-ready, spread-again, flood-ends}
 use Rattle.labels.proofs.Room.{total, spread-total}
 use Rattle.labels.proofs.flood.Statement.{statement}
 use Rattle.labels.proofs.flood.Tie as tie
-use Rattle.labels.proofs.flood.Reads as reads
-use Rattle.labels.proofs.flood.Lts as lts
-use Rattle.labels.proofs.spread.Reads as spread-reads
 
 abbrev Inv-loop : tie.InvT-loop
 Inv-loop w i n stack₀ labels₀ area top₀ stack labels top =
@@ -21,7 +17,6 @@ Inv-loop w i n stack₀ labels₀ area top₀ stack labels top =
 abbrev μ-loop : tie.MeasureT-loop
 μ-loop w i n stack₀ labels₀ area top₀ stack labels top = top + waiting labels
 
--- src/lib.rt:100:5
 mul-labels : tie.Need-mul-labels Inv-loop μ-loop
 mul-labels c =
     let o = c .before .before in
@@ -29,7 +24,6 @@ mul-labels c =
     let l = i-in (a .labels .now) (a .stack .now) (a .w) (a .i) (a .n) (o .pre) in
     omega (arith, o .pre .small)
 
--- src/lib.rt:100:5
 slice-write-labels : tie.Need-slice-write-labels Inv-loop μ-loop
 slice-write-labels c =
     let o = c .before .before in
@@ -37,7 +31,6 @@ slice-write-labels c =
     let l = i-in (a .labels .now) (a .stack .now) (a .w) (a .i) (a .n) (o .pre) in
     l
 
--- src/lib.rt:101:16
 cast-stack : tie.Need-cast-stack Inv-loop μ-loop
 cast-stack c =
     let o = c .before .before in
@@ -45,7 +38,6 @@ cast-stack c =
     let l = i-in (a .labels .now) (a .stack .now) (a .w) (a .i) (a .n) (o .pre) in
     omega (arith, o .pre .small)
 
--- src/lib.rt:101:5
 slice-write-stack : tie.Need-slice-write-stack Inv-loop μ-loop
 slice-write-stack c =
     let o = c .before .before in
@@ -54,14 +46,12 @@ slice-write-stack c =
     let z : 0 < length (a .stack .now) = omega (arith, o .pre .tall) in
     z
 
--- src/lib.rt:103:5
 loop-holds : tie.Need-loop-holds Inv-loop μ-loop
 loop-holds c =
     let o = c .before .before in
     let a = o .args in
     (refl, first-floods (a .labels .now) (a .stack .now) (a .w) (a .i) (a .n) (o .pre))
 
--- src/lib.rt:104:9
 spread-requires : tie.Need-spread-requires Inv-loop μ-loop
 spread-requires c κs =
     let l = c .before .before .before in
@@ -70,7 +60,6 @@ spread-requires c κs =
     let s = state (l .loop .top) (l .loop .stack) (l .loop .labels) in
     spread-ready (a .labels .now) (a .stack .now) (a .w) (a .i) (a .n) (o .pre) s (c .before .before .loop-test .taken) (l .loop .inv .1)
 
--- src/lib.rt:103:5
 loop-less : tie.Need-loop-less Inv-loop μ-loop
 unfolding total
 loop-less c =
@@ -86,7 +75,6 @@ loop-less c =
     let g = spread-ready (a .labels .now) (a .stack .now) (a .w) (a .i) (a .n) (o .pre) s taken (l .loop .inv .1) in
     omega (arith, ap total e, spread-total g)
 
--- src/lib.rt:103:5
 loop-again : tie.Need-loop-again Inv-loop μ-loop
 loop-again c =
     let l = c .before .before .before .before .before .before .before .before in
@@ -100,7 +88,6 @@ loop-again c =
     let taken = c .before .before .before .before .before .before .before .loop-test .taken in
     (f .kept .1 .1 .1 .1 .0 ∙ l .loop .inv .0, spread-again (a .labels .now) (a .stack .now) (a .w) (a .i) (a .n) (o .pre) s t taken (l .loop .inv .1) e)
 
--- src/lib.rt:95:1
 returns : tie.Need-returns Inv-loop μ-loop
 returns c =
     let l = c .before in
@@ -109,11 +96,9 @@ returns c =
     let s = state (l .loop .top) (l .loop .stack) (l .loop .labels) in
     flood-ends (a .labels .now) (a .stack .now) (a .w) (a .i) (a .n) (o .pre) s (omega arith) (l .loop .inv .1)
 
--- src/lib.rt:95:1
 same-length : tie.Need-same-length Inv-loop μ-loop
 same-length c = let l = c .before in l .loop .inv .0 ∙ length-set (l .before .before .before .args .stack .now) 0 (l .before .before .before .args .i)
 
--- src/lib.rt:95:1
 same-length-2 : tie.Need-same-length-2 Inv-loop μ-loop
 same-length-2 c = returns c .long
 

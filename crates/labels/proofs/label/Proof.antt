@@ -1,22 +1,17 @@
 -- `labels::label` meets its contract.
 -- Assumes nothing.
 use mathlib.Core.Path.{_≡_, refl, sym, ap, _∙_}
-use Prim.Native.Nat.{ℕ, _+_, _*_, _-_, _≤_, _<_}
+use Prim.Native.Nat.{ℕ, _+_, _*_, _-_, _≤_}
 use native.Mathlib.Omega.{arith}
-use borrow.Author.Needs.{needs}
 use lib.ListN.{length}
 use Rattle.plane.specs.Plane.{table}
 use Rattle.plane.specs.Search.{countBelow}
 use Rattle.plane.proofs.Plane.{area-most}
 use Rattle.labels.specs.Labels.{isFirst, parts}
-use Rattle.labels.specs.Flood.{Given, Begun, waitingAt, reached}
+use Rattle.labels.specs.Flood.{Given, waitingAt, reached}
 use Rattle.labels.proofs.Reached.{reached-none, reached-long, reached-all}
 use Rattle.labels.proofs.label.Statement.{statement}
 use Rattle.labels.proofs.label.Tie as tie
-use Rattle.labels.proofs.label.Reads as reads
-use Rattle.labels.proofs.label.Lts as lts
-use Rattle.labels.proofs.prepare.Reads as prepare-reads
-use Rattle.labels.proofs.start.Reads as start-reads
 
 abbrev Inv-loop : tie.InvT-loop
 Inv-loop mask h w stack₀ labels₀ n₀ i₀ stack labels n i =
@@ -25,11 +20,9 @@ Inv-loop mask h w stack₀ labels₀ n₀ i₀ stack labels n i =
 abbrev μ-loop : tie.MeasureT-loop
 μ-loop mask h w stack₀ labels₀ n₀ i₀ stack labels n i = h * w - i
 
--- src/lib.rt:152:5
 prepare-requires : tie.Need-prepare-requires Inv-loop μ-loop
 prepare-requires c κs = let g = c .before .before .before .before .pre in g .output ∙ sym (g .input)
 
--- src/lib.rt:155:5
 loop-holds : tie.Need-loop-holds Inv-loop μ-loop
 unfolding countBelow
 loop-holds c =
@@ -47,25 +40,21 @@ loop-holds c =
       refl,
     )
 
--- src/lib.rt:156:9
 start-requires : tie.Need-start-requires Inv-loop μ-loop
 start-requires c κs =
     let l = c .before .before .before .loop in
     record { given = l .inv .1; inside = omega (arith, l .inv .1 .output, c .before .before .loop-test .taken); count = l .inv .2; so-far = l .inv .3 }
 
--- src/lib.rt:157:9
 add-i : tie.Need-add-i Inv-loop μ-loop
 add-i c =
     let l = c .before .before .before .before .before .before .before .before .loop in
     omega (arith, l .inv .0, area-most (l .inv .1 .sides .tall) (l .inv .1 .sides .wide))
 
--- src/lib.rt:155:5
 loop-less : tie.Need-loop-less Inv-loop μ-loop
 loop-less c =
     let l = c .before .before .before .before .before .before .before .before .loop in
     omega (arith, l .inv .1 .output, c .before .before .before .before .before .before .before .loop-test .taken)
 
--- src/lib.rt:155:5
 loop-again : tie.Need-loop-again Inv-loop μ-loop
 loop-again c =
     let b = c .before .before .before .before .before .before .before .before in
@@ -85,15 +74,12 @@ loop-again c =
       f .kept .1 .1 .1 .1 .1 .0 ∙ l .inv .4,
     )
 
--- src/lib.rt:147:1
 same-length : tie.Need-same-length Inv-loop μ-loop
 same-length c = c .before .loop .inv .4
 
--- src/lib.rt:147:1
 same-length-2 : tie.Need-same-length-2 Inv-loop μ-loop
 same-length-2 c = c .before .loop .inv .1 .output ∙ sym (c .before .before .before .before .before .before .before .before .before .pre .output)
 
--- src/lib.rt:147:1
 returns : tie.Need-returns Inv-loop μ-loop
 unfolding parts
 returns c =

@@ -1,7 +1,7 @@
 -- `labels::prepare` meets its contract.
 -- Assumes nothing.
-use mathlib.Core.Path.{_≡_, refl, sym, ap, _∙_}
-use Prim.Native.Nat.{ℕ, _+_, _-_, _≤_, _<_}
+use mathlib.Core.Path.{_≡_, sym, _∙_}
+use Prim.Native.Nat.{ℕ, _-_, _≤_, _<_}
 use native.Mathlib.Nat.{not-suc-le-zero}
 use native.Mathlib.Omega.{arith}
 use borrow.Author.Needs.{needs}
@@ -11,9 +11,6 @@ use Rattle.labels.specs.Labels.{isOn}
 use Rattle.labels.specs.Flood.{waitingAt}
 use Rattle.labels.proofs.prepare.Statement.{statement}
 use Rattle.labels.proofs.prepare.Tie as tie
-use Rattle.labels.proofs.prepare.Reads as reads
-use Rattle.labels.proofs.prepare.Lts as lts
-use Rattle.labels.proofs.waits.Reads as waits-reads
 
 abbrev Inv-loop : tie.InvT-loop
 Inv-loop mask labels₀ i₀ labels i =
@@ -22,35 +19,27 @@ Inv-loop mask labels₀ i₀ labels i =
 abbrev μ-loop : tie.MeasureT-loop
 μ-loop mask labels₀ i₀ labels i = length mask - i
 
--- src/lib.rt:127:5
 loop-holds : tie.Need-loop-holds Inv-loop μ-loop
 loop-holds c = (omega arith, search needs, λ k l. absurd (not-suc-le-zero l))
 
--- src/lib.rt:128:27
 shared-slice-read-waits : tie.Need-shared-slice-read-waits Inv-loop μ-loop
 shared-slice-read-waits c = omega arith
 
--- src/lib.rt:128:21
 waits-requires : tie.Need-waits-requires Inv-loop μ-loop
 waits-requires c κs = search needs
 
--- src/lib.rt:128:9
 mul-labels : tie.Need-mul-labels Inv-loop μ-loop
 mul-labels c = omega arith
 
--- src/lib.rt:128:9
 slice-write-labels : tie.Need-slice-write-labels Inv-loop μ-loop
 slice-write-labels c = omega arith
 
--- src/lib.rt:129:9
 add-i : tie.Need-add-i Inv-loop μ-loop
 add-i c = omega arith
 
--- src/lib.rt:127:5
 loop-less : tie.Need-loop-less Inv-loop μ-loop
 loop-less c = omega arith
 
--- src/lib.rt:127:5
 loop-again : tie.Need-loop-again Inv-loop μ-loop
 unfolding waitingAt isOn
 loop-again c =
@@ -63,11 +52,9 @@ loop-again c =
       filled (waitingAt (a .mask .now)) (l .loop .labels) (l .loop .i) (c .waits .result) 0 (omega (arith, v .1)) (v .2) (c .waits .ensures),
     )
 
--- src/lib.rt:122:1
 same-length : tie.Need-same-length Inv-loop μ-loop
 same-length c = c .before .loop .inv .1 ∙ sym (c .before .before .before .before .pre)
 
--- src/lib.rt:122:1
 returns : tie.Need-returns Inv-loop μ-loop
 returns c =
     let l = c .before in

@@ -1,6 +1,5 @@
 -- `labels::right` meets its contract.
 -- Assumes nothing.
-use mathlib.Core.Path.{refl}
 use Prim.Native.Nat.{_+_}
 use native.Mathlib.Omega.{arith}
 use borrow.Author.Needs.{needs}
@@ -8,36 +7,26 @@ use borrow.Author.Tests.{lt-ltb, le-ltb}
 use Rattle.labels.specs.Flood.{visitIf}
 use Rattle.labels.proofs.right.Statement.{statement}
 use Rattle.labels.proofs.right.Tie as tie
-use Rattle.labels.proofs.right.Reads as reads
-use Rattle.labels.proofs.right.Lts as lts
-use Rattle.labels.proofs.visit.Reads as visit-reads
 
--- src/lib.rt:73:8
 add-if1 : tie.Need-add-if1
 add-if1 c = search needs
 
--- src/lib.rt:74:22
 add-visit : tie.Need-add-visit
 add-visit c = let pre = c .before .before .before .pre in omega (arith, pre .1 .0 (c .if1 .taken), pre .1 .1 .small)
 
--- src/lib.rt:74:9
 visit-requires : tie.Need-visit-requires
 visit-requires c κs = let i = c .before .before in let pre = i .before .before .before .pre in (pre .1 .0 (i .if1 .taken), pre .1 .1)
 
--- src/lib.rt:74:9
 same-length : tie.Need-same-length
 same-length c = search needs
 
--- src/lib.rt:74:9
 same-length-2 : tie.Need-same-length-2
 same-length-2 c = search needs
 
--- src/lib.rt:74:9
 returns : tie.Need-returns
 unfolding visitIf
 returns c = let b = c .before .before .before .before in let i = b .before .before .before in let a = i .before .before .before .args in rw (lt-ltb (a .x + 1) (a .w) (i .if1 .taken)) (b .visit .ensures)
 
--- src/lib.rt:67:1
 returns-2 : tie.Need-returns-2
 unfolding visitIf
 returns-2 c = let a = c .before .before .before .args in rw (le-ltb (a .x + 1) (a .w) (c .if1 .left))

@@ -1,120 +1,91 @@
 -- `labels::spread` meets its contract.
 -- Assumes nothing.
-use mathlib.Core.Path.{_≡_, refl, ap, _∙_}
-use Prim.Native.Nat.{ℕ, _+_, _-_, _%_, _≤_}
+use mathlib.Core.Path.{_≡_, ap, _∙_}
+use Prim.Native.Nat.{_+_, _-_, _%_}
 use native.Mathlib.Nat.{mod-lt, mod-le}
 use native.Mathlib.Omega.{arith}
 use borrow.Author.Needs.{needs}
 use lib.Dec.{ltb, leb}
 use lib.ListN.{getD}
-use Rattle.labels.specs.Flood.{State, state, visitIf, spreadFrom}
+use Rattle.labels.specs.Flood.{state, visitIf, spreadFrom}
 use Rattle.labels.proofs.Room.{Kept, kept-first, kept-above, kept-below, kept-left}
 use Rattle.labels.proofs.spread.Statement.{statement}
 use Rattle.labels.proofs.spread.Tie as tie
-use Rattle.labels.proofs.spread.Reads as reads
-use Rattle.labels.proofs.spread.Lts as lts
-use Rattle.labels.proofs.above.Reads as above-reads
-use Rattle.labels.proofs.below.Reads as below-reads
-use Rattle.labels.proofs.left.Reads as left-reads
-use Rattle.labels.proofs.right.Reads as right-reads
 
--- src/lib.rt:84:14
 sub-t0 : tie.Need-sub-t0
 sub-t0 c = search needs
 
--- src/lib.rt:85:17
 mul-pixel : tie.Need-mul-pixel
 mul-pixel c = search needs
 
--- src/lib.rt:85:17
 slice-read-pixel : tie.Need-slice-read-pixel
 slice-read-pixel c = search needs
 
--- src/lib.rt:86:13
 cast-p : tie.Need-cast-p
 cast-p c = search needs
 
--- src/lib.rt:87:23
 cast-x : tie.Need-cast-x
 cast-x c = search needs
 
--- src/lib.rt:87:14
 rem-x : tie.Need-rem-x
 rem-x c = search needs
 
--- src/lib.rt:87:13
 cast-x-2 : tie.Need-cast-x-2
 cast-x-2 c =
     let o = c .before .before .before in
     omega (arith, mod-lt (getD (o .args .stack .now) (o .args .top - 1) 0) (o .pre .wide), o .pre .narrow)
 
--- src/lib.rt:88:9
+add-q : tie.Need-add-q
+add-q c = let g = c .before .before .before .pre in omega (arith, g .inside, g .room .small, g .long, g .narrow)
+
 above-requires : tie.Need-above-requires
 above-requires c κs = search needs
 
--- src/lib.rt:89:9
 below-requires : tie.Need-below-requires
 below-requires c κs =
     let o = c .before .before .before .before .before .before .before .before .before .before .before .before in
-    let a = o .args in
     let g = o .pre in
-    let p = getD (a .stack .now) (a .top - 1) 0 in
-    let s0 = state (a .top - 1) (a .stack .now) (a .labels .now) in
+    let s0 = state (o .args .top - 1) (o .args .stack .now) (o .args .labels .now) in
     let f1 = c .before .before .before .before .before .before .above in
     let s1 = state (f1 .result) (f1 .last .1 .1 .1 .1 .0) (f1 .last .1 .1 .1 .1 .1 .0) in
-    let e1 : s1 ≡ visitIf (leb (a .w) p) (a .n) (p - a .w) s0 = f1 .ensures in
-    let k1 : Kept (a .area) s1 = rw e1 (kept-above g s0 (kept-first g)) in
-    (omega (arith, g .inside, g .room .small, g .long, g .narrow), (k1 .long, k1 .room))
+    let k1 = kept-above g s0 s1 (kept-first g) (f1 .ensures) in
+    (k1 .long, k1 .room)
 
--- src/lib.rt:90:9
 left-requires : tie.Need-left-requires
 left-requires c κs =
     let o = c .before .before .before .before .before .before .before .before .before .before .before .before .before .before .before .before .before .before .before in
-    let a = o .args in
     let g = o .pre in
-    let p = getD (a .stack .now) (a .top - 1) 0 in
-    let s0 = state (a .top - 1) (a .stack .now) (a .labels .now) in
+    let s0 = state (o .args .top - 1) (o .args .stack .now) (o .args .labels .now) in
     let f1 = c .before .before .before .before .before .before .before .before .before .before .before .before .before .above in
     let s1 = state (f1 .result) (f1 .last .1 .1 .1 .1 .0) (f1 .last .1 .1 .1 .1 .1 .0) in
-    let e1 : s1 ≡ visitIf (leb (a .w) p) (a .n) (p - a .w) s0 = f1 .ensures in
-    let k1 : Kept (a .area) s1 = rw e1 (kept-above g s0 (kept-first g)) in
+    let k1 = kept-above g s0 s1 (kept-first g) (f1 .ensures) in
     let f2 = c .before .before .before .before .before .before .below in
-    let s2 = state (f2 .result) (f2 .last .1 .1 .1 .1 .1 .0) (f2 .last .1 .1 .1 .1 .1 .1 .0) in
-    let e2 : s2 ≡ visitIf (ltb (p + a .w) (a .area)) (a .n) (p + a .w) s1 = f2 .ensures in
-    let k2 : Kept (a .area) s2 = rw e2 (kept-below g s1 k1) in
-    (omega (arith, g .inside, k2 .long), (mod-le p (a .w), k2 .room))
+    let s2 = state (f2 .result) (f2 .last .1 .1 .1 .1 .0) (f2 .last .1 .1 .1 .1 .1 .0) in
+    let k2 = kept-below g s1 s2 k1 (f2 .ensures) in
+    (omega (arith, g .inside, k2 .long), (mod-le (getD (o .args .stack .now) (o .args .top - 1) 0) (o .args .w), k2 .room))
 
--- src/lib.rt:91:5
 right-requires : tie.Need-right-requires
 right-requires c κs =
     let o = c .before .before .before .before .before .before .before .before .before .before .before .before .before .before .before .before .before .before .before .before .before .before .before .before .before .before in
-    let a = o .args in
     let g = o .pre in
-    let p = getD (a .stack .now) (a .top - 1) 0 in
-    let s0 = state (a .top - 1) (a .stack .now) (a .labels .now) in
+    let s0 = state (o .args .top - 1) (o .args .stack .now) (o .args .labels .now) in
     let f1 = c .before .before .before .before .before .before .before .before .before .before .before .before .before .before .before .before .before .before .before .before .above in
     let s1 = state (f1 .result) (f1 .last .1 .1 .1 .1 .0) (f1 .last .1 .1 .1 .1 .1 .0) in
-    let e1 : s1 ≡ visitIf (leb (a .w) p) (a .n) (p - a .w) s0 = f1 .ensures in
-    let k1 : Kept (a .area) s1 = rw e1 (kept-above g s0 (kept-first g)) in
+    let k1 = kept-above g s0 s1 (kept-first g) (f1 .ensures) in
     let f2 = c .before .before .before .before .before .before .before .before .before .before .before .before .before .below in
-    let s2 = state (f2 .result) (f2 .last .1 .1 .1 .1 .1 .0) (f2 .last .1 .1 .1 .1 .1 .1 .0) in
-    let e2 : s2 ≡ visitIf (ltb (p + a .w) (a .area)) (a .n) (p + a .w) s1 = f2 .ensures in
-    let k2 : Kept (a .area) s2 = rw e2 (kept-below g s1 k1) in
+    let s2 = state (f2 .result) (f2 .last .1 .1 .1 .1 .0) (f2 .last .1 .1 .1 .1 .1 .0) in
+    let k2 = kept-below g s1 s2 k1 (f2 .ensures) in
     let f3 = c .before .before .before .before .before .before .left in
     let s3 = state (f3 .result) (f3 .last .1 .1 .1 .1 .0) (f3 .last .1 .1 .1 .1 .1 .0) in
-    let e3 : s3 ≡ visitIf (ltb 0 (p % a .w)) (a .n) (p - 1) s2 = f3 .ensures in
-    let k3 : Kept (a .area) s3 = rw e3 (kept-left g s2 k2) in
-    (mod-lt p (g .wide), ((λ l. (let z = g .row l in omega (arith, k3 .long))), k3 .room))
+    let k3 = kept-left g s2 s3 k2 (f3 .ensures) in
+    (mod-lt (getD (o .args .stack .now) (o .args .top - 1) 0) (g .wide), ((λ l. (let z = g .row l in omega (arith, k3 .long))), k3 .room))
 
--- src/lib.rt:80:1
 same-length : tie.Need-same-length
 same-length c = search needs
 
--- src/lib.rt:80:1
 same-length-2 : tie.Need-same-length-2
 same-length-2 c = search needs
 
--- src/lib.rt:80:1
 returns : tie.Need-returns
 unfolding spreadFrom
 returns c =
@@ -126,7 +97,7 @@ returns c =
     let s1 = state (f1 .result) (f1 .last .1 .1 .1 .1 .0) (f1 .last .1 .1 .1 .1 .1 .0) in
     let e1 : s1 ≡ visitIf (leb (a .w) p) (a .n) (p - a .w) s0 = f1 .ensures in
     let f2 = c .before .before .before .before .before .before .before .before .before .before .before .before .before .before .before .before .before .before .below in
-    let s2 = state (f2 .result) (f2 .last .1 .1 .1 .1 .1 .0) (f2 .last .1 .1 .1 .1 .1 .1 .0) in
+    let s2 = state (f2 .result) (f2 .last .1 .1 .1 .1 .0) (f2 .last .1 .1 .1 .1 .1 .0) in
     let e2 : s2 ≡ visitIf (ltb (p + a .w) (a .area)) (a .n) (p + a .w) s1 = f2 .ensures in
     let f3 = c .before .before .before .before .before .before .before .before .before .before .before .left in
     let s3 = state (f3 .result) (f3 .last .1 .1 .1 .1 .0) (f3 .last .1 .1 .1 .1 .1 .0) in
@@ -145,6 +116,7 @@ spread-spec =
     cast-x
     rem-x
     cast-x-2
+    add-q
     above-requires
     below-requires
     left-requires

@@ -1,6 +1,5 @@
 -- `labels::visit` meets its contract.
 -- Assumes nothing.
-use mathlib.Core.Path.{refl}
 use borrow.Author.Needs.{needs}
 use borrow.Author.Tests.{eq-eqb, ne-eqb}
 use lib.ListN.{getD}
@@ -8,58 +7,44 @@ use Rattle.labels.specs.Flood.{unset, state, pushed, visited}
 use Rattle.labels.proofs.Room.{room-for}
 use Rattle.labels.proofs.visit.Statement.{statement}
 use Rattle.labels.proofs.visit.Tie as tie
-use Rattle.labels.proofs.visit.Reads as reads
-use Rattle.labels.proofs.visit.Lts as lts
 
--- src/lib.rt:19:8
 mul-if1 : tie.Need-mul-if1
 mul-if1 c = search needs
 
--- src/lib.rt:19:8
 slice-read-if1 : tie.Need-slice-read-if1
 slice-read-if1 c = search needs
 
--- src/lib.rt:20:9
 returns : tie.Need-returns
 unfolding visited
 returns c = let a = c .before .before .args in rw (ne-eqb (getD (a .labels .now) (a .q) 0) unset (c .if1 .taken))
 
--- src/lib.rt:22:5
 mul-labels : tie.Need-mul-labels
 mul-labels c = search needs
 
--- src/lib.rt:22:5
 slice-write-labels : tie.Need-slice-write-labels
 slice-write-labels c = search needs
 
--- src/lib.rt:23:18
 cast-stack : tie.Need-cast-stack
 cast-stack c = search needs
 
--- src/lib.rt:23:5
 mul-stack : tie.Need-mul-stack
 mul-stack c = search needs
 
--- src/lib.rt:23:5
 slice-write-stack : tie.Need-slice-write-stack
 slice-write-stack c =
     let a = c .before .before .args in
     let pre = c .before .before .pre in
     room-for (state (a .top) (a .stack .now) (a .labels .now)) (a .q) (pre .1) (pre .0) (c .if1 .left)
 
--- src/lib.rt:24:5
 add-result : tie.Need-add-result
 add-result c = search needs
 
--- src/lib.rt:14:1
 same-length : tie.Need-same-length
 same-length c = search needs
 
--- src/lib.rt:14:1
 same-length-2 : tie.Need-same-length-2
 same-length-2 c = search needs
 
--- src/lib.rt:14:1
 returns-2 : tie.Need-returns-2
 unfolding visited pushed
 returns-2 c = let a = c .before .before .args in rw (eq-eqb (getD (a .labels .now) (a .q) 0) unset (c .if1 .left))

@@ -1,19 +1,14 @@
 -- `labels::waits` meets its contract.
 -- Assumes nothing.
-use mathlib.Core.Path.{refl}
 use borrow.Author.Tests.{eq-eqb, ne-eqb}
 use Rattle.plane.specs.Plane.{on}
 use Rattle.labels.proofs.waits.Statement.{statement}
 use Rattle.labels.proofs.waits.Tie as tie
-use Rattle.labels.proofs.waits.Reads as reads
-use Rattle.labels.proofs.waits.Lts as lts
 
--- src/lib.rt:116:9
 returns : tie.Need-returns
 unfolding on
 returns c = rw (eq-eqb (c .before .args .m) 0 (c .if1 .taken))
 
--- src/lib.rt:112:1
 returns-2 : tie.Need-returns-2
 unfolding on
 returns-2 c = rw (ne-eqb (c .before .args .m) 0 (c .if1 .left))
