@@ -103,8 +103,22 @@ fn median(mut times: Vec<f64>) -> f64 {
     (times[(n - 1) / 2] + times[n / 2]) / 2.0
 }
 
-/// One line of the table.
-fn measure(call: Call, plane: &Plane, lent: &mut Lent, runs: usize) {
+/// One line of the table: ns per pixel.
+struct Line {
+    call: Call,
+    mask: &'static str,
+    side: usize,
+    theirs: Option<f64>,
+    ours: f64,
+}
+
+impl Line {
+    fn ratio(&self) -> Option<f64> {
+        self.theirs.map(|theirs| theirs / self.ours)
+    }
+}
+
+fn measure(call: Call, plane: &Plane, lent: &mut Lent, runs: usize) -> Line {
     let pixels = (plane.side * plane.side) as f64;
     let (mut ours, mut theirs) = (Vec::new(), Vec::new());
     call.ours(lent, plane);
@@ -113,19 +127,69 @@ fn measure(call: Call, plane: &Plane, lent: &mut Lent, runs: usize) {
         theirs.extend(call.theirs(plane));
         ours.push(call.ours(lent, plane));
     }
-    let ours = median(ours) * 1e9 / pixels;
-    let (theirs, ratio) = if theirs.is_empty() {
-        ("-".to_string(), "-".to_string())
-    } else {
-        let theirs = median(theirs) * 1e9 / pixels;
-        (format!("{theirs:.2}"), format!("{:.1}", theirs / ours))
+    let line = Line {
+        call,
+        mask: plane.name,
+        side: plane.side,
+        theirs: (!theirs.is_empty()).then(|| median(theirs) * 1e9 / pixels),
+        ours: median(ours) * 1e9 / pixels,
     };
     println!(
-        "| {} | {} | {} | {theirs} | {ours:.2} | {ratio} |",
+        "| {} | {} | {} | {} | {:.2} | {} |",
         call.name(),
-        plane.name,
-        plane.side
+        line.mask,
+        line.side,
+        number(line.theirs, 2),
+        line.ours,
+        number(line.ratio(), 1)
     );
+    line
+}
+
+fn number(value: Option<f64>, digits: usize) -> String {
+    value.map_or("-".into(), |value| format!("{value:.digits$}"))
+}
+
+/// For each group of calls and masks the least ratio from 2048 on, and how the time per pixel grows
+/// from 1024 to 4096 at most.
+fn summary(lines: &[Line]) {
+    type Group = (&'static str, fn(&Line) -> bool);
+    let groups: [Group; 7] = [
+        ("nearest, object and complement", |l| {
+            l.call == Call::Nearest && ["object", "complement"].contains(&l.mask)
+        }),
+        ("nearest, other masks", |l| {
+            l.call == Call::Nearest && !["object", "complement"].contains(&l.mask)
+        }),
+        ("squares", |l| matches!(l.call, Call::Squares(_))),
+        ("labels, object", |l| {
+            l.call == Call::Labels && l.mask == "object"
+        }),
+        ("labels, random half", |l| {
+            l.call == Call::Labels && l.mask == "random half"
+        }),
+        ("labels, other masks", |l| {
+            l.call == Call::Labels && !["object", "random half"].contains(&l.mask)
+        }),
+        ("square distance and fill", |l| {
+            [Call::Distance, Call::Fill].contains(&l.call)
+        }),
+    ];
+    println!("\n| | least ratio from 2048 on | most growth of ns per pixel, 1024 to 4096 |");
+    println!("|---|---:|---:|");
+    for (name, of) in groups {
+        let group: Vec<&Line> = lines.iter().filter(|l| of(l)).collect();
+        let ratios = group
+            .iter()
+            .filter(|l| l.side >= 2048)
+            .filter_map(|l| l.ratio());
+        let growths = group.iter().filter(|l| l.side == 4096).filter_map(|l| {
+            let small = |s: &&&Line| s.call == l.call && s.mask == l.mask && s.side == 1024;
+            Some(l.ours / group.iter().find(small)?.ours)
+        });
+        let (least, most) = (ratios.reduce(f64::min), growths.reduce(f64::max));
+        println!("| {name} | {} | {} |", number(least, 1), number(most, 2));
+    }
 }
 
 /// The first line of a file of the system that has this key, after its colon.
@@ -161,8 +225,7 @@ fn head(runs: usize) {
 
 /// What a caller lends beside inputs: bytes per pixel.
 fn memory(side: usize, lent: &Lent) {
-    let per_pixel = |bytes: usize| format!("{:.2}", bytes as f64 / (side * side) as f64);
-    let bytes = |n: usize| per_pixel(n);
+    let bytes = |n: usize| format!("{:.2}", n as f64 / (side * side) as f64);
     println!("\nMemory lent by the caller at {side} × {side}, bytes per pixel (nothing else is");
     println!("allocated):\n");
     println!("| call | work buffers | outputs |\n|---|---:|---:|");
@@ -201,6 +264,7 @@ fn main() {
     };
     head(runs);
     println!("| call | mask | side | mask.rs | ours | ratio |\n|---|---|---:|---:|---:|---:|");
+    let mut lines = Vec::new();
     for &side in &sides {
         let mut random = Random(side as u64);
         let mut lent = Lent::new(side, side);
@@ -228,22 +292,23 @@ fn main() {
             colours: &colours,
         });
         for plane in &planes[..7] {
-            measure(Call::Nearest, plane, &mut lent, runs);
+            lines.push(measure(Call::Nearest, plane, &mut lent, runs));
         }
         for plane in [&planes[0], &planes[2]] {
             for k in [1, 4, 64, 4096] {
-                measure(Call::Squares(k), plane, &mut lent, runs);
+                lines.push(measure(Call::Squares(k), plane, &mut lent, runs));
             }
         }
         for plane in &planes {
-            measure(Call::Labels, plane, &mut lent, runs);
+            lines.push(measure(Call::Labels, plane, &mut lent, runs));
         }
         for call in [Call::Distance, Call::Fill] {
             for plane in [&planes[0], &planes[2]] {
-                measure(call, plane, &mut lent, runs);
+                lines.push(measure(call, plane, &mut lent, runs));
             }
         }
         if side == *sides.last().unwrap() {
+            summary(&lines);
             memory(side, &lent);
         }
     }
