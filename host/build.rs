@@ -4,11 +4,23 @@ use std::env;
 use std::fs;
 use std::path::{Path, PathBuf};
 use std::process::Command;
+use std::time::SystemTime;
 
 /// Ends the build with a sentence and no backtrace.
 fn fail(sentence: String) -> ! {
     eprintln!("{sentence}");
     std::process::exit(1)
+}
+
+/// When the newest file of a folder and its subfolders was changed.
+fn newest(folder: &Path) -> Option<SystemTime> {
+    let entries = fs::read_dir(folder).ok()?.flatten();
+    entries
+        .filter_map(|entry| match entry.file_type() {
+            Ok(kind) if kind.is_dir() => newest(&entry.path()),
+            _ => entry.metadata().ok()?.modified().ok(),
+        })
+        .max()
 }
 
 /// The folder of the archive: `STAND_LIB_DIR`, or the repository's own after `rt staticlib`.
@@ -41,6 +53,17 @@ fn archive_folder(root: &Path) -> PathBuf {
     }
     if !archive.is_file() {
         fail(format!("there is no {}", archive.display()));
+    }
+    if own {
+        let crates = root.join("crates");
+        println!("cargo:rerun-if-changed={}", crates.display());
+        let made = archive.metadata().and_then(|m| m.modified()).ok();
+        if newest(&crates) > made {
+            println!(
+                "cargo:warning={} is older than a file under crates/: run `rt staticlib stand`",
+                archive.display()
+            );
+        }
     }
     folder.canonicalize().expect("the archive's folder")
 }

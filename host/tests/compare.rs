@@ -321,7 +321,9 @@ mod with {
                 let b = masks::bools(&mask);
                 all.mask(n);
                 all.labels(&mask, &b, h, w);
-                all.nearest(&mask, &b, h, w, true, None);
+                let colours =
+                    (n <= 2048 * 2048 && (kind == 0 || kind == 2)).then(|| colours(&mut random, n));
+                all.nearest(&mask, &b, h, w, true, colours.as_deref());
                 for k in iterations(h, w) {
                     // The whole list on the object and on random half.
                     if kind == 0 || kind == 2 || k == 1 || k == 63 {
