@@ -19,9 +19,9 @@ use Rattle.line.proofs.Walk.{walk-answers}
 use Rattle.line.proofs.Best.{line-length, line-at, offered}
 use Rattle.line.proofs.Grid.{columnBest, columnCost, walk-line, two-stages}
 use Rattle.nearest.specs.Nearest.{rowCost, nearest, rowOf, columnOf}
-use Rattle.nearest.specs.Stages.{noRow, noCost, Low, From, firstFrom, belowAt, ownOr, codeOf, nearer, nearerLine, rowCode, nearLine, squareCost, costsLine, rowAt, columnAt, rowsLine, columnsLine, rowsOf, columnsOf}
+use Rattle.nearest.specs.Stages.{noRow, noCost, Low, firstFrom, belowAt, ownOr, codeOf, nearer, nearerLine, rowCode, nearLine, squareCost, costsLine, rowAt, columnAt, rowsLine, columnsLine, rowsOf, columnsOf}
 use Rattle.nearest.proofs.InPlace.{table-same}
-use Rattle.nearest.proofs.Sweep.{rowNumber, numbered, first-step, first-none, first-low, first-after, code-low, sweep-step, sweep-start}
+use Rattle.nearest.proofs.Sweep.{rowNumber, numbered, first-step, first-none, first-low, code-low, sweep-step, sweep-start}
 
 module _ (mask : List ℕ) (h w : ℕ) where
   -- ---- the first sweep
@@ -36,12 +36,6 @@ module _ (mask : List ℕ) (h w : ℕ) where
   below-low y l m =
       let e = table-length (belowAt mask h w y) 0 w in
       record { low = λ x g. rw (table-at (belowAt mask h w y) w x 0 (omega arith)) (first-low (λ (j : ℕ). onAt mask w j x) y h l m) }
-
-  pub below-from : (y k : ℕ) → y ≤ h → h ≤ noRow → k ≤ y → From k (table (belowAt mask h w y) 0 w)
-  unfolding belowAt
-  below-from y k l m g =
-      let e = table-length (belowAt mask h w y) 0 w in
-      record { from = λ x q. rw (table-at (belowAt mask h w y) w x 0 (omega arith)) (let f = first-after (λ (j : ℕ). onAt mask w j x) y h l m in omega arith) }
 
   -- one row further up
   pub own-below : (y x k : ℕ) (near : List ℕ) → y < h → x < w → k ≡ w → near ≡ table (belowAt mask h w (y + 1)) 0 w → ownOr (take k (drop (y * w) mask)) y near x ≡ belowAt mask h w y x

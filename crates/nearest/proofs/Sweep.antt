@@ -134,14 +134,6 @@ module _ (p : ℕ → Bool) where
   pub first-low : (y h : ℕ) → y ≤ h → h ≤ noRow → firstFrom p y (h - y) ≤ noRow
   first-low y h l m = low-from y h (firstFrom p y (h - y)) m (first-from (h - y) y h (omega arith))
 
-  from-from : (y h a : ℕ) → y ≤ noRow → First-from y h a → y ≤ a
-  unfolding First-from
-  from-from y h a m (inl z) = omega (arith, z .0)
-  from-from y h a m (inr z) = z .0
-
-  pub first-after : (y h : ℕ) → y ≤ h → h ≤ noRow → y ≤ firstFrom p y (h - y)
-  first-after y h l m = from-from y h (firstFrom p y (h - y)) (omega arith) (first-from (h - y) y h (omega arith))
-
   low-code : (h : ℕ) (b : Option ℕ) (y : ℕ) → h ≤ noRow → Answers (rowNumber y) h b → rowCode b ≤ noRow
   unfolding rowCode
   low-code h none y m a = omega arith

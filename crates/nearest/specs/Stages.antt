@@ -47,10 +47,6 @@ pub record RowRoom (near costs s t places : List ℕ) (rows cols : List ℤ) : T
 pub record Low (near : List ℕ) : Type 0 where
   pub low : (k : ℕ) → k < length near → getD near k 0 ≤ noRow
 
--- numbers from y on
-pub record From (y : ℕ) (near : List ℕ) : Type 0 where
-  pub from : (k : ℕ) → k < length near → y ≤ getD near k 0
-
 -- ---- first stage, first sweep: from the last row up
 
 -- the first of the n numbers from k on of which p holds

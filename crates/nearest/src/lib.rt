@@ -1,13 +1,14 @@
 // The feature transform of a plane: row and column of the nearest on-pixel of each pixel.
 // First stage: the nearest on-row of each column, in two sweeps over the rows. Second stage: the line pass along each row.
 ghost use mathlib.Core.Path.{_≡_};
+ghost use mathlib.Core.Bool.{cond};
 ghost use Prim.Native.Nat.{ℕ, _+_, _*_, _-_, _<_, _≤_};
 ghost use lib.IntN.{ℤ, pos};
 ghost use lib.ListN.{length, getD};
-ghost use Rattle.plane.specs.Plane.{Sides, table, planeOf};
+ghost use Rattle.plane.specs.Plane.{Sides, on, table, planeOf};
 ghost use Rattle.line.specs.Line.{mostLength, lineOf};
 ghost use Rattle.nearest.specs.Nearest.{rowsPlane, columnsPlane};
-ghost use Rattle.nearest.specs.Stages.{noRow, Room, Lines, RowRoom, Low, From, belowAt, ownOr, codeOf, nearer, nearerLine, squareCost, costsLine, rowAt, columnAt, rowsLine, columnsLine, rowsOf, columnsOf};
+ghost use Rattle.nearest.specs.Stages.{noRow, Room, Lines, RowRoom, Low, belowAt, ownOr, codeOf, nearer, nearerLine, squareCost, costsLine, rowAt, columnAt, rowsLine, columnsLine, rowsOf, columnsOf};
 
 // Stands for the row of a column that has no on-pixel.
 const NO_ROW: u32 = 1073741824;
@@ -22,21 +23,25 @@ fn wide(x: u32) -> usize
     x as usize
 }
 
+// Row y where its pixel is on, else the row from below.
+fn own_row(b: u8, y: u32, below: u32) -> u32
+    ensures { λ r. ⌜ r ≡ cond (on b) y below ⌝ }
+{
+    if b == 0 { below } else { y }
+}
+
 // For each column the first on-row at or below row y, in the line and in row y of the plane; near has it for the row below.
 fn below_line(mask: &[u8], y: u32, near: &mut [u32], rows: &mut [i32])
     requires { ⌜ length (now mask) ≡ length (now near) ⌝ }
     requires { ⌜ length (now rows) ≡ length (now near) ⌝ }
     requires { ⌜ y ≤ noRow ⌝ }
     requires { ⌜ Low (now near) ⌝ }
-    requires { ⌜ From y (now near) ⌝ }
     ensures { λ _. ⌜ now (near .exit) ≡ table (ownOr (now (mask .entry)) y (now (near .entry))) 0 (length (now (near .entry))) ⌝ }
     ensures { λ _. ⌜ now (rows .exit) ≡ table (λ (x : ℕ). pos (ownOr (now (mask .entry)) y (now (near .entry)) x)) 0 (length (now (near .entry))) ⌝ }
 {
     let mut x = 0usize;
     while x < near.len() {
-        let own = if mask[x] == 0 { NO_ROW } else { y };
-        let b = near[x];
-        let v = if b < own { b } else { own };
+        let v = own_row(mask[x], y, near[x]);
         near[x] = v;
         rows[x] = v as i32;
         x += 1;

@@ -13,7 +13,7 @@ use Rattle.plane.proofs.Search.{which}
 use Rattle.plane.proofs.Plane.{row-in, table-length, table-at, plane-is}
 use Rattle.nearest.specs.Stages.{noRow, belowAt, ownOr}
 use Rattle.nearest.proofs.InPlace.{table-same, put-same, put-other}
-use Rattle.nearest.proofs.Stages.{below-none, below-low, below-from, own-below}
+use Rattle.nearest.proofs.Stages.{below-none, below-low, own-below}
 use Rattle.nearest.proofs.below.Statement.{statement}
 use Rattle.nearest.proofs.below.Tie as tie
 
@@ -79,7 +79,7 @@ below-line-requires c κs =
     let r = row-in (l .y - 1) (a .h) (a .w) (omega arith) in
     let e : length (l .near) ≡ a .w = ap length (l .inv .1) ∙ table-length (belowAt (a .mask .now) (a .h) (a .w) (l .y)) 0 (a .w) in
     let s = o .pre .0 in
-    (simp (length-take, length-drop) (omega arith), (simp (length-take, length-drop) (omega arith), (omega arith, (rw (l .inv .1) (below-low (a .mask .now) (a .h) (a .w) (l .y) (l .inv .0) (omega arith)), rw (l .inv .1) (below-from (a .mask .now) (a .h) (a .w) (l .y) (l .y - 1) (l .inv .0) (omega arith) (omega arith))))))
+    (simp (length-take, length-drop) (omega arith), (simp (length-take, length-drop) (omega arith), (omega arith, rw (l .inv .1) (below-low (a .mask .now) (a .h) (a .w) (l .y) (l .inv .0) (omega arith)))))
 
 loop-less : tie.Need-loop-less Inv-loop μ-loop
 loop-less c = omega arith

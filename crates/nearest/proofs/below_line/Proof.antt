@@ -1,20 +1,20 @@
 -- `nearest::below_line` meets its contract.
 -- Assumes nothing.
 use mathlib.Core.Path.{_≡_, refl, sym, ap, _∙_}
-use mathlib.Core.Bool.{cond}
-use mathlib.Core.Logic.{_⊎_, inl, inr, ⊎-elim}
+use mathlib.Core.Bool.{true, false, cond}
+use mathlib.Core.Logic.{⊎-elim}
 use Prim.Native.Nat.{ℕ, _-_, _≤_, _<_}
-use lib.Dec.{eqb}
 use lib.IntN.{pos}
 use lib.ListN.{length, getD, length-set}
 use native.Mathlib.Omega.{arith}
-use borrow.Author.Tests.{eq-eqb, ne-eqb}
 use mir.Syntax.{w32}
 use mir.Facts.{toZ-pos}
 use Rattle.plane.specs.Plane.{on}
+use Rattle.plane.proofs.Search.{either}
 use Rattle.plane.proofs.Plane.{table-is, filled}
 use Rattle.nearest.specs.Stages.{ownOr}
 use Rattle.nearest.proofs.InPlace.{untouched}
+use borrow.Author.Needs.{needs}
 use Rattle.nearest.proofs.below_line.Statement.{statement}
 use Rattle.nearest.proofs.below_line.Tie as tie
 
@@ -30,45 +30,34 @@ Inv-loop mask y near₀ rows₀ x₀ near rows x =
 abbrev μ-loop : tie.MeasureT-loop
 μ-loop mask y near₀ rows₀ x₀ near rows x = length near₀ - x
 
--- the row's own number: y where its pixel is on, else noRow
-own : (c : tie.Joined1 Inv-loop μ-loop)
-    → ((getD (c .before .before .before .before .args .mask .now) (c .before .before .before .loop .x) 0 ≡ 0) × (c .if1 .own ≡ 1073741824))
-    ⊎ ((getD (c .before .before .before .before .args .mask .now) (c .before .before .before .loop .x) 0 ≡ 0 → ⊥) × (c .if1 .own ≡ c .before .before .before .before .args .y))
-own c = ⊎-elim (λ w. inl (w .0 .taken, w .1)) (λ w. inr (w .0 .left, w .1)) (c .if1 .came)
-
 -- what is stored is the definition's number, and a row or noRow
-chosen : (c : tie.Joined2 Inv-loop μ-loop)
-    → (c .if2 .v ≡ ownOr (c .before .before .before .before .before .before .args .mask .now) (c .before .before .before .before .before .before .args .y) (c .before .before .before .before .before .before .args .near .now) (c .before .before .before .before .before .loop .x))
-    × (c .if2 .v ≤ 1073741824)
-unfolding ownOr on
+chosen : (c : tie.After-own-row Inv-loop μ-loop) → (c .own-row .result ≡ ownOr (c .before .before .before .before .before .before .before .args .mask .now) (c .before .before .before .before .before .before .before .args .y) (c .before .before .before .before .before .before .before .args .near .now) (c .before .before .before .before .loop .x)) × (c .own-row .result ≤ 1073741824)
+unfolding ownOr
 chosen c =
-    let l = c .before .before .before .before .before .loop in
-    let o = c .before .before .before .before .before .before in
+    let l = c .before .before .before .before .loop in
+    let o = c .before .before .before .before .before .before .before in
     let a = o .args in
-    let b = l .inv .4 (l .x) (omega arith) in
-    let low = o .pre .1 .1 .1 .0 .low (l .x) (omega arith) in
-    let from = o .pre .1 .1 .1 .1 .from (l .x) (omega arith) in
-    let up = c .if2 .came in
-    ⊎-elim
-    (λ w.
-    let z : c .if2 .v ≡ getD (a .near .now) (l .x) 0 = let own-is = w .1 in ⊎-elim (λ u. (let e = u .1 in let t = u .0 .taken in omega arith)) (λ u. (let e = u .1 in let t = u .0 .left in omega arith)) up in
-    (z ∙ rw (eq-eqb (getD (a .mask .now) (l .x) 0) 0 (w .0)), omega arith))
-    (λ w.
-    let z : c .if2 .v ≡ a .y = let own-is = w .1 in ⊎-elim (λ u. (let e = u .1 in let t = u .0 .taken in omega arith)) (λ u. (let e = u .1 in let t = u .0 .left in omega arith)) up in
-    (z ∙ rw (ne-eqb (getD (a .mask .now) (l .x) 0) 0 (w .0)), omega arith))
-    (own (c .before .before))
+    let b : getD (l .near) (l .x) 0 ≡ getD (a .near .now) (l .x) 0 = l .inv .4 (l .x) (omega arith) in
+    let low = o .pre .1 .1 .1 .low (l .x) (omega arith) in
+    let high = o .pre .1 .1 .0 in
+    let on-b = on (getD (a .mask .now) (l .x) 0) in
+    let e : c .own-row .result ≡ cond on-b (a .y) (getD (a .near .now) (l .x) 0) = c .own-row .ensures ∙ ap (cond on-b (a .y)) b in
+    (e, rw e (⊎-elim (λ (t : on-b ≡ true). rw t high) (λ (t : on-b ≡ false). rw t low) (either on-b)))
 
 loop-holds : tie.Need-loop-holds Inv-loop μ-loop
-loop-holds c = let p = c .pre in (omega arith, refl, p .1 .0, (λ k h. absurd (omega arith)), (λ k h. refl), (λ k h. absurd (omega arith)))
+loop-holds c = let p = c .before .before .pre in (omega arith, refl, p .1 .0, (λ k h. absurd (omega arith)), (λ k h. refl), (λ k h. absurd (omega arith)))
 
-shared-slice-read-if1 : tie.Need-shared-slice-read-if1 Inv-loop μ-loop
-shared-slice-read-if1 c = omega arith
+shared-slice-read-own-row : tie.Need-shared-slice-read-own-row Inv-loop μ-loop
+shared-slice-read-own-row c = omega arith
 
-mul-b : tie.Need-mul-b Inv-loop μ-loop
-mul-b c = omega arith
+mul-own-row : tie.Need-mul-own-row Inv-loop μ-loop
+mul-own-row c = omega arith
 
-slice-read-b : tie.Need-slice-read-b Inv-loop μ-loop
-slice-read-b c = omega arith
+slice-read-own-row : tie.Need-slice-read-own-row Inv-loop μ-loop
+slice-read-own-row c = omega arith
+
+own-row-requires : tie.Need-own-row-requires Inv-loop μ-loop
+own-row-requires c κs = search needs
 
 mul-near : tie.Need-mul-near Inv-loop μ-loop
 mul-near c = omega arith
@@ -79,8 +68,8 @@ slice-write-near c = omega arith
 cast-rows : tie.Need-cast-rows Inv-loop μ-loop
 cast-rows c = let l = chosen c .1 in record { sfits = omega arith }
 
-mul-t9 : tie.Need-mul-t9 Inv-loop μ-loop
-mul-t9 c = omega arith
+mul-t7 : tie.Need-mul-t7 Inv-loop μ-loop
+mul-t7 c = omega arith
 
 slice-set-from-rows : tie.Need-slice-set-from-rows Inv-loop μ-loop
 slice-set-from-rows c = omega arith
@@ -93,10 +82,9 @@ loop-less c = omega arith
 
 loop-again : tie.Need-loop-again Inv-loop μ-loop
 loop-again c =
-    let l = c .before .before .before .before .before .loop in
-    let o = c .before .before .before .before .before .before in
-    let a = o .args in
-    let v = c .if2 .v in
+    let l = c .before .before .before .before .loop in
+    let a = c .before .before .before .before .before .before .before .args in
+    let v = c .own-row .result in
     let e = chosen c .0 in
     let m = chosen c .1 in
     let z = toZ-pos w32 {n = v} (omega arith) in (
@@ -112,12 +100,12 @@ same-length : tie.Need-same-length Inv-loop μ-loop
 same-length c = c .before .loop .inv .1
 
 same-length-2 : tie.Need-same-length-2 Inv-loop μ-loop
-same-length-2 c = c .before .loop .inv .2 ∙ sym (c .before .before .pre .1 .0)
+same-length-2 c = c .before .loop .inv .2 ∙ sym (c .before .before .before .before .pre .1 .0)
 
 returns : tie.Need-returns Inv-loop μ-loop
 returns c =
     let l = c .before .loop in
-    let a = c .before .before .args in (
+    let a = c .before .before .before .before .args in (
       table-is (ownOr (a .mask .now) (a .y) (a .near .now)) (length (a .near .now)) (l .near) 0 (l .inv .1) (λ k g. l .inv .3 k (omega arith)),
       table-is (λ (k : ℕ). pos (ownOr (a .mask .now) (a .y) (a .near .now) k)) (length (a .near .now)) (l .rows) (pos 0) (l .inv .2) (λ k g. l .inv .5 k (omega arith)),
     )
@@ -129,13 +117,14 @@ below-line-spec =
     Inv-loop
     μ-loop
     loop-holds
-    shared-slice-read-if1
-    mul-b
-    slice-read-b
+    shared-slice-read-own-row
+    mul-own-row
+    slice-read-own-row
+    own-row-requires
     mul-near
     slice-write-near
     cast-rows
-    mul-t9
+    mul-t7
     slice-set-from-rows
     add-x
     loop-less

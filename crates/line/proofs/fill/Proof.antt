@@ -1,4 +1,4 @@
--- `line::no_answer` meets its contract.
+-- `line::fill` meets its contract.
 -- Assumes nothing.
 use mathlib.Core.Path.{_≡_, refl, _∙_}
 use mathlib.Core.List.{[], _++_, append-nil}
@@ -6,15 +6,15 @@ use Prim.Native.Nat.{_-_, _≤_}
 use lib.ListN.{length, drop, replicate, length-set, drop-of-length-le}
 use borrow.Author.Fill.{fill-more}
 use native.Mathlib.Omega.{arith}
-use Rattle.line.specs.Line.{noPlace}
-use Rattle.line.proofs.no_answer.Statement.{statement}
-use Rattle.line.proofs.no_answer.Tie as tie
+use Rattle.line.proofs.fill.Statement.{statement}
+use Rattle.line.proofs.fill.Tie as tie
 
 abbrev Inv-loop : tie.InvT-loop
-Inv-loop out₀ x₀ out x = (x ≤ length out) × (length out ≡ length out₀) × (out ≡ replicate x noPlace ++ drop x out₀)
+Inv-loop out₀ v x₀ out x =
+    (x ≤ length out) × (length out ≡ length out₀) × (out ≡ replicate x v ++ drop x out₀)
 
 abbrev μ-loop : tie.MeasureT-loop
-μ-loop out₀ x₀ out x = length out₀ - x
+μ-loop out₀ v x₀ out x = length out₀ - x
 
 loop-holds : tie.Need-loop-holds Inv-loop μ-loop
 loop-holds c = (omega arith, refl, refl)
@@ -36,8 +36,8 @@ loop-again c =
     let l = c .before .loop in
     let a = c .before .before .args in (
       simp length-set (omega arith),
-      length-set (l .out) (l .x) noPlace ∙ l .inv .1,
-      rw (l .inv .2) (fill-more (l .x) noPlace (a .out .now) (omega arith)),
+      length-set (l .out) (l .x) (a .v) ∙ l .inv .1,
+      rw (l .inv .2) (fill-more (l .x) (a .v) (a .out .now) (omega arith)),
     )
 
 same-length : tie.Need-same-length Inv-loop μ-loop
@@ -51,8 +51,8 @@ returns c =
     let d : drop (l .x) (a .out .now) ≡ [] = drop-of-length-le (a .out .now) {i = l .x} (omega arith) in
     l .inv .2 ∙ rw (d, append-nil, e)
 
-pub no-answer-spec : {M : Type 1} → statement M
-no-answer-spec =
+pub fill-spec : {M : Type 1} → statement M
+fill-spec =
     tie.close
     (tie.spec
     Inv-loop
