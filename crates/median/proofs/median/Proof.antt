@@ -1,0 +1,55 @@
+-- `median::median` meets its contract.
+-- Assumes nothing.
+use mathlib.Core.Path.{_≡_, ap, _∙_}
+use Prim.Native.Nat.{_-_, _/_}
+use native.Mathlib.Omega.{arith}
+use lib.ListN.{length}
+use borrow.Author.Needs.{needs}
+use Rattle.colour.specs.Number.{plusZero, halfOf}
+use Rattle.median.specs.Median.{placed, lowerMiddle, upperMiddle, medianOf}
+use Rattle.median.proofs.Places.{placed-good}
+use Rattle.median.proofs.Laws.{signs-gone}
+use Rattle.median.proofs.median.Statement.{statement}
+use Rattle.median.proofs.median.Tie as tie
+
+sub-select : tie.Need-sub-select
+sub-select c = search needs
+
+select-requires : tie.Need-select-requires
+select-requires c κs = search needs
+
+select-requires-2 : tie.Need-select-requires-2
+select-requires-2 c κs = search needs
+
+half-requires : tie.Need-half-requires
+half-requires c κs = search needs
+
+plus-zero-requires : tie.Need-plus-zero-requires
+plus-zero-requires c κs = search needs
+
+returns : tie.Need-returns
+unfolding medianOf lowerMiddle upperMiddle
+returns c =
+    let s = c .before .before .before .before in
+    let l = s .before .args .values .now in
+    let some = s .before .pre .some in
+    let x = placed l (length l / 2 - 1) in
+    let y = placed l (length l / 2) in
+    let good = placed-good l (λ i h. s .shared-slice-known .given i) (s .before .pre .ok) in
+    let lower : c .before .before .before .select .result ≡ plusZero x = c .before .before .before .select .ensures in
+    let upper : c .before .before .select2 .result ≡ plusZero y = c .before .before .select2 .ensures in
+    let halved : c .before .half .result ≡ halfOf (c .before .before .before .select .result) (c .before .before .select2 .result) = c .before .half .ensures in
+    c .plus-zero .ensures
+    ∙ ap plusZero (halved ∙ rw (lower, upper))
+    ∙ signs-gone x y (good (length l / 2 - 1) (omega arith) .held) (good (length l / 2) (omega arith) .held)
+
+pub median-spec : {M : Type 1} → statement M
+median-spec =
+    tie.close
+    (tie.spec
+    sub-select
+    select-requires
+    select-requires-2
+    half-requires
+    plus-zero-requires
+    returns)

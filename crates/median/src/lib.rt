@@ -1,0 +1,47 @@
+// The reference of one channel: the median of its border values.
+ghost use mathlib.Core.Path.{_≡_};
+ghost use Rattle.colour.specs.Number.{plusZero};
+ghost use Rattle.median.specs.Median.{placed, medianOf, atMost, Channel, Place};
+
+// The bit pattern of 1.0: those of the numbers from 0 to 1 are at most this, and have the numbers' order.
+const ONE: u64 = 0x3ff0_0000_0000_0000;
+
+// How many values are at or below t.
+pub fn at_most(values: &[f64], t: f64) -> usize
+    ensures { λ r. ⌜ r ≡ atMost t (now (values .entry)) ⌝ }
+{
+    let mut n = 0usize;
+    for i in 0..values.len() {
+        n += (values[i] <= t) as usize;
+    }
+    n
+}
+
+// The value at place k of the values in order, a zero as +0: the least bit pattern at or below which more than k values are.
+pub fn select(values: &[f64], k: usize) -> f64
+    requires { ⌜ Place (now values) k ⌝ }
+    ensures { λ r. ⌜ r ≡ plusZero (placed (now (values .entry)) k) ⌝ }
+{
+    let mut lo = 0u64;
+    let mut hi = ONE;
+    while lo < hi {
+        let mid = lo + (hi - lo) / 2;
+        if k < at_most(values, f64::from_bits(mid)) {
+            hi = mid;
+        } else {
+            lo = mid + 1;
+        }
+    }
+    f64::from_bits(lo)
+}
+
+// Half of the sum of the two middle values, a zero as +0.
+pub fn median(values: &[f64]) -> f64
+    requires { ⌜ Channel (now values) ⌝ }
+    ensures { λ r. ⌜ r ≡ medianOf (now (values .entry)) ⌝ }
+{
+    let middle = values.len() / 2;
+    let lo = select(values, middle - 1);
+    let hi = select(values, middle);
+    colour::plus_zero(colour::half(lo, hi))
+}
