@@ -30,20 +30,27 @@ fn own_row(b: u8, y: u32, below: u32) -> u32
     if b == 0 { below } else { y }
 }
 
-// For each column the first on-row at or below row y, in the line and in row y of the plane; near has it for the row below.
-fn below_line(mask: &[u8], y: u32, near: &mut [u32], rows: &mut [i32])
+// For each column the first on-row at or below row y; near has it for the row below.
+fn below_line(mask: &[u8], y: u32, near: &mut [u32])
     requires { ⌜ length (now mask) ≡ length (now near) ⌝ }
-    requires { ⌜ length (now rows) ≡ length (now near) ⌝ }
-    requires { ⌜ y ≤ noRow ⌝ }
-    requires { ⌜ Low (now near) ⌝ }
     ensures { λ _. ⌜ now (near .exit) ≡ table (ownOr (now (mask .entry)) y (now (near .entry))) 0 (length (now (near .entry))) ⌝ }
-    ensures { λ _. ⌜ now (rows .exit) ≡ table (λ (x : ℕ). pos (ownOr (now (mask .entry)) y (now (near .entry)) x)) 0 (length (now (near .entry))) ⌝ }
 {
     let mut x = 0usize;
     while x < near.len() {
-        let v = own_row(mask[x], y, near[x]);
-        near[x] = v;
-        rows[x] = v as i32;
+        near[x] = own_row(mask[x], y, near[x]);
+        x += 1;
+    }
+}
+
+// The line as a row of the plane.
+fn store_line(near: &[u32], rows: &mut [i32])
+    requires { ⌜ length (now rows) ≡ length (now near) ⌝ }
+    requires { ⌜ Low (now near) ⌝ }
+    ensures { λ _. ⌜ now (rows .exit) ≡ table (λ (x : ℕ). pos (getD (now (near .entry)) x 0)) 0 (length (now (near .entry))) ⌝ }
+{
+    let mut x = 0usize;
+    while x < near.len() {
+        rows[x] = near[x] as i32;
         x += 1;
     }
 }
@@ -62,7 +69,8 @@ fn below(mask: &[u8], h: usize, w: usize, near: &mut [u32], rows: &mut [i32])
         let row = y - 1;
         let a = row * w;
         let e = a + w;
-        below_line(&mask[a..e], row as u32, near, &mut rows[a..e]);
+        below_line(&mask[a..e], row as u32, near);
+        store_line(near, &mut rows[a..e]);
         y = row;
     }
 }
