@@ -152,24 +152,22 @@ module _ (mask : List ℕ) (h w : ℕ) where
     some-row x i v g o (some j) e = (refl, refl)
 
     picked : (x : ℕ) (b : Option ℕ) → Answers (offer costs x) (length costs) b
-        → (columnOf (chosen (columnBest (rowCost mask w y) (upto h)) b) ≡ columnAt (nearLine mask h w y) (placeOf b))
+        → (columnOf (chosen (columnBest (rowCost mask w y) (upto h)) b) ≡ columnAt w (placeOf b))
         × (rowOf (chosen (columnBest (rowCost mask w y) (upto h)) b) ≡ rowAt (nearLine mask h w y) (placeOf b))
     unfolding chosen columnAt rowAt placeOf columnOf rowOf
     picked x none a =
         let long = near-length y in
-        let t = le-ltb noPlace (length (nearLine mask h w y)) (omega arith) in
-        (rw t, rw t)
+        (rw (le-ltb noPlace w (omega arith)), rw (le-ltb noPlace (length (nearLine mask h w y)) (omega arith)))
     picked x (some i) a =
         let inner = a .1 .inside in
         let long = costs-length in
         let near-long = near-length y in
         let g : i < w = omega arith in
         let z = some-row x i (a .0) g (a .1 .here) (columnBest (rowCost mask w y) (upto h) i) refl in
-        let t = lt-ltb i (length (nearLine mask h w y)) (omega arith) in
         let e : rowCode (columnBest (rowCost mask w y) (upto h) i) ≡ getD (nearLine mask h w y) i 0 = ap rowCode (walk-line (rowCost mask w y i) h) ∙ sym (near-at y i g) in
-        (z .0 ∙ rw t, z .1 ∙ rw (e, t))
+        (z .0 ∙ rw (lt-ltb i w g), z .1 ∙ rw (e, lt-ltb i (length (nearLine mask h w y)) (omega arith)))
 
-    answer : (x : ℕ) → (columnOf (nearest mask h w y x) ≡ columnAt (nearLine mask h w y) (placeOf (best costs x))) × (rowOf (nearest mask h w y x) ≡ rowAt (nearLine mask h w y) (placeOf (best costs x)))
+    answer : (x : ℕ) → (columnOf (nearest mask h w y x) ≡ columnAt w (placeOf (best costs x))) × (rowOf (nearest mask h w y x) ≡ rowAt (nearLine mask h w y) (placeOf (best costs x)))
     unfolding best
     answer x =
         let p = picked x (best costs x) (walk-answers (offer costs x) (length costs)) in
@@ -180,9 +178,10 @@ module _ (mask : List ℕ) (h w : ℕ) where
     unfolding columnsOf columnsLine
     columns-row =
         let long = costs-length in
-        ap (table (λ (x : ℕ). columnAt (nearLine mask h w y) (getD (lineOf costs) x 0)) 0) (near-length y)
-        ∙ table-same (λ (x : ℕ). columnAt (nearLine mask h w y) (getD (lineOf costs) x 0)) (λ (x : ℕ). columnOf (nearest mask h w y x)) w (pos 0)
-        (λ x g. ap (columnAt (nearLine mask h w y)) (line-at costs x (omega arith)) ∙ sym (answer x .0))
+        let wide-is : length (lineOf costs) ≡ w = line-length costs ∙ long in
+        ap (λ (n : ℕ). table (λ (x : ℕ). columnAt n (getD (lineOf costs) x 0)) 0 n) wide-is
+        ∙ table-same (λ (x : ℕ). columnAt w (getD (lineOf costs) x 0)) (λ (x : ℕ). columnOf (nearest mask h w y x)) w (pos 0)
+        (λ x g. ap (columnAt w) (line-at costs x (omega arith)) ∙ sym (answer x .0))
 
     pub rows-row : rowsOf y (nearLine mask h w y) ≡ table (λ (x : ℕ). rowOf (nearest mask h w y x)) 0 w
     unfolding rowsOf rowsLine

@@ -140,29 +140,38 @@ fn row_at(near: &[u32], i: usize) -> i32
     if i < near.len() { near[i] as i32 } else { -1 }
 }
 
-// Column i; 0 where there is no such column.
-fn column_at(near: &[u32], i: usize) -> i32
-    requires { ⌜ length (now near) ≤ mostLength ⌝ }
-    ensures { λ r. ⌜ r ≡ columnAt (now (near .entry)) i ⌝ }
+// Column i of n; 0 where there is no such column.
+fn column_at(n: u32, i: u32) -> i32
+    requires { ⌜ n ≤ mostLength ⌝ }
+    ensures { λ r. ⌜ r ≡ columnAt n i ⌝ }
 {
-    if i < near.len() { i as i32 } else { 0 }
+    if i < n { i as i32 } else { 0 }
 }
 
-// Row and column of the chosen column of each place.
-fn write_line(near: &[u32], places: &[u32], rows: &mut [i32], cols: &mut [i32])
-    requires { ⌜ length (now near) ≤ mostLength ⌝ }
+// The row of the chosen column of each place.
+fn rows_line(near: &[u32], places: &[u32], rows: &mut [i32])
     requires { ⌜ length (now places) ≡ length (now near) ⌝ }
     requires { ⌜ length (now rows) ≡ length (now near) ⌝ }
-    requires { ⌜ length (now cols) ≡ length (now near) ⌝ }
     requires { ⌜ Low (now near) ⌝ }
     ensures { λ _. ⌜ now (rows .exit) ≡ rowsLine (now (near .entry)) (now (places .entry)) ⌝ }
-    ensures { λ _. ⌜ now (cols .exit) ≡ columnsLine (now (near .entry)) (now (places .entry)) ⌝ }
 {
     let mut x = 0usize;
     while x < near.len() {
-        let i = wide(places[x]);
-        rows[x] = row_at(near, i);
-        cols[x] = column_at(near, i);
+        rows[x] = row_at(near, wide(places[x]));
+        x += 1;
+    }
+}
+
+// The chosen column of each place.
+fn columns_line(places: &[u32], cols: &mut [i32])
+    requires { ⌜ length (now places) ≤ mostLength ⌝ }
+    requires { ⌜ length (now cols) ≡ length (now places) ⌝ }
+    ensures { λ _. ⌜ now (cols .exit) ≡ columnsLine (now (places .entry)) ⌝ }
+{
+    let n = places.len() as u32;
+    let mut x = 0usize;
+    while x < places.len() {
+        cols[x] = column_at(n, places[x]);
         x += 1;
     }
 }
@@ -189,7 +198,8 @@ fn row_pass(
     nearer_line(y, rows, near);
     costs_line(y, near, costs);
     line::line(costs, s, t, places);
-    write_line(near, places, rows, cols);
+    rows_line(near, places, rows);
+    columns_line(places, cols);
 }
 
 // The planes, in lines of w numbers to work in; near holds no row at first.
