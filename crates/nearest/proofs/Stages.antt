@@ -1,15 +1,14 @@
 -- What the two stages give is the nearest on-pixel.
 -- Assumes nothing.
 use mathlib.Core.Path.{_≡_, refl, sym, ap, _∙_, subst}
-use mathlib.Core.Bool.{Bool, true, false, cond}
 use mathlib.Core.List.{List}
 use mathlib.Core.Option.{Option, none, some}
 use Prim.Native.Nat.{ℕ, _+_, _*_, _-_, _≤_, _<_}
 use native.Mathlib.Omega.{arith}
-use lib.IntN.{ℤ, pos, negsuc}
+use lib.IntN.{ℤ, pos}
 use lib.ListN.{length, getD, take, drop}
 use borrow.Author.Tests.{lt-ltb, le-ltb}
-use Rattle.plane.specs.Plane.{on, onAt, apart, table}
+use Rattle.plane.specs.Plane.{onAt, apart, table}
 use Rattle.plane.proofs.Plane.{table-length, table-at, part-at}
 use Rattle.line.specs.Walk.{firstLeast, Answers}
 use Rattle.line.specs.Line.{mostCost, mostLength, noPlace, offer, best, placeOf, lineOf}
@@ -19,9 +18,9 @@ use Rattle.line.proofs.Walk.{walk-answers}
 use Rattle.line.proofs.Best.{line-length, line-at, offered}
 use Rattle.line.proofs.Grid.{columnBest, columnCost, walk-line, two-stages}
 use Rattle.nearest.specs.Nearest.{rowCost, nearest, rowOf, columnOf}
-use Rattle.nearest.specs.Stages.{noRow, noCost, Low, firstFrom, belowAt, ownOr, codeOf, nearer, nearerLine, rowCode, nearLine, squareCost, costsLine, rowAt, columnAt, rowsLine, columnsLine, rowsOf, columnsOf}
+use Rattle.nearest.specs.Stages.{noRow, Low, belowAt, ownOr, codeOf, nearer, nearerLine, rowCode, nearLine, squareCost, costsLine, rowAt, columnAt, rowsLine, columnsLine, rowsOf, columnsOf}
 use Rattle.nearest.proofs.InPlace.{table-same}
-use Rattle.nearest.proofs.Sweep.{rowNumber, numbered, first-step, first-none, first-low, code-low, sweep-step, sweep-start}
+use Rattle.nearest.proofs.Sweep.{numbered, first-step, first-none, first-low, code-low, sweep-step, sweep-start}
 
 module _ (mask : List ℕ) (h w : ℕ) where
   -- ---- the first sweep

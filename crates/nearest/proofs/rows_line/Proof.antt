@@ -1,6 +1,6 @@
 -- `nearest::rows_line` meets its contract.
 -- Assumes nothing.
-use mathlib.Core.Path.{_≡_, refl, sym, _∙_}
+use mathlib.Core.Path.{_≡_, sym, _∙_}
 use Prim.Native.Nat.{ℕ, _-_, _≤_, _<_}
 use lib.IntN.{pos}
 use lib.ListN.{length, getD, length-set}
