@@ -7,7 +7,7 @@ use native.Mathlib.Omega.{arith}
 use lib.Dec.{leb, eqb}
 use borrow.Author.Tests.{leb-true, le-leb}
 use Rattle.plane.specs.Plane.{mostSide, Sides}
-use Rattle.plane.specs.Refusal.{sidesOk, numberFor, after}
+use Rattle.plane.specs.Refusal.{sidesOk, numberFor}
 use Rattle.plane.proofs.Search.{not-both}
 
 pub and-true : (s t : Bool) → s && t ≡ true → (s ≡ true) × (t ≡ true)
@@ -32,7 +32,6 @@ accepted false inputs room e = never 0 e
 
 -- accepted sides
 pub sides-are : (h w : ℕ) → sidesOk h w ≡ true → Sides h w
-unfolding sidesOk
 sides-are h w e =
     let a = and-true (leb 1 h && leb h mostSide && leb 1 w) (leb w mostSide) e in
     let b = and-true (leb 1 h && leb h mostSide) (leb 1 w) (a .0) in
@@ -46,5 +45,4 @@ sides-are h w e =
 
 -- and every such side is accepted
 pub sides-accepted : (h w : ℕ) → Sides h w → sidesOk h w ≡ true
-unfolding sidesOk
 sides-accepted h w s = simp (le-leb 1 h (s .some-rows), le-leb h mostSide (s .tall), le-leb 1 w (s .some-columns), le-leb w mostSide (s .wide))

@@ -6,11 +6,11 @@ use lib.Dec.{eqb, leb}
 use Rattle.plane.specs.Plane.{mostSide}
 
 -- each side is from 1 to the largest side
-unfoldable pub sidesOk : ℕ → ℕ → Bool
+abbrev pub sidesOk : ℕ → ℕ → Bool
 sidesOk h w = leb 1 h && leb h mostSide && leb 1 w && leb w mostSide
 
 -- how many numbers a work buffer holds at least
-unfoldable pub roomFor : ℕ → ℕ → ℕ
+abbrev pub roomFor : ℕ → ℕ → ℕ
 roomFor h w = 2 * (h * w) + 2 * (h + w) + 16
 
 -- 0 where all is well, else the number of the first thing that is not: sides, then inputs, then outputs and work buffers

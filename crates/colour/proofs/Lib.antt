@@ -1,0 +1,7 @@
+pub mod Compare
+pub mod Zero
+pub mod Order
+pub mod Range
+pub mod Same
+pub mod Table
+pub mod Cases

@@ -1,0 +1,5 @@
+pub mod Number
+pub mod Colour
+pub mod Join
+pub mod Weight
+pub mod Settings

@@ -1,0 +1,9 @@
+pub mod Cases
+pub mod Counts
+pub mod Joined
+pub mod Firsts
+pub mod Laws
+pub mod Steps
+pub mod Room
+pub mod Flooding
+pub mod Reached

@@ -1,0 +1,67 @@
+-- `labels::visit` meets its contract.
+-- Assumes nothing.
+use borrow.Author.Needs.{needs}
+use borrow.Author.Tests.{eq-eqb, ne-eqb}
+use lib.ListN.{getD}
+use Rattle.labels.specs.Flood.{unset, state, pushed, visited}
+use Rattle.labels.proofs.Room.{room-for}
+use Rattle.labels.proofs.visit.Statement.{statement}
+use Rattle.labels.proofs.visit.Tie as tie
+
+mul-if1 : tie.Need-mul-if1
+mul-if1 c = search needs
+
+slice-read-if1 : tie.Need-slice-read-if1
+slice-read-if1 c = search needs
+
+returns : tie.Need-returns
+unfolding visited
+returns c = let a = c .before .before .args in rw (ne-eqb (getD (a .labels .now) (a .q) 0) unset (c .if1 .taken))
+
+mul-labels : tie.Need-mul-labels
+mul-labels c = search needs
+
+slice-write-labels : tie.Need-slice-write-labels
+slice-write-labels c = search needs
+
+cast-stack : tie.Need-cast-stack
+cast-stack c = search needs
+
+mul-stack : tie.Need-mul-stack
+mul-stack c = search needs
+
+slice-write-stack : tie.Need-slice-write-stack
+slice-write-stack c =
+    let a = c .before .before .args in
+    let pre = c .before .before .pre in
+    room-for (state (a .top) (a .stack .now) (a .labels .now)) (a .q) (pre .1) (pre .0) (c .if1 .left)
+
+add-result : tie.Need-add-result
+add-result c = search needs
+
+same-length : tie.Need-same-length
+same-length c = search needs
+
+same-length-2 : tie.Need-same-length-2
+same-length-2 c = search needs
+
+returns-2 : tie.Need-returns-2
+unfolding visited pushed
+returns-2 c = let a = c .before .before .args in rw (eq-eqb (getD (a .labels .now) (a .q) 0) unset (c .if1 .left))
+
+pub visit-spec : {M : Type 1} → statement M
+visit-spec =
+    tie.close
+    (tie.spec
+    mul-if1
+    slice-read-if1
+    returns
+    mul-labels
+    slice-write-labels
+    cast-stack
+    mul-stack
+    slice-write-stack
+    add-result
+    same-length
+    same-length-2
+    returns-2)

@@ -1,0 +1,54 @@
+-- The stack of the line pass, which the contracts of its parts cite: site s[q] is the best of the first u places from t[q] on, up to t[q + 1].
+-- Assumes nothing.
+use Prim.Native.Nat.{ℕ, _+_, _*_, _-_, _/_, _≤_, _<_}
+use mathlib.Core.Path.{_≡_}
+use mathlib.Core.List.{List}
+use lib.ListN.{length, getD}
+use Rattle.line.specs.Line.{Site, valueAt, mostLength}
+
+-- the line is not too long, and the work space is as long
+pub record Room (costs s t : List ℕ) : Type 0 where
+  pub short : length costs ≤ mostLength
+  pub sites : length costs ≤ length s
+  pub starts : length costs ≤ length t
+
+-- i is the first best site for x among the first u places
+pub record Leads (costs : List ℕ) (u x i : ℕ) : Type 0 where
+  pub inside : i < u
+  pub site : Site costs i
+  pub least : (j : ℕ) → j < u → Site costs j → valueAt costs x i ≤ valueAt costs x j
+  pub first : (j : ℕ) → j < i → Site costs j → valueAt costs x i < valueAt costs x j
+
+pub record Stack (costs s t : List ℕ) (u count : ℕ) : Type 0 where
+  pub small : count ≤ u
+  pub empty : count ≡ 0 → (j : ℕ) → j < u → Site costs j → ⊥
+  pub start : 0 < count → getD t 0 0 ≡ 0
+  pub inside : (q : ℕ) → q < count → getD t q 0 < length costs
+  pub rises : (q : ℕ) → q + 1 < count → getD t q 0 < getD t (q + 1) 0
+  pub leads : (q : ℕ) → q < count → (x : ℕ) → getD t q 0 ≤ x → x < length costs → (q + 1 < count → x < getD t (q + 1) 0) → Leads costs u x (getD s q 0)
+
+-- what is left of the stack when the sites that u beats already at their own start are taken off
+pub record Dropped (costs s t : List ℕ) (u count r : ℕ) : Type 0 where
+  pub fewer : r ≤ count
+  pub worse : (q : ℕ) → r ≤ q → q < count → valueAt costs (getD t q 0) u < valueAt costs (getD t q 0) (getD s q 0)
+  pub better : 0 < r → valueAt costs (getD t (r - 1) 0) (getD s (r - 1) 0) ≤ valueAt costs (getD t (r - 1) 0) u
+
+-- cost and square of the place
+abbrev pub height : List ℕ → ℕ → ℕ
+height costs i = getD costs i 0 + i * i
+
+-- the first x at which u, to the right of i, is strictly better than i
+unfoldable pub takeoverAt : List ℕ → ℕ → ℕ → ℕ
+takeoverAt costs i u = (height costs u - height costs i) / (2 * (u - i)) + 1
+
+-- x lies in segment q, or where the next one starts
+pub record Near (t : List ℕ) (count q x : ℕ) : Type 0 where
+  pub inside : q < count
+  pub from : getD t q 0 ≤ x
+  pub upto : q + 1 < count → x ≤ getD t (q + 1) 0
+
+-- x lies in segment q
+pub record Within (t : List ℕ) (count q x : ℕ) : Type 0 where
+  pub inside : q < count
+  pub from : getD t q 0 ≤ x
+  pub upto : q + 1 < count → x < getD t (q + 1) 0

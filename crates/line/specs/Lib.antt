@@ -1,0 +1,4 @@
+pub mod Walk
+pub mod Line
+pub mod Envelope
+pub mod Grid

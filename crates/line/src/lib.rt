@@ -1,0 +1,189 @@
+// The line pass of an exact Euclidean feature transform: for each place of a line the first site with the least cost + (x - i)².
+ghost use mathlib.Core.Path.{_≡_};
+ghost use Prim.Native.Nat.{ℕ, _+_, _*_, _<_, _≤_};
+ghost use lib.ListN.{length, getD, replicate};
+ghost use Rattle.line.specs.Line.{mostLength, noPlace, Site, valueAt, lineOf};
+ghost use Rattle.plane.specs.Plane.{apart};
+ghost use Rattle.line.specs.Envelope.{Room, Stack, Dropped, Near, Within, height, takeoverAt};
+
+// A place whose cost is above this has no site (2^33).
+pub const MAX_COST: u64 = 8589934592;
+
+// What is written where the line has no site.
+pub const NO_PLACE: u32 = 4294967295;
+
+// A place as an index.
+fn wide(x: u32) -> usize
+    ensures { λ r. ⌜ r ≡ x ⌝ }
+{
+    x as usize
+}
+
+// How far apart two places are.
+pub fn gap(x: usize, i: usize) -> u64
+    ensures { λ r. ⌜ r ≡ apart x i ⌝ }
+{
+    if x < i {
+        (i - x) as u64
+    } else {
+        (x - i) as u64
+    }
+}
+
+// The cost of place i and the square of its distance from x.
+fn value(costs: &[u64], x: usize, i: usize) -> u64
+    requires { ⌜ i < length (now costs) ⌝ }
+    requires { ⌜ Site (now costs) i ⌝ }
+    requires { ⌜ i < mostLength ⌝ }
+    requires { ⌜ x < mostLength ⌝ }
+    ensures { λ r. ⌜ r ≡ valueAt (now (costs .entry)) x i ⌝ }
+{
+    let d = gap(x, i);
+    costs[i] + d * d
+}
+
+// The cost of place i and its square.
+fn high(costs: &[u64], i: usize) -> u64
+    requires { ⌜ i < length (now costs) ⌝ }
+    requires { ⌜ Site (now costs) i ⌝ }
+    requires { ⌜ i < mostLength ⌝ }
+    ensures { λ r. ⌜ r ≡ height (now (costs .entry)) i ⌝ }
+{
+    let d = i as u64;
+    costs[i] + d * d
+}
+
+// The first x at which u is strictly better than i, which lies to its left.
+fn takeover(costs: &[u64], i: usize, u: usize) -> usize
+    requires { ⌜ i < u ⌝ }
+    requires { ⌜ u < length (now costs) ⌝ }
+    requires { ⌜ u < mostLength ⌝ }
+    requires { ⌜ Site (now costs) i ⌝ }
+    requires { ⌜ Site (now costs) u ⌝ }
+    requires { ⌜ height (now costs) i ≤ height (now costs) u ⌝ }
+    ensures { λ r. ⌜ r ≡ takeoverAt (now (costs .entry)) i u ⌝ }
+{
+    let rise = (high(costs, u) - high(costs, i)) as usize;
+    rise / (2 * (u - i)) + 1
+}
+
+// The number of sites that stay when those are taken off the top that u beats already at their own start.
+fn drop_worse(costs: &[u64], s: &[u32], t: &[u32], count: usize, u: usize) -> usize
+    requires { ⌜ Room (now costs) (now s) (now t) ⌝ }
+    requires { ⌜ u < length (now costs) ⌝ }
+    requires { ⌜ Site (now costs) u ⌝ }
+    requires { ⌜ Stack (now costs) (now s) (now t) u count ⌝ }
+    ensures { λ r. ⌜ Dropped (now (costs .entry)) (now (s .entry)) (now (t .entry)) u count r ⌝ }
+{
+    let mut k = count;
+    while 0 < k {
+        let top = k - 1;
+        let x = wide(t[top]);
+        let i = wide(s[top]);
+        if value(costs, x, i) <= value(costs, x, u) {
+            return k;
+        }
+        k = top;
+    }
+    k
+}
+
+// One site more; the new number of sites.
+fn push_site(costs: &[u64], s: &mut [u32], t: &mut [u32], count: usize, u: usize) -> usize
+    requires { ⌜ Room (now costs) (now s) (now t) ⌝ }
+    requires { ⌜ u < length (now costs) ⌝ }
+    requires { ⌜ Site (now costs) u ⌝ }
+    requires { ⌜ Stack (now costs) (now s) (now t) u count ⌝ }
+    ensures { λ r. ⌜ Stack (now (costs .entry)) (now (s .exit)) (now (t .exit)) (u + 1) r ⌝ }
+{
+    let k = drop_worse(costs, s, t, count, u);
+    if k == 0 {
+        s[0] = u as u32;
+        t[0] = 0;
+        return 1;
+    }
+    let top = k - 1;
+    let i = wide(s[top]);
+    let from = takeover(costs, i, u);
+    if from < costs.len() {
+        s[k] = u as u32;
+        t[k] = from as u32;
+        return k + 1;
+    }
+    k
+}
+
+// The stack of the whole line; the number of its sites.
+fn build(costs: &[u64], s: &mut [u32], t: &mut [u32]) -> usize
+    requires { ⌜ Room (now costs) (now s) (now t) ⌝ }
+    ensures { λ r. ⌜ Stack (now (costs .entry)) (now (s .exit)) (now (t .exit)) (length (now (costs .entry))) r ⌝ }
+{
+    let mut count = 0usize;
+    let mut u = 0usize;
+    while u < costs.len() {
+        if costs[u] <= MAX_COST {
+            count = push_site(costs, s, t, count, u);
+        }
+        u += 1;
+    }
+    count
+}
+
+// The segment of x, which is that of the place before or the next.
+fn next_segment(costs: &[u64], s: &[u32], t: &[u32], count: usize, q: usize, x: usize) -> usize
+    requires { ⌜ Room (now costs) (now s) (now t) ⌝ }
+    requires { ⌜ Stack (now costs) (now s) (now t) (length (now costs)) count ⌝ }
+    requires { ⌜ Near (now t) count q x ⌝ }
+    ensures { λ r. ⌜ Within (now (t .entry)) count r x ⌝ }
+{
+    let next = q + 1;
+    if next < count {
+        if wide(t[next]) <= x {
+            return next;
+        }
+    }
+    q
+}
+
+// The best site of each place.
+fn answer(costs: &[u64], s: &[u32], t: &[u32], count: usize, out: &mut [u32])
+    requires { ⌜ Room (now costs) (now s) (now t) ⌝ }
+    requires { ⌜ length (now out) ≡ length (now costs) ⌝ }
+    requires { ⌜ 0 < count ⌝ }
+    requires { ⌜ Stack (now costs) (now s) (now t) (length (now costs)) count ⌝ }
+    ensures { λ _. ⌜ now (out .exit) ≡ lineOf (now (costs .entry)) ⌝ }
+{
+    let mut q = 0usize;
+    let mut x = 0usize;
+    while x < out.len() {
+        q = next_segment(costs, s, t, count, q, x);
+        out[x] = s[q];
+        x += 1;
+    }
+}
+
+// A line with no site.
+fn no_answer(out: &mut [u32])
+    ensures { λ _. ⌜ now (out .exit) ≡ replicate (length (now (out .entry))) noPlace ⌝ }
+{
+    let mut x = 0usize;
+    while x < out.len() {
+        out[x] = NO_PLACE;
+        x += 1;
+    }
+}
+
+// For each place of a line the first site with the least cost + (x - i)²; NO_PLACE where the line has no site.
+// s and t are work space, as long as the line.
+pub fn line(costs: &[u64], s: &mut [u32], t: &mut [u32], out: &mut [u32])
+    requires { ⌜ Room (now costs) (now s) (now t) ⌝ }
+    requires { ⌜ length (now out) ≡ length (now costs) ⌝ }
+    ensures { λ _. ⌜ now (out .exit) ≡ lineOf (now (costs .entry)) ⌝ }
+{
+    let count = build(costs, s, t);
+    if count == 0 {
+        no_answer(out);
+        return;
+    }
+    answer(costs, s, t, count, out);
+}

@@ -1,0 +1,5 @@
+pub mod Cases
+pub mod InPlace
+pub mod Sweep
+pub mod Stages
+pub mod Laws

@@ -1,0 +1,34 @@
+-- `nearest::row_at` meets its contract.
+-- Assumes nothing.
+use native.Mathlib.Omega.{arith}
+use lib.ListN.{length, getD}
+use borrow.Author.Tests.{lt-ltb, le-ltb}
+use mir.Syntax.{w32}
+use mir.Facts.{toZ-pos}
+use borrow.Author.Needs.{needs}
+use Rattle.nearest.specs.Stages.{rowAt}
+use Rattle.nearest.proofs.row_at.Statement.{statement}
+use Rattle.nearest.proofs.row_at.Tie as tie
+
+mul-result : tie.Need-mul-result
+mul-result c = search needs
+
+shared-slice-read-result : tie.Need-shared-slice-read-result
+shared-slice-read-result c = search needs
+
+cast-result : tie.Need-cast-result
+cast-result c = let a = c .before .before .args in let l = c .before .before .pre .low (a .i) (c .before .if1 .taken) in record { sfits = omega arith }
+
+returns : tie.Need-returns
+unfolding rowAt
+returns c =
+    let a = c .before .before .args in
+    let l = c .before .before .pre .low (a .i) (c .before .if1 .taken) in
+    rw (toZ-pos w32 {n = getD (a .near .now) (a .i) 0} (omega arith), lt-ltb (a .i) (length (a .near .now)) (c .before .if1 .taken))
+
+returns-2 : tie.Need-returns-2
+unfolding rowAt
+returns-2 c = rw (le-ltb _ _ (c .if1 .left))
+
+pub row-at-spec : {M : Type 1} → statement M
+row-at-spec = tie.close (tie.spec mul-result shared-slice-read-result cast-result returns returns-2)

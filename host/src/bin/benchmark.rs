@@ -1,0 +1,385 @@
+//! Ours and mask.rs side by side, in one process, on the same masks.
+//!
+//! ```text
+//! cargo run --release --manifest-path host/Cargo.toml --bin benchmark [-- [wall] [RUNS] [SIDE..]]
+//! ```
+//!
+//! The clock counts the processor time of this thread, the system's work for it included, where the
+//! system tells it (/proc/thread-self/schedstat): on an idle machine that is the time that passes,
+//! and on a busy one it leaves out the time of others. `wall` takes the time that passes.
+//! RUNS is how often each is timed (at least 5, which is the default), in turn; the median counts.
+//! SIDE is the side of the square planes: 1024 2048 4096 by default. Ours writes into buffers that
+//! were made and touched before the clock starts; mask.rs allocates its planes, as it always does,
+//! and gives them back after the clock has stopped. Both are built for release.
+//!
+//! Prints a Markdown page with ns per pixel, the ratio (mask.rs's time over ours), and the memory
+//! that is lent.
+
+include!(concat!(env!("OUT_DIR"), "/the_rust.rs"));
+
+#[path = "../../support/lent.rs"]
+mod lent;
+#[path = "../../support/masks.rs"]
+mod masks;
+
+use lent::Lent;
+use masks::Random;
+use std::fs;
+use std::hint::black_box;
+use std::mem::size_of_val;
+use std::process::Command;
+use std::time::Instant;
+
+/// Which clock is read.
+#[derive(Clone, Copy, PartialEq)]
+enum Clock {
+    Processor,
+    Wall,
+}
+
+impl Clock {
+    /// The processor time where it is asked for and can be had.
+    fn of(wall: bool) -> Clock {
+        match processor_time() {
+            Some(_) if !wall => Clock::Processor,
+            _ => Clock::Wall,
+        }
+    }
+
+    fn name(self) -> &'static str {
+        match self {
+            Clock::Processor => "processor time of the thread",
+            Clock::Wall => "time that passes",
+        }
+    }
+
+    /// What the call gives, and the seconds it took.
+    fn time<T>(self, call: impl FnOnce() -> T) -> (T, f64) {
+        match self {
+            Clock::Processor => {
+                let start = processor_time().expect("schedstat");
+                let given = black_box(call());
+                (given, processor_time().expect("schedstat") - start)
+            }
+            Clock::Wall => {
+                let start = Instant::now();
+                let given = black_box(call());
+                (given, start.elapsed().as_secs_f64())
+            }
+        }
+    }
+}
+
+/// Seconds that this thread has run. The system brings the number up to date when a thread yields.
+fn processor_time() -> Option<f64> {
+    std::thread::yield_now();
+    let text = fs::read_to_string("/proc/thread-self/schedstat").ok()?;
+    let ns: u64 = text.split(' ').next()?.parse().ok()?;
+    (ns > 0).then_some(ns as f64 / 1e9)
+}
+
+/// What is timed.
+#[derive(Clone, Copy, PartialEq)]
+enum Call {
+    Nearest,
+    Labels,
+    Squares(u64),
+    Distance,
+    Fill,
+}
+
+impl Call {
+    fn name(self) -> String {
+        match self {
+            Call::Nearest => "nearest".into(),
+            Call::Labels => "labels".into(),
+            Call::Squares(k) => format!("squares, k {k}"),
+            Call::Distance => "square distance".into(),
+            Call::Fill => "fill".into(),
+        }
+    }
+
+    /// Seconds that one call of ours takes.
+    fn ours(self, clock: Clock, lent: &mut Lent, p: &Plane) -> f64 {
+        let (h, w, mask) = (p.side, p.side, black_box(&p.mask[..]));
+        match self {
+            Call::Nearest => clock.time(|| _ = black_box(lent.nearest(mask, h, w))).1,
+            Call::Labels => clock.time(|| _ = black_box(lent.labels(mask, h, w))).1,
+            Call::Squares(k) => clock.time(|| _ = black_box(lent.squares(mask, h, w, k))).1,
+            Call::Distance => clock.time(|| _ = black_box(lent.distance(mask, h, w))).1,
+            Call::Fill => {
+                clock
+                    .time(|| _ = black_box(lent.fill(p.colours, mask, h, w)))
+                    .1
+            }
+        }
+    }
+
+    /// Seconds that the same takes mask.rs; its planes are given back after the clock is read.
+    #[cfg(mask_rs)]
+    fn theirs(self, clock: Clock, p: &Plane) -> Option<f64> {
+        let (h, w, mask) = (p.side, p.side, black_box(&p.bools[..]));
+        Some(match self {
+            Call::Nearest => clock.time(|| mask::feature_transform(mask, h, w)).1,
+            Call::Labels => clock.time(|| mask::label4(mask, h, w)).1,
+            Call::Squares(k) => {
+                clock
+                    .time(|| mask::binary_dilation8(mask, h, w, k as usize))
+                    .1
+            }
+            Call::Distance => clock.time(|| mask::edt(mask, h, w)).1,
+            Call::Fill => {
+                clock
+                    .time(|| mask::fill_transparent(p.colours, mask, h, w))
+                    .1
+            }
+        })
+    }
+
+    #[cfg(not(mask_rs))]
+    fn theirs(self, _: Clock, _: &Plane) -> Option<f64> {
+        None
+    }
+}
+
+struct Plane<'a> {
+    side: usize,
+    name: &'static str,
+    mask: Vec<u8>,
+    #[cfg_attr(not(mask_rs), allow(dead_code))]
+    bools: Vec<bool>,
+    colours: &'a [f64],
+}
+
+fn median(mut times: Vec<f64>) -> f64 {
+    times.sort_by(f64::total_cmp);
+    let n = times.len();
+    (times[(n - 1) / 2] + times[n / 2]) / 2.0
+}
+
+#[derive(Clone, Copy)]
+struct How {
+    clock: Clock,
+    runs: usize,
+}
+
+/// One line of the table: ns per pixel.
+struct Line {
+    call: Call,
+    mask: &'static str,
+    side: usize,
+    theirs: Option<f64>,
+    ours: f64,
+}
+
+impl Line {
+    fn ratio(&self) -> Option<f64> {
+        self.theirs.map(|theirs| theirs / self.ours)
+    }
+}
+
+fn measure(call: Call, plane: &Plane, lent: &mut Lent, how: How) -> Line {
+    let pixels = (plane.side * plane.side) as f64;
+    let (mut ours, mut theirs) = (Vec::new(), Vec::new());
+    call.ours(how.clock, lent, plane);
+    call.theirs(how.clock, plane);
+    for _ in 0..how.runs {
+        theirs.extend(call.theirs(how.clock, plane));
+        ours.push(call.ours(how.clock, lent, plane));
+    }
+    let line = Line {
+        call,
+        mask: plane.name,
+        side: plane.side,
+        theirs: (!theirs.is_empty()).then(|| median(theirs) * 1e9 / pixels),
+        ours: median(ours) * 1e9 / pixels,
+    };
+    println!(
+        "| {} | {} | {} | {} | {:.2} | {} |",
+        call.name(),
+        line.mask,
+        line.side,
+        number(line.theirs, 2),
+        line.ours,
+        number(line.ratio(), 1)
+    );
+    line
+}
+
+fn number(value: Option<f64>, digits: usize) -> String {
+    value.map_or("-".into(), |value| format!("{value:.digits$}"))
+}
+
+/// For each group of calls and masks the least ratio from 2048 on, and how the time per pixel grows
+/// from 1024 to 4096 at most.
+fn summary(lines: &[Line]) {
+    type Group = (&'static str, fn(&Line) -> bool);
+    let groups: [Group; 7] = [
+        ("nearest, object and complement", |l| {
+            l.call == Call::Nearest && ["object", "complement"].contains(&l.mask)
+        }),
+        ("nearest, other masks", |l| {
+            l.call == Call::Nearest && !["object", "complement"].contains(&l.mask)
+        }),
+        ("squares", |l| matches!(l.call, Call::Squares(_))),
+        ("labels, object", |l| {
+            l.call == Call::Labels && l.mask == "object"
+        }),
+        ("labels, random half", |l| {
+            l.call == Call::Labels && l.mask == "random half"
+        }),
+        ("labels, other masks", |l| {
+            l.call == Call::Labels && !["object", "random half"].contains(&l.mask)
+        }),
+        ("square distance and fill", |l| {
+            [Call::Distance, Call::Fill].contains(&l.call)
+        }),
+    ];
+    println!("\n| | least ratio from 2048 on | most growth of ns per pixel, 1024 to 4096 |");
+    println!("|---|---:|---:|");
+    for (name, of) in groups {
+        let group: Vec<&Line> = lines.iter().filter(|l| of(l)).collect();
+        let ratios = group
+            .iter()
+            .filter(|l| l.side >= 2048)
+            .filter_map(|l| l.ratio());
+        let growths = group.iter().filter(|l| l.side == 4096).filter_map(|l| {
+            let small = |s: &&&Line| s.call == l.call && s.mask == l.mask && s.side == 1024;
+            Some(l.ours / group.iter().find(small)?.ours)
+        });
+        let (least, most) = (ratios.reduce(f64::min), growths.reduce(f64::max));
+        println!("| {name} | {} | {} |", number(least, 1), number(most, 2));
+    }
+}
+
+/// The first line of a file of the system that has this key, after its colon.
+fn looked_up(file: &str, key: &str) -> Option<String> {
+    let text = fs::read_to_string(file).ok()?;
+    let line = text.lines().find(|line| line.starts_with(key))?;
+    Some(line.split_once(':')?.1.trim().to_string())
+}
+
+fn said(command: &str, words: &[&str]) -> String {
+    let out = Command::new(command).args(words).output().ok();
+    let text = out.map(|out| String::from_utf8_lossy(&out.stdout).trim().to_string());
+    text.filter(|text| !text.is_empty())
+        .unwrap_or_else(|| "not known".into())
+}
+
+fn head(how: How) {
+    let cpu = looked_up("/proc/cpuinfo", "model name").unwrap_or_else(|| "not known".into());
+    let cores = std::thread::available_parallelism().map_or(0, |n| n.get());
+    let load = fs::read_to_string("/proc/loadavg").unwrap_or_default();
+    let load = load.split(' ').next().unwrap_or("not known").to_string();
+    println!(
+        "Machine: {cpu}, {cores} cores, load {load} at the start. {}.",
+        said("rustc", &["-V"])
+    );
+    println!("Date: {}.", said("date", &["-u", "+%Y-%m-%d %H:%M UTC"]));
+    println!(
+        "Median of {} runs, in turn, by the {}; ns per pixel; ratio: mask.rs's time over ours.",
+        how.runs,
+        how.clock.name()
+    );
+    if !cfg!(mask_rs) {
+        println!("mask.rs is not at hand (PIXELFORGE_MASK_RS names its place): ours alone.");
+    }
+    println!();
+}
+
+/// What a caller lends beside inputs: bytes per pixel.
+fn memory(side: usize, lent: &Lent) {
+    let bytes = |n: usize| format!("{:.2}", n as f64 / (side * side) as f64);
+    println!("\nMemory lent by the caller at {side} × {side}, bytes per pixel (nothing else is");
+    println!("allocated):\n");
+    println!("| call | work buffers | outputs |\n|---|---:|---:|");
+    let planes = size_of_val(&lent.rows[..]) + size_of_val(&lent.cols[..]);
+    let pair = size_of_val(&lent.row_work[..]) + size_of_val(&lent.col_work[..]);
+    let of = |name, work, out| println!("| {name} | {} | {} |", bytes(work), bytes(out));
+    of("nearest", 0, planes);
+    of(
+        "labels",
+        size_of_val(&lent.stack[..]),
+        size_of_val(&lent.labels[..]),
+    );
+    of(
+        "squares",
+        size_of_val(&lent.work[..]),
+        size_of_val(&lent.out[..]),
+    );
+    of("square distance", pair, size_of_val(&lent.distance[..]));
+    of("fill", pair, size_of_val(&lent.filled[..]));
+}
+
+fn main() {
+    let mut words: Vec<String> = std::env::args().skip(1).collect();
+    let wall = words.first().is_some_and(|word| word == "wall");
+    if wall {
+        words.remove(0);
+    }
+    let numbers: Option<Vec<usize>> = words.iter().map(|word| word.parse().ok()).collect();
+    let usage = "usage: benchmark [wall] [RUNS] [SIDE..]\nRUNS is at least 5, a SIDE 16 to 4096";
+    let (runs, sides) = match numbers.as_deref() {
+        Some([]) => (5, vec![1024, 2048, 4096]),
+        Some([runs]) if *runs >= 5 => (*runs, vec![1024, 2048, 4096]),
+        Some([runs, sides @ ..]) if *runs >= 5 && sides.iter().all(|s| (16..=4096).contains(s)) => {
+            (*runs, sides.to_vec())
+        }
+        _ => {
+            eprintln!("{usage}");
+            std::process::exit(2);
+        }
+    };
+    let clock = Clock::of(wall);
+    let how = How { clock, runs };
+    head(how);
+    println!("| call | mask | side | mask.rs | ours | ratio |\n|---|---|---:|---:|---:|---:|");
+    let mut lines = Vec::new();
+    for &side in &sides {
+        let mut random = Random(side as u64);
+        let mut lent = Lent::new(side, side);
+        let colours: Vec<f64> = (0..3 * side * side)
+            .map(|_| (random.next() >> 11) as f64 / 9e15)
+            .collect();
+        let object = masks::object(side, side);
+        let complement = masks::complement(&object);
+        let planes = [
+            ("object", object),
+            ("complement", complement),
+            ("random half", random.mask(side * side, 500)),
+            ("single pixel", masks::single(side, side)),
+            ("sparse 0.1 %", random.mask(side * side, 1)),
+            ("full", masks::full(side, side)),
+            ("empty", masks::empty(side, side)),
+            ("spiral", masks::spiral(side, side)),
+            ("checkerboard", masks::checkerboard(side, side)),
+        ]
+        .map(|(name, mask)| Plane {
+            side,
+            name,
+            bools: masks::bools(&mask),
+            mask,
+            colours: &colours,
+        });
+        for plane in &planes[..7] {
+            lines.push(measure(Call::Nearest, plane, &mut lent, how));
+        }
+        for plane in [&planes[0], &planes[2]] {
+            for k in [1, 4, 64, 4096] {
+                lines.push(measure(Call::Squares(k), plane, &mut lent, how));
+            }
+        }
+        for plane in &planes {
+            lines.push(measure(Call::Labels, plane, &mut lent, how));
+        }
+        for call in [Call::Distance, Call::Fill] {
+            for plane in [&planes[0], &planes[2]] {
+                lines.push(measure(call, plane, &mut lent, how));
+            }
+        }
+        if side == *sides.last().unwrap() {
+            summary(&lines);
+            memory(side, &lent);
+        }
+    }
+}

@@ -1,0 +1,79 @@
+//! The header, checked by a C compiler: programs in C and C++ that include it, link the archive
+//! and run.
+
+use std::io::{ErrorKind, Write};
+use std::path::{Path, PathBuf};
+use std::process::Command;
+
+/// Compiles and runs a program; `None` where there is no such compiler.
+fn run(compiler: &str, words: &[&str], program: &str) -> Option<String> {
+    let host = Path::new(env!("CARGO_MANIFEST_DIR"));
+    let label: String = words
+        .concat()
+        .chars()
+        .filter(|c| c.is_alphanumeric())
+        .collect();
+    let binary: PathBuf = Path::new(env!("CARGO_TARGET_TMPDIR")).join(format!("{program}-{label}"));
+    let compiled = Command::new(compiler)
+        .args(words)
+        .args(["-Wall", "-Wextra", "-Werror", "-pedantic"])
+        .arg("-I")
+        .arg(host.join("../include"))
+        .arg(host.join("tests/c").join(program))
+        // The archive is no source, whatever language the words ask for.
+        .args(["-x", "none"])
+        .arg(env!("STAND_ARCHIVE"))
+        .arg("-o")
+        .arg(&binary)
+        .output();
+    let compiled = match compiled {
+        Err(e) if e.kind() == ErrorKind::NotFound => {
+            let line = format!("skipped: there is no `{compiler}` to compile {program}\n");
+            std::io::stderr().write_all(line.as_bytes()).unwrap();
+            return None;
+        }
+        other => other.expect("the compiler"),
+    };
+    let said = String::from_utf8_lossy(&compiled.stderr);
+    assert!(
+        compiled.status.success(),
+        "{compiler} {words:?} {program}:\n{said}"
+    );
+    let ran = Command::new(&binary)
+        .output()
+        .expect("the compiled program");
+    assert!(ran.status.success(), "{program}: {:?}", ran.status);
+    Some(String::from_utf8(ran.stdout).expect("text"))
+}
+
+#[test]
+fn five_lines_of_c() {
+    if let Some(text) = run("cc", &["-std=c99"], "nearest.c") {
+        assert_eq!(text, "0: 0,0\n");
+    }
+}
+
+const EVERY_CALL: &str = "\
+nearest 0: 1,0 0,1 1,0 1,0
+labels 0, 2: 0 1 2 0
+squares 0: 1 1 1 1
+distance 0: 1 0 0 1
+fill 0: 7 8 9 4 5 6 7 8 9 7 8 9
+refused 1 2 3, 1 0 1 2 3
+";
+
+#[test]
+fn every_call_in_c() {
+    for words in [&["-std=c99"], &["-std=c11"]] {
+        if let Some(text) = run("cc", words, "every_call.c") {
+            assert_eq!(text, EVERY_CALL);
+        }
+    }
+}
+
+#[test]
+fn every_call_in_cpp() {
+    if let Some(text) = run("c++", &["-std=c++11", "-x", "c++"], "every_call.c") {
+        assert_eq!(text, EVERY_CALL);
+    }
+}
