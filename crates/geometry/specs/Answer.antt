@@ -9,7 +9,7 @@ use Rattle.geometry.specs.declared.Labelled.{Labelled}
 use Rattle.geometry.specs.declared.Labelled.the-variants as labelled
 
 -- the number of an answer: 0 for an accepted call, else the number by which it was declined
-unfoldable pub numberOf : Answer → ℕ
+abbrev pub numberOf : Answer → ℕ
 numberOf answer.Done = 0
 numberOf (answer.Refused n) = n
 
@@ -18,11 +18,11 @@ unfoldable pub answerFor : ℕ → Answer
 answerFor n = cond (eqb n 0) answer.Done (answer.Refused n)
 
 -- the number of an answer of labels, and the count of parts that it carries: 0 where it was declined
-unfoldable pub labelledNumber : Labelled → ℕ
+abbrev pub labelledNumber : Labelled → ℕ
 labelledNumber (labelled.Parts n) = 0
 labelledNumber (labelled.Refused n) = n
 
-unfoldable pub labelledParts : Labelled → ℕ
+abbrev pub labelledParts : Labelled → ℕ
 labelledParts (labelled.Parts n) = n
 labelledParts (labelled.Refused n) = 0
 

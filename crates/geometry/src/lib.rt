@@ -9,7 +9,8 @@ ghost use Rattle.plane.specs.Refusal.{after};
 ghost use Rattle.nearest.specs.Nearest.{rowsPlane, columnsPlane, distancePlane};
 ghost use Rattle.nearest.specs.Stages.{Room};
 ghost use Rattle.labels.specs.Labels.{parts, labelsPlane};
-ghost use Rattle.geometry.specs.Answer.{answerFor, labelledFor};
+ghost use Rattle.squares.specs.Squares.{squaresPlane};
+ghost use Rattle.geometry.specs.Answer.{numberOf, labelledNumber, labelledParts, answerFor, labelledFor};
 ghost use Rattle.geometry.specs.Number.{planeNumber, nearestNumber, distanceNumber, fillNumber};
 ghost use Rattle.geometry.specs.Fill.{filledColours};
 ghost use Rattle.geometry.specs.Crop.{cropNumber, cropPart};
@@ -24,6 +25,36 @@ pub enum Answer {
 pub enum Labelled {
     Parts(u32),
     Refused(u32),
+}
+
+// The number of an answer: 0 where the call was accepted.
+pub fn number_of(answer: Answer) -> u32
+    ensures { λ r. ⌜ r ≡ numberOf answer ⌝ }
+{
+    match answer {
+        Answer::Done => 0,
+        Answer::Refused(n) => n,
+    }
+}
+
+// The number of an answer of labels.
+pub fn labelled_number(answer: Labelled) -> u32
+    ensures { λ r. ⌜ r ≡ labelledNumber answer ⌝ }
+{
+    match answer {
+        Labelled::Parts(_) => 0,
+        Labelled::Refused(n) => n,
+    }
+}
+
+// The number of parts that an answer of labels carries, 0 where it was declined.
+pub fn labelled_parts(answer: Labelled) -> u32
+    ensures { λ r. ⌜ r ≡ labelledParts answer ⌝ }
+{
+    match answer {
+        Labelled::Parts(n) => n,
+        Labelled::Refused(_) => 0,
+    }
 }
 
 // Row and column of the nearest on-pixel of each pixel; with nothing on, row -1 and column 0.
@@ -59,6 +90,28 @@ pub fn label4(mask: &[u8], h: usize, w: usize, stack: &mut [u32], labels: &mut [
     }
     let n = labels::label(mask, h, w, stack, labels);
     Labelled::Parts(n)
+}
+
+// The dilation of a mask by the square of k rows and k columns each way: k is iterations, and 0 iterations mean the larger
+// side. work is a work buffer.
+pub fn binary_dilation8(
+    mask: &[u8],
+    h: usize,
+    w: usize,
+    iterations: u64,
+    work: &mut [u8],
+    out: &mut [u8],
+) -> Answer
+    ensures { λ r. ⌜ r ≡ answerFor (planeNumber h w (length (now (mask .entry))) (length (now (out .entry))) (length (now (work .entry)))) ⌝ }
+    ensures { λ r. ⌜ now (out .exit) ≡ after (planeNumber h w (length (now (mask .entry))) (length (now (out .entry))) (length (now (work .entry)))) (squaresPlane (now (mask .entry)) h w iterations) (now (out .entry)) ⌝ }
+    ensures { λ r. ⌜ ((planeNumber h w (length (now (mask .entry))) (length (now (out .entry))) (length (now (work .entry))) ≡ 0 → ⊥) → now (work .exit) ≡ now (work .entry)) ⌝ }
+{
+    let number = number::plane_number(h, w, mask.len(), out.len(), work.len());
+    if number != 0 {
+        return Answer::Refused(number);
+    }
+    squares::dilate(mask, h, w, iterations, work, out);
+    Answer::Done
 }
 
 // The square distances, from planes of rows and columns that are made on the way.
