@@ -15,7 +15,7 @@ use Rattle.plane.specs.Plane.{on}
 use Rattle.plane.proofs.Plane.{pixel-in, area-most}
 use Rattle.plane.proofs.Search.{which, either, not-both}
 use Rattle.labels.specs.Labels.{Given, isOn, beside, Joined, same, onward, lesser, renamed, isFirst}
-use Rattle.labels.specs.Trees.{Forest, Linked, Placeable, Placed, dark, fresh, from-above, from-left, from-both, upAt, leftAt, diagAt, larger, Scanned}
+use Rattle.labels.specs.Trees.{mostPixels, Forest, Linked, Placeable, Placed, dark, fresh, from-above, from-left, from-both, upAt, leftAt, diagAt, larger, Scanned}
 use Rattle.labels.proofs.Joined.{beside-back, joined-trans, joined-sym}
 use Rattle.labels.proofs.Firsts.{first-least, first-same, first-on, renamed-left, renamed-right, renamed-cases, lesser-left}
 use Rattle.labels.proofs.Steps.{column-is, beside-above, beside-left, beside-sides}
@@ -410,7 +410,7 @@ module _ {mask parents labels : List ℕ} {h w : ℕ} (g : Given mask parents la
   pub pixel-inside : pixel < h * w
   pixel-inside = pixel-in y x h w row column
 
-  pub area-small : h * w ≤ 16777216
+  pub area-small : h * w ≤ mostPixels
   area-small = area-most (g .sides .tall) (g .sides .wide)
 
   column-of : pixel % w ≡ x

@@ -74,8 +74,8 @@ unfoldable pub labelsPlane : List ℕ → ℕ → ℕ → List ℕ
 labelsPlane mask h w = planeOf h w (labelAt mask h w)
 
 -- what a call of `label` is given: accepted sides, planes of their lengths, and work space of one number more than the plane has
-pub record Given (mask stack labels : List ℕ) (h w : ℕ) : Type 0 where
+pub record Given (mask parents labels : List ℕ) (h w : ℕ) : Type 0 where
   pub sides : Sides h w
   pub input : length mask ≡ h * w
   pub output : length labels ≡ h * w
-  pub room : h * w < length stack
+  pub room : h * w < length parents

@@ -7,8 +7,13 @@ use mathlib.Core.List.{List}
 use Prim.Native.Nat.{ℕ, _+_, _*_, _-_, _≤_, _<_}
 use lib.Dec.{eqb, ltb}
 use lib.ListN.{length, getD, set}
+use Rattle.plane.specs.Plane.{mostSide}
 use Rattle.plane.specs.Search.{countBelow}
 use Rattle.labels.specs.Labels.{isOn, beside, Joined, lesser, renamed, isFirst, Given}
+
+-- the pixels of the largest plane
+abbrev pub mostPixels : ℕ
+mostPixels = mostSide * mostSide
 
 -- ---- trees of labels
 
@@ -54,7 +59,7 @@ pub record Placeable (parents : List ℕ) (m left up : ℕ) : Type 0 where
   pub left-in : left ≤ m
   pub up-in : up ≤ m
   pub room : m + 1 < length parents
-  pub small : m < 16777216
+  pub small : m < mostPixels
 
 -- the label r of a pixel with byte v, from those of the pixels to the left, above, and above to the left (0 for none):
 -- 0 when it is off; a new one when neither neighbour has one; else that of a neighbour, with the two neighbours' trees joined
@@ -113,7 +118,7 @@ isRoot parents l = ltb 0 l && eqb (getD parents l 0) l
 pub record Numberable (parents : List ℕ) (k n : ℕ) : Type 0 where
   pub inside : k < length parents
   pub down : getD parents k 0 ≤ k
-  pub small : n < 16777216
+  pub small : n < mostPixels
 
 -- the roots below label k are n, and the labels below k have the numbers of their roots, counted from 1
 pub record Numbered (old new : List ℕ) (m k n : ℕ) : Type 0 where

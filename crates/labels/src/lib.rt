@@ -7,7 +7,7 @@ ghost use lib.Dec.{eqb};
 ghost use lib.ListN.{length, getD, set};
 ghost use Rattle.plane.specs.Plane.{table};
 ghost use Rattle.labels.specs.Labels.{parts, labelsPlane, Given};
-ghost use Rattle.labels.specs.Trees.{Trees, Found, Joinable, Linked, Placeable, Placed, upAt, larger, Scanned, RowsDone, Numberable, Numbered};
+ghost use Rattle.labels.specs.Trees.{mostPixels, Trees, Found, Joinable, Linked, Placeable, Placed, upAt, larger, Scanned, RowsDone, Numberable, Numbered};
 
 // A label as an index.
 fn wide(l: u32) -> usize
@@ -16,7 +16,7 @@ fn wide(l: u32) -> usize
     l as usize
 }
 
-// Label a is not a root: its parent becomes its parent's parent, which is the result.
+// The parent of label a becomes its parent's parent, which is the result.
 fn halve(parents: &mut [u32], m: u32, a: u32) -> u32
     requires { ⌜ Trees (now parents) m ⌝ }
     requires { ⌜ a ≤ m ⌝ }
@@ -105,7 +105,7 @@ fn greater(a: u32, b: u32) -> u32
     a
 }
 
-// The pixels of row y get provisional labels, above the m of the rows before it; how many labels there are then.
+// The pixels of row y get provisional labels, of which the rows before it have `found`; how many labels there are then.
 fn scan_row(
     mask: &[u8],
     h: usize,
@@ -169,7 +169,7 @@ fn number(parents: &mut [u32], k: usize, n: u32) -> u32
 // The labels from 1 to m get the numbers of their roots, in the roots' order; how many roots there are.
 fn flatten(parents: &mut [u32], m: u32) -> u32
     requires { ⌜ Trees (now parents) m ⌝ }
-    requires { ⌜ m ≤ 16777216 ⌝ }
+    requires { ⌜ m ≤ mostPixels ⌝ }
     ensures { λ r. ⌜ Numbered (now (parents .entry)) (now (parents .exit)) m (m + 1) r ⌝ }
 {
     let end = wide(m) + 1;
@@ -194,14 +194,14 @@ fn rename(numbers: &[u32], labels: &mut [u32])
     }
 }
 
-// Each pixel's label, 0 where the mask is off, and the number of labels. Work space: h * w + 1 numbers in `stack`.
-pub fn label(mask: &[u8], h: usize, w: usize, stack: &mut [u32], labels: &mut [u32]) -> u32
-    requires { ⌜ Given (now mask) (now stack) (now labels) h w ⌝ }
+// Each pixel's label, 0 where the mask is off, and the number of labels (label4). Work space: `parents`, h * w + 1 numbers.
+pub fn label(mask: &[u8], h: usize, w: usize, parents: &mut [u32], labels: &mut [u32]) -> u32
+    requires { ⌜ Given (now mask) (now parents) (now labels) h w ⌝ }
     ensures { λ r. ⌜ r ≡ parts (now (mask .entry)) h w ⌝ }
     ensures { λ r. ⌜ now (labels .exit) ≡ labelsPlane (now (mask .entry)) h w ⌝ }
 {
-    let m = scan(mask, h, w, stack, labels);
-    let n = flatten(stack, m);
-    rename(stack, labels);
+    let m = scan(mask, h, w, parents, labels);
+    let n = flatten(parents, m);
+    rename(parents, labels);
     n
 }
