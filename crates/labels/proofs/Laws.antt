@@ -1,4 +1,6 @@
--- Laws of labels, over the definitions alone.
+-- Laws of labels, over the definitions alone: 0 exactly off the mask (label-off, off-label); equal exactly where joined (joined-label, label-joined);
+-- from 1 to the number of parts (label-most), each of them (label-occurs), in raster order of first pixels (label-order, order-label);
+-- and these laws determine the labels (parts-are, labels-are).
 -- Assumes nothing.
 use mathlib.Core.Path.{_≡_, refl, sym, ap, _∙_}
 use mathlib.Core.Bool.{true, false, cond}

@@ -1,5 +1,5 @@
--- Labels: the parts of a mask that steps up, down, left or right over on-pixels join, numbered in raster order of their first pixels.
--- A pixel is named by its index, row * w + column.
+-- Labels: the parts of a mask that steps up, down, left or right over on-pixels join (SciPy's ndimage.label with its default structuring element),
+-- numbered from 1 in raster order of their first pixels. A pixel is named by its index, row * w + column.
 -- Assumes nothing.
 use mathlib.Core.Path.{_≡_}
 use mathlib.Core.Bool.{Bool, true, cond, _&&_, _||_}
@@ -27,10 +27,11 @@ pub data Joined (mask : List ℕ) (w : ℕ) : ℕ → ℕ → Type 0 where
 unfoldable pub lesser : ℕ → ℕ → ℕ
 lesser a b = cond (leb a b) a b
 
--- what carries the number a or b carries the lesser of them from then on
+-- the new number of what carries n, when a and b become one number: the lesser of the two in their place
 unfoldable pub renamed : ℕ → ℕ → ℕ → ℕ
 renamed a b n = cond (eqb n a || eqb n b) (lesser a b) n
 
+-- all pixels renamed so
 unfoldable pub merge : ℕ → ℕ → List ℕ → List ℕ
 merge a b numbers = map (renamed a b) numbers
 

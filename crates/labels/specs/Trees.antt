@@ -17,7 +17,7 @@ mostPixels = mostSide * mostSide
 
 -- ---- trees of labels
 
--- each label from 0 to m has a parent, itself or a lesser one of its part; rep gives the label at the root
+-- each label from 0 to m has a parent: itself, if it is a root, or a lesser label of its tree; rep l is the root of label l's tree
 pub record Forest (parents : List ℕ) (m : ℕ) (rep : ℕ → ℕ) : Type 0 where
   pub room : m < length parents
   pub down : (l : ℕ) → l ≤ m → getD parents l 0 ≤ l
@@ -28,7 +28,7 @@ pub record Forest (parents : List ℕ) (m : ℕ) (rep : ℕ → ℕ) : Type 0 wh
   pub again : (l : ℕ) → rep (rep l) ≡ rep l
   pub beyond : (l : ℕ) → m < l → rep l ≡ l
 
--- there are such trees
+-- the parents make such trees
 pub record Trees (parents : List ℕ) (m : ℕ) : Type 0 where
   pub rep : ℕ → ℕ
   pub forest : Forest parents m rep
