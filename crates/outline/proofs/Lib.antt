@@ -1,3 +1,4 @@
 pub mod Masks
 pub mod Borders
 pub mod GroundLaws
+pub mod GrowthLaws
