@@ -108,7 +108,8 @@ median-same f g l h =
 pub reference-same : (one two : List Float) (h w : ℕ) → ((i : ℕ) → onBorder h w i ≡ true → SameColour (colourAt one i) (colourAt two i)) → referenceOf one h w ≡ referenceOf two h w
 unfolding referenceOf referenceChannel onBorder colourAt
 reference-same one two h w e =
-    rw
-    (median-same (channelAt one 0) (channelAt two 0) (borderList h w) (λ i l. e i l .r),
-    median-same (channelAt one 1) (channelAt two 1) (borderList h w) (λ i l. e i l .g),
-    median-same (channelAt one 2) (channelAt two 2) (borderList h w) (λ i l. e i l .b))
+    rw (
+      median-same (channelAt one 0) (channelAt two 0) (borderList h w) (λ i l. e i l .r),
+      median-same (channelAt one 1) (channelAt two 1) (borderList h w) (λ i l. e i l .g),
+      median-same (channelAt one 2) (channelAt two 2) (borderList h w) (λ i l. e i l .b),
+    )

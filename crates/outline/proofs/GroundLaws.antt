@@ -105,8 +105,8 @@ module _ (close : List ℕ) (h w : ℕ) where
 
 -- planes that are alike on the border and within 1 of the first one's ground have one ground
 module _ (a b : List ℕ) (h w : ℕ) (tall : 0 < h) (wide : 0 < w) (long : length a ≡ h * w) (long′ : length b ≡ h * w)
-  (border : (i : ℕ) → i < h * w → onBorder h w i ≡ true → isOn a i ≡ isOn b i)
-  (about : (i : ℕ) → i < h * w → nearGround (groundFrom a h w) h w 1 i ≡ true → isOn a i ≡ isOn b i) where
+    (border : (i : ℕ) → i < h * w → onBorder h w i ≡ true → isOn a i ≡ isOn b i)
+    (about : (i : ℕ) → i < h * w → nearGround (groundFrom a h w) h w 1 i ≡ true → isOn a i ≡ isOn b i) where
   forth : (i : ℕ) → isOn (groundFrom a h w) i ≡ true → isOn (groundFrom b h w) i ≡ true
   forth i e =
       ground-least a h w long (λ (k : ℕ). (isOn (groundFrom a h w) k ≡ true) × (isOn (groundFrom b h w) k ≡ true))

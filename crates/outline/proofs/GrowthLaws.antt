@@ -177,12 +177,13 @@ module _ (colours : List Float) (reference : Rgb) (h w : ℕ) where
         let near = near-same a b h w wide e in
         let shallow : (k : ℕ) → k < h * w → isShallow a h w k ≡ isShallow b h w k = λ k m. shallow-same near k m in
         let deep : (k : ℕ) → k < h * w → isDeep a h w k ≡ isDeep b h w k = λ k m. deep-same near k m in
-        rw
-        (some-same (isShallow a h w) (isShallow b h w) (h * w) shallow,
-        e i l,
-        near 1 i,
-        mask-same (h * w) (isShallow a h w) (isShallow b h w) shallow,
-        mask-same (h * w) (isDeep a h w) (isDeep b h w) deep)
+        rw (
+          some-same (isShallow a h w) (isShallow b h w) (h * w) shallow,
+          e i l,
+          near 1 i,
+          mask-same (h * w) (isShallow a h w) (isShallow b h w) shallow,
+          mask-same (h * w) (isDeep a h w) (isDeep b h w) deep,
+        )
       where
         shallow-same : ((k i : ℕ) → nearGround a h w k i ≡ nearGround b h w k i) → (k : ℕ) → k < h * w → isShallow a h w k ≡ isShallow b h w k
         shallow-same near k m = unfold isShallow in rw (e k m, near 1 k)
