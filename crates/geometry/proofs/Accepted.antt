@@ -2,7 +2,7 @@
 -- Assumes nothing.
 use mathlib.Core.Path.{_≡_, refl, sym}
 use mathlib.Core.Bool.{Bool, true, false, cond, _&&_}
-use Prim.Native.Nat.{ℕ, _+_, _*_, _≤_}
+use Prim.Native.Nat.{ℕ, _+_, _*_, _<_}
 use native.Mathlib.Omega.{arith}
 use lib.Dec.{eqb, leb}
 use borrow.Author.Tests.{eq-eqb, ne-eqb, eqb-true, leb-true}
@@ -46,14 +46,14 @@ kept n new old e = rw (ne-eqb n 0 e)
 
 -- ---- lengths
 
-room-enough : (h w n : ℕ) → isRoom h w n ≡ true → h * w ≤ n
+room-enough : (h w n : ℕ) → isRoom h w n ≡ true → h * w < n
 room-enough h w n e = let l = leb-true (roomFor h w) n e in omega arith
 
 pub record PlaneOk (h w mask out work : ℕ) : Type 0 where
   pub sides : Sides h w
   pub input : mask ≡ h * w
   pub output : out ≡ h * w
-  pub room : h * w ≤ work
+  pub room : h * w < work
 
 pub plane-ok : (h w mask out work : ℕ) → planeNumber h w mask out work ≡ 0 → PlaneOk h w mask out work
 unfolding planeNumber
@@ -79,8 +79,8 @@ pub record DistanceOk (h w mask out rows columns : ℕ) : Type 0 where
   pub sides : Sides h w
   pub input : mask ≡ h * w
   pub output : out ≡ h * w
-  pub rows-room : h * w ≤ rows
-  pub columns-room : h * w ≤ columns
+  pub rows-room : h * w < rows
+  pub columns-room : h * w < columns
 
 pub distance-ok : (h w mask out rows columns : ℕ) → distanceNumber h w mask out rows columns ≡ 0 → DistanceOk h w mask out rows columns
 unfolding distanceNumber
@@ -101,8 +101,8 @@ pub record FillOk (h w colours mask out rows columns : ℕ) : Type 0 where
   pub colours-long : colours ≡ 3 * (h * w)
   pub input : mask ≡ h * w
   pub output : out ≡ 3 * (h * w)
-  pub rows-room : h * w ≤ rows
-  pub columns-room : h * w ≤ columns
+  pub rows-room : h * w < rows
+  pub columns-room : h * w < columns
 
 pub fill-ok : (h w colours mask out rows columns : ℕ) → fillNumber h w colours mask out rows columns ≡ 0 → FillOk h w colours mask out rows columns
 unfolding fillNumber

@@ -1,5 +1,5 @@
 // Plane geometry: the public calls. Each declines by document 01's numbers, and a call that declines writes nothing.
-mod number;
+pub mod number;
 mod read;
 
 ghost use mathlib.Core.Path.{_≡_};

@@ -21,7 +21,7 @@ pub fn area(h: usize, w: usize) -> usize
 }
 
 // How many numbers a work buffer holds at least; 0 where a side is declined.
-fn room(h: usize, w: usize) -> usize
+pub fn room(h: usize, w: usize) -> usize
     ensures { λ r. ⌜ r ≡ cond (sidesOk h w) (roomFor h w) 0 ⌝ }
 {
     if sides_ok(h, w) {
@@ -32,7 +32,7 @@ fn room(h: usize, w: usize) -> usize
 }
 
 // The number of the first test that fails, 0 where none does.
-fn number_for(sides: bool, inputs: bool, buffers: bool) -> u32
+pub fn number_for(sides: bool, inputs: bool, buffers: bool) -> u32
     ensures { λ r. ⌜ r ≡ numberFor sides inputs buffers ⌝ }
 {
     if sides {

@@ -1,6 +1,7 @@
 -- `geometry::binary_dilation8` meets its contract.
 -- Assumes nothing.
 use mathlib.Core.Path.{_≡_, refl, sym, _∙_}
+use native.Mathlib.Omega.{arith}
 use lib.ListN.{length}
 use borrow.Author.Needs.{needs}
 use denote.Ref.{now}
@@ -21,7 +22,7 @@ dilate-requires : tie.Need-dilate-requires
 dilate-requires c κs =
     let a = c .before .before .before .before .before .before .before .args in
     let k = plane-ok (a .h) (a .w) (length (now (a .mask))) (length (now (a .out))) (length (now (a .work))) (sym (c .before .before .before .plane-number .ensures) ∙ c .before .before .if1 .left) in
-    record { sides = k .sides; mask-size = k .input; out-size = k .output; work-size = k .room }
+    record { sides = k .sides; mask-size = k .input; out-size = k .output; work-size = omega (arith, k .room) }
 
 same-length : tie.Need-same-length
 same-length c = search needs
