@@ -29,6 +29,18 @@ module _ (p : ℕ → Bool) where
       (λ (m : a ≤ b). omega (arith, count-mono a b m))
       (which b a)
 
+  -- nor rises faster than n
+  pub count-slow : (a b : ℕ) → a ≤ b → countBelow b p + a ≤ countBelow a p + b
+  unfolding countBelow
+  count-slow a zero l = let q : a ≡ 0 = omega arith in rw q (omega arith)
+  count-slow a (suc b) l =
+      ⊎-elim {C = countBelow b p + cond (p b) 1 0 + a ≤ countBelow a p + suc b}
+      (λ (m : b < a). (let q : a ≡ suc b = omega arith in rw q (omega arith)))
+      (λ (m : a ≤ b). (
+      let z = count-slow a b m in
+      ⊎-elim {C = countBelow b p + cond (p b) 1 0 + a ≤ countBelow a p + suc b} (λ e. rw e (omega arith)) (λ e. rw e (omega arith)) (either (p b))))
+      (which b a)
+
   -- and stays where p holds of none in between
   pub count-gap : (a b : ℕ) → a ≤ b → ((k : ℕ) → a ≤ k → k < b → p k ≡ false) → countBelow b p ≡ countBelow a p
   count-gap a zero l h = let q : a ≡ 0 = omega arith in rw q refl

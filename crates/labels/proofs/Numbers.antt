@@ -19,7 +19,7 @@ use Rattle.plane.proofs.Search.{which, either, not-both}
 use Rattle.plane.proofs.Refusal.{and-true}
 use Rattle.labels.specs.Labels.{isOn, Joined, firstPixel, isFirst, parts, labelOf, labelAt, labelsPlane}
 use Rattle.labels.specs.Trees.{Forest, Trees, Scanned, isRoot, Numbered}
-use Rattle.labels.proofs.Counts.{count-more, count-no-more, count-gap}
+use Rattle.labels.proofs.Counts.{count-more, count-no-more, count-gap, count-slow}
 use Rattle.labels.proofs.Joined.{on-inside, start-on, spreads}
 use Rattle.labels.proofs.Firsts.{first-joined, first-least, first-same, is-first, first-on}
 use Rattle.labels.proofs.Laws.{label-on, label-off}
@@ -301,4 +301,28 @@ module _ {mask labels parents : List ℕ} {h w m : ℕ} (fits : length mask ≡ 
           ⊎-elim {C = getD new (getD labels k 0) 0 ≡ labelOf mask h w k}
           (λ (o : isOn mask k ≡ true). (let z = s .on k i o in g .done (s .rep) (s .forest) (getD labels k 0) (z .0) (omega (arith, z .1)) ∙ number-is k o))
           (λ (o : isOn mask k ≡ false). ap (λ (j : ℕ). getD new j 0) (s .off k i o) ∙ g .zero ∙ sym (label-off mask h w k o))
+          (either (isOn mask k))
+
+  -- where every label is a root, each is its own number
+  own-number : countBelow (m + 1) (isRoot parents) ≡ m → (l : ℕ) → 0 < l → l ≤ m → 1 + countBelow (s .rep l) (isRoot parents) ≡ l
+  own-number e l p q =
+      let a = count-few parents l p in
+      let b = count-slow (isRoot parents) l (m + 1) (omega arith) in
+      let c = count-slow (isRoot parents) (suc l) (m + 1) (omega arith) in
+      ⊎-elim {C = 1 + countBelow (s .rep l) (isRoot parents) ≡ l}
+      (λ (t : isRoot parents l ≡ true). rw (s .forest .top l q (root-at parents l t .1)) (omega arith))
+      (λ (t : isRoot parents l ≡ false). absurd (omega (arith, count-no-more (isRoot parents) l t)))
+      (either (isRoot parents l))
+
+  -- so the provisional labels are the labels
+  pub labels-stay : (new : List ℕ) (n : ℕ) → Numbered parents new m (m + 1) n → n ≡ m → length labels ≡ h * w → labels ≡ labelsPlane mask h w
+  unfolding labelsPlane labelAt
+  labels-stay new n g e long =
+      plane-is h w (labelAt mask h w) labels 0 long (λ y x a b. at (y * w + x) (pixel-in y x h w a b))
+    where
+      at : (k : ℕ) → k < h * w → getD labels k 0 ≡ labelOf mask h w k
+      at k i =
+          ⊎-elim {C = getD labels k 0 ≡ labelOf mask h w k}
+          (λ (o : isOn mask k ≡ true). (let z = s .on k i o in sym (own-number (sym (g .count) ∙ e) (getD labels k 0) (z .0) (z .1)) ∙ number-is k o))
+          (λ (o : isOn mask k ≡ false). s .off k i o ∙ sym (label-off mask h w k o))
           (either (isOn mask k))

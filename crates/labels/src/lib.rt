@@ -194,7 +194,7 @@ fn rename(numbers: &[u32], labels: &mut [u32])
     }
 }
 
-// Each pixel's label, 0 where the mask is off, and the number of labels (label4). Work space: `parents`, h * w + 1 numbers.
+// Each pixel's label, 0 where the mask is off, and the number of labels (label4). Where all labels are roots, they stay. Work space: `parents`, h * w + 1 numbers.
 pub fn label(mask: &[u8], h: usize, w: usize, parents: &mut [u32], labels: &mut [u32]) -> u32
     requires { ⌜ Given (now mask) (now parents) (now labels) h w ⌝ }
     ensures { λ r. ⌜ r ≡ parts (now (mask .entry)) h w ⌝ }
@@ -202,6 +202,9 @@ pub fn label(mask: &[u8], h: usize, w: usize, parents: &mut [u32], labels: &mut 
 {
     let m = scan(mask, h, w, parents, labels);
     let n = flatten(parents, m);
+    if n == m {
+        return n;
+    }
     rename(parents, labels);
     n
 }
