@@ -1,7 +1,6 @@
 // The line pass of an exact Euclidean feature transform: for each place of a line the first site with the least cost + (x - i)².
 ghost use mathlib.Core.Path.{_≡_};
 ghost use Prim.Native.Nat.{ℕ, _+_, _*_, _-_, _<_, _≤_};
-ghost use lib.Dec.{ltb};
 ghost use lib.ListN.{length, getD, replicate};
 ghost use Rattle.line.specs.Line.{mostLength, noPlace, Site, valueAt, lineOf};
 ghost use Rattle.plane.specs.Plane.{apart};
@@ -72,21 +71,6 @@ fn takeover(costs: &[u64], i: usize, u: usize) -> usize
     rise / (2 * step) + 1
 }
 
-// Whether u is better than i, which lies to its left, somewhere on the line; found without a division.
-fn reaches(costs: &[u64], i: usize, u: usize) -> bool
-    requires { ⌜ i < u ⌝ }
-    requires { ⌜ u < length (now costs) ⌝ }
-    requires { ⌜ length (now costs) ≤ mostLength ⌝ }
-    requires { ⌜ Site (now costs) i ⌝ }
-    requires { ⌜ Site (now costs) u ⌝ }
-    requires { ⌜ height (now costs) i ≤ height (now costs) u ⌝ }
-    ensures { λ r. ⌜ r ≡ ltb (takeoverAt (now (costs .entry)) i u) (length (now (costs .entry))) ⌝ }
-{
-    let rise = (high(costs, u) - high(costs, i)) as usize;
-    let most = (costs.len() - 1) * (2 * (u - i));
-    rise < most
-}
-
 // The number of sites that stay when those are taken off the top that u beats already at their own start.
 fn drop_worse(costs: &[u64], s: &[u32], t: &[u32], count: usize, u: usize) -> usize
     requires { ⌜ Room (now costs) (now s) (now t) ⌝ }
@@ -124,8 +108,8 @@ fn push_site(costs: &[u64], s: &mut [u32], t: &mut [u32], count: usize, u: usize
     }
     let top = k - 1;
     let i = wide(s[top]);
-    if reaches(costs, i, u) {
-        let from = takeover(costs, i, u);
+    let from = takeover(costs, i, u);
+    if from < costs.len() {
         s[k] = u as u32;
         t[k] = from as u32;
         return k + 1;
