@@ -2,7 +2,7 @@
 // columns at once; the number of on-pixels in it is kept as a running count.
 ghost use mathlib.Core.Path.{_≡_};
 ghost use mathlib.Core.List.{_++_};
-ghost use Prim.Native.Nat.{ℕ, _+_, _*_, _<_, _≤_};
+ghost use Prim.Native.Nat.{ℕ, _+_, _*_, _-_, _%_, _<_, _≤_};
 ghost use lib.Dec.{ltb};
 ghost use lib.ListN.{length, getD, drop};
 ghost use Rattle.plane.specs.Plane.{mostSide, Sides, on, bit, table};
@@ -28,6 +28,13 @@ fn lit(b: u8) -> u16
     ensures { λ r. ⌜ r ≡ bit (on b) ⌝ }
 {
     if b == 0 { 0 } else { 1 }
+}
+
+// -1 for a pixel that is on, modulo 2^16.
+fn unlit(b: u8) -> u16
+    ensures { λ r. ⌜ r ≡ (65536 - bit (on b)) % 65536 ⌝ }
+{
+    if b == 0 { 0 } else { 65535 }
 }
 
 // The byte for a window with n on-pixels.
@@ -83,7 +90,7 @@ fn leave_line(line: &[u8], steps: &mut [u16])
 {
     let mut x = 0usize;
     while x < line.len() {
-        steps[x] = std::num::wrapping_sub_u16(steps[x], lit(line[x]));
+        steps[x] = std::num::wrapping_add_u16(steps[x], unlit(line[x]));
         x += 1;
     }
 }

@@ -21,20 +21,20 @@ abbrev μ-loop : tie.MeasureT-loop
 loop-holds : tie.Need-loop-holds Inv-loop μ-loop
 loop-holds c = let a = c .before .before .args in (omega arith, changed-none (λ (i : ℕ). (getD (a .steps .now) i 0 + 65536 - bit (onIn (a .line .now) i)) % 65536) (a .steps .now))
 
-mul-wrapping-sub-u16 : tie.Need-mul-wrapping-sub-u16 Inv-loop μ-loop
-mul-wrapping-sub-u16 c = omega arith
+mul-wrapping-add-u16 : tie.Need-mul-wrapping-add-u16 Inv-loop μ-loop
+mul-wrapping-add-u16 c = omega arith
 
-slice-read-wrapping-sub-u16 : tie.Need-slice-read-wrapping-sub-u16 Inv-loop μ-loop
-slice-read-wrapping-sub-u16 c = omega arith
+slice-read-wrapping-add-u16 : tie.Need-slice-read-wrapping-add-u16 Inv-loop μ-loop
+slice-read-wrapping-add-u16 c = omega arith
 
-shared-slice-read-lit : tie.Need-shared-slice-read-lit Inv-loop μ-loop
-shared-slice-read-lit c = omega arith
+shared-slice-read-unlit : tie.Need-shared-slice-read-unlit Inv-loop μ-loop
+shared-slice-read-unlit c = omega arith
 
-lit-requires : tie.Need-lit-requires Inv-loop μ-loop
-lit-requires c κs = omega arith
+unlit-requires : tie.Need-unlit-requires Inv-loop μ-loop
+unlit-requires c κs = omega arith
 
-wrapping-sub-u16-requires : tie.Need-wrapping-sub-u16-requires Inv-loop μ-loop
-wrapping-sub-u16-requires c κs = omega arith
+wrapping-add-u16-requires : tie.Need-wrapping-add-u16-requires Inv-loop μ-loop
+wrapping-add-u16-requires c κs = omega arith
 
 mul-steps : tie.Need-mul-steps Inv-loop μ-loop
 mul-steps c = omega arith
@@ -54,11 +54,11 @@ loop-again c =
     let o = c .before .before .before .before .before .before .before .before in
     let a = o .args in
     let t = c .before .before .before .before .loop-test .taken in
-    let e : c .before .lit .result ≡ bit (onIn (a .line .now) (l .x)) = c .before .lit .ensures in
-    let w : (c .wrapping-sub-u16 .result + c .before .lit .result) % 65536 ≡ getD (l .steps) (l .x) 0 = c .wrapping-sub-u16 .ensures in (
+    let e : c .before .unlit .result ≡ (65536 - bit (onIn (a .line .now) (l .x))) % 65536 = c .before .unlit .ensures in
+    let w : c .wrapping-add-u16 .result ≡ (getD (l .steps) (l .x) 0 + c .before .unlit .result) % 65536 = c .wrapping-add-u16 .ensures in (
       omega arith,
-      changed-more (λ (i : ℕ). (getD (a .steps .now) i 0 + 65536 - bit (onIn (a .line .now) i)) % 65536) (a .steps .now) (l .steps) (l .x) (c .wrapping-sub-u16 .result) (l .inv .1) (omega (arith, l .inv .1 .size, o .pre, t))
-          (omega (arith, l .inv .1 .back (l .x) (le-refl (l .x)), bit-most (onIn (a .line .now) (l .x)), c .wrapping-sub-u16 .ok)),
+      changed-more (λ (i : ℕ). (getD (a .steps .now) i 0 + 65536 - bit (onIn (a .line .now) i)) % 65536) (a .steps .now) (l .steps) (l .x) (c .wrapping-add-u16 .result) (l .inv .1) (omega (arith, l .inv .1 .size, o .pre, t))
+          (omega (arith, l .inv .1 .back (l .x) (le-refl (l .x)), bit-most (onIn (a .line .now) (l .x)))),
     )
 
 same-length : tie.Need-same-length Inv-loop μ-loop
@@ -79,11 +79,11 @@ leave-line-spec =
     Inv-loop
     μ-loop
     loop-holds
-    mul-wrapping-sub-u16
-    slice-read-wrapping-sub-u16
-    shared-slice-read-lit
-    lit-requires
-    wrapping-sub-u16-requires
+    mul-wrapping-add-u16
+    slice-read-wrapping-add-u16
+    shared-slice-read-unlit
+    unlit-requires
+    wrapping-add-u16-requires
     mul-steps
     slice-write-steps
     add-x
