@@ -15,6 +15,7 @@ use lib.Ieee.Fits.{up-pos, down-pos, and-l, and-r}
 use Rattle.colour.proofs.Compare.{lt-or-eq}
 use Rattle.colour.proofs.Zero.{plus0, Alike, lt-left, lt-right, eq-left, eq-right, eq-alike}
 
+-- x in units of the format's smallest value
 abbrev pub unitsOf : Format → Float → ℕ
 unitsOf f nan = 0
 unitsOf f (inf s) = 0
@@ -38,14 +39,15 @@ divides j l h =
     let e : 2 ^ l ≡ 2 ^ j * 2 ^ (l - j) = ap (λ (k : ℕ). 2 ^ k) (sym (back j l (power-le j l h))) ∙ pow-add 2 j (l - j) in
     ap (λ (k : ℕ). 2 ^ j * (k / 2 ^ j)) e ∙ ap (λ (k : ℕ). 2 ^ j * k) (mul-div-cancel-left (2 ^ (l - j)) (pow-pos j)) ∙ sym e
 
-down-divides : (e : ℤ) (l : ℕ) → down e ≤ 2 ^ l → down e * (2 ^ l / down e) ≡ 2 ^ l
+pub down-divides : (e : ℤ) (l : ℕ) → down e ≤ 2 ^ l → down e * (2 ^ l / down e) ≡ 2 ^ l
 down-divides (pos k) l h = one-mul (2 ^ l / 1) ∙ div-one (2 ^ l)
 down-divides (negsuc k) l h = divides (suc k) l h
 
 two-factors : (a b : ℕ) → 0 < a → a * b ≡ 1 → b ≤ 1
 two-factors a b p e = le-trans (le-of-eq (sym (one-mul b))) (le-trans (mul-le-mul-right b p) (le-of-eq e))
 
-down-le : (f : Format) (s : Bool) (m : ℕ) (e : ℤ) → T (fits f (fin s m e)) → down e ≤ 2 ^ low f
+-- a value of the format is a whole number of its smallest values
+pub down-le : (f : Format) (s : Bool) (m : ℕ) (e : ℤ) → T (fits f (fin s m e)) → down e ≤ 2 ^ low f
 unfolding fits
 down-le f s zero e t = le-trans (two-factors (up e) (down e) (up-pos e) (eqb→eq (up e * down e) 1 t)) (pow-mono {i = 0} {j = low f} (omega arith))
 down-le f s (suc m) e t =
@@ -89,14 +91,14 @@ module _ (f : Format) (s t : Bool) (m : ℕ) (e : ℤ) (n : ℕ) (d : ℤ) (A : 
   eq-cross = eqb-scale _ _ _ _ (2 ^ low f) (down d * down e) (pow-pos (low f)) (mul-pos (down-pos d) (down-pos e)) scaled-left scaled-right
 
 -- ---- with the sign cleared
-plus0-units : (f : Format) (x : Float) → unitsOf f (plus0 x) ≡ unitsOf f x
+pub plus0-units : (f : Format) (x : Float) → unitsOf f (plus0 x) ≡ unitsOf f x
 unfolding plus0
 plus0-units f nan = refl
 plus0-units f (inf s) = refl
 plus0-units f (fin s zero e) = refl
 plus0-units f (fin s (suc m) e) = refl
 
-plus0-fits : (f : Format) (x : Float) → T (fits f x) → T (fits f (plus0 x))
+pub plus0-fits : (f : Format) (x : Float) → T (fits f x) → T (fits f (plus0 x))
 unfolding plus0 fits
 plus0-fits f nan t = t
 plus0-fits f (inf s) t = t
@@ -104,13 +106,13 @@ plus0-fits f (fin s zero e) t = t
 plus0-fits f (fin s (suc m) e) t = t
 
 -- x is m * 2 ^ e with the sign clear
-data Plain : Float → Type 0 where
+pub data Plain : Float → Type 0 where
   plain : (m : ℕ) (e : ℤ) → Plain (fin false m e)
 
 suc-not : (m : ℕ) → eqb (suc m) 0 ≡ false
 suc-not m = ne-eqb (suc m) 0 (λ e. omega arith)
 
-plus0-plain : (x : Float) → T (nonneg x) → Plain (plus0 x)
+pub plus0-plain : (x : Float) → T (nonneg x) → Plain (plus0 x)
 unfolding plus0
 plus0-plain nan t = absurd t
 plus0-plain (inf s) t = absurd t

@@ -119,3 +119,24 @@ fill-ok h w colours mask out rows columns e =
       rows-room = room-enough h w rows (d .1);
       columns-room = room-enough h w columns (b .1);
     }
+
+-- ---- from an answer back to its number and values
+
+by-zero : (n : ℕ) (P : Bool → Type 0) → (n ≡ 0 → P true) → P false → P (eqb n 0)
+by-zero n P a b = at (eqb n 0) refl
+  where
+    at : (t : Bool) → eqb n 0 ≡ t → P t
+    at true e = a (eqb-true n 0 e)
+    at false e = b
+
+pub number-of : (n : ℕ) → numberOf (answerFor n) ≡ n
+unfolding answerFor
+number-of n = by-zero n (λ (t : Bool). numberOf (cond t answer.Done (answer.Refused n)) ≡ n) sym refl
+
+pub labelled-number : (n parts : ℕ) → labelledNumber (labelledFor n parts) ≡ n
+unfolding labelledFor
+labelled-number n parts = by-zero n (λ (t : Bool). labelledNumber (cond t (labelled.Parts parts) (labelled.Refused n)) ≡ n) sym refl
+
+pub labelled-parts : (n parts : ℕ) → labelledParts (labelledFor n parts) ≡ after n parts 0
+unfolding labelledFor after
+labelled-parts n parts = by-zero n (λ (t : Bool). labelledParts (cond t (labelled.Parts parts) (labelled.Refused n)) ≡ cond t parts 0) (λ e. refl) refl

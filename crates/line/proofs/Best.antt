@@ -1,18 +1,18 @@
 -- From the stack's terms to the definition's: a site that leads among all places is what the walk answers; a line is given by its places.
 -- Assumes nothing.
-use mathlib.Core.Path.{_≡_, refl, sym, ap, _∙_}
+use mathlib.Core.Path.{_≡_, sym, ap, _∙_}
 use mathlib.Core.List.{List}
 use mathlib.Core.Option.{none, some}
 use mathlib.Core.Logic.{⊎-elim}
-use Prim.Native.Nat.{ℕ, zero, suc, _+_, _≤_, _<_}
+use Prim.Native.Nat.{ℕ, _≤_, _<_}
 use native.Mathlib.Omega.{arith}
 use lib.ListN.{length, getD, replicate, length-replicate, getD-replicate}
 use lib.Seq.{ext-getD}
 use borrow.Author.Tests.{le-leb, lt-leb}
 use Rattle.line.specs.Line.{mostCost, noPlace, Site, valueAt, offer, best, placeOf, lineOf}
-use Rattle.line.specs.Envelope.{Leads}
+use Rattle.line.specs.Envelope.{Leads, placeFrom, lineFrom}
 use Rattle.plane.proofs.Search.{which}
-use Rattle.plane.proofs.Plane.{table-length, table-at}
+use Rattle.plane.proofs.Plane.{table-length, table-at, table-is}
 use Rattle.line.proofs.Walk.{clash, same, walk-is}
 
 module _ (costs : List ℕ) where
@@ -58,10 +58,6 @@ module _ (costs : List ℕ) where
         },
       )
 
-  pub leader-place : (x i : ℕ) → Leads costs (length costs) x i → i ≡ placeOf (best costs x)
-  unfolding placeOf
-  leader-place x i h = rw (leader x i h)
-
   -- a line with no site
   pub no-leader : ((j : ℕ) → j < length costs → Site costs j → ⊥) → (x : ℕ) → best costs x ≡ none
   unfolding best
@@ -69,6 +65,8 @@ module _ (costs : List ℕ) where
       walk-is (offer costs x) (length costs) none
       (λ j l. offer-none x j (⊎-elim (λ (z : mostCost < getD costs j 0). z) (λ (z : getD costs j 0 ≤ mostCost). absurd (h j l z)) (which mostCost (getD costs j 0))))
 
-  pub no-line : ((j : ℕ) → j < length costs → Site costs j → ⊥) → (n : ℕ) → n ≡ length costs → replicate n noPlace ≡ lineOf costs
-  unfolding placeOf
-  no-line h n e = line-is (replicate n noPlace) (length-replicate n noPlace ∙ e) (λ x l. getD-replicate n x noPlace 0 (omega arith) ∙ sym (ap placeOf (no-leader h x)))
+  pub no-line : (a : ℕ) → ((j : ℕ) → j < length costs → Site costs j → ⊥) → (n : ℕ) → n ≡ length costs → replicate n noPlace ≡ lineFrom a costs
+  unfolding lineFrom placeFrom
+  no-line a h n e =
+      table-is (λ (x : ℕ). placeFrom a (best costs x)) (length costs) (replicate n noPlace) 0 (length-replicate n noPlace ∙ e)
+      (λ x l. getD-replicate n x noPlace 0 (omega arith) ∙ sym (ap (placeFrom a) (no-leader h x)))

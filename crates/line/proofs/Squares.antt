@@ -1,6 +1,6 @@
 -- The quadratic identities of the line pass, and what follows for two sites i < u: u is strictly better from one place on.
 -- Assumes nothing.
-use mathlib.Core.Path.{_≡_, refl, ap, _∙_}
+use mathlib.Core.Path.{_≡_, ap, _∙_}
 use mathlib.Core.List.{List}
 use mathlib.Core.Logic.{⊎-elim}
 use Prim.Native.Nat.{ℕ, _+_, _*_, _-_, _≤_, _<_}
@@ -84,6 +84,15 @@ module _ (costs : List ℕ) where
       let p = balance x i u (omega arith) in
       let m : height costs u - height costs i < x * (2 * (u - i)) = div-lt-iff-lt-mul {k = 2 * (u - i)} {x = height costs u - height costs i} {y = x} (omega arith) .0 (omega arith) in
       omega arith
+
+  -- the takeover lies within n places exactly where the heights differ by less than this
+  pub reached : (i u n : ℕ) → i < u → takeoverAt costs i u < n → height costs u - height costs i < (n - 1) * (2 * (u - i))
+  unfolding takeoverAt
+  reached i u n h l = div-lt-iff-lt-mul {k = 2 * (u - i)} {x = height costs u - height costs i} {y = n - 1} (omega arith) .0 (omega arith)
+
+  pub not-reached : (i u n : ℕ) → i < u → 0 < n → n ≤ takeoverAt costs i u → (n - 1) * (2 * (u - i)) ≤ height costs u - height costs i
+  unfolding takeoverAt
+  not-reached i u n h p l = le-div-iff-mul-le {k = 2 * (u - i)} {x = n - 1} {y = height costs u - height costs i} (omega arith) .0 (omega arith)
 
 -- the square of a number below 65,536 is below 2^32
 pub square-fits : (d : ℕ) → d < 65536 → d * d ≤ 4294836225

@@ -3,8 +3,10 @@
 use Prim.Native.Nat.{ℕ, _+_, _*_, _-_, _/_, _≤_, _<_}
 use mathlib.Core.Path.{_≡_}
 use mathlib.Core.List.{List}
+use mathlib.Core.Option.{Option, none, some}
 use lib.ListN.{length, getD}
-use Rattle.line.specs.Line.{Site, valueAt, mostLength}
+use Rattle.plane.specs.Plane.{table}
+use Rattle.line.specs.Line.{Site, valueAt, mostLength, noPlace, best, placeOf}
 
 -- the line is not too long, and the work space is as long
 pub record Room (costs s t : List ℕ) : Type 0 where
@@ -41,14 +43,23 @@ height costs i = getD costs i 0 + i * i
 unfoldable pub takeoverAt : List ℕ → ℕ → ℕ → ℕ
 takeoverAt costs i u = (height costs u - height costs i) / (2 * (u - i)) + 1
 
--- x lies in segment q, or where the next one starts
-pub record Near (t : List ℕ) (count q x : ℕ) : Type 0 where
-  pub inside : q < count
-  pub from : getD t q 0 ≤ x
-  pub upto : q + 1 < count → x ≤ getD t (q + 1) 0
+-- the place of an answer for a part of the line that starts at a
+unfoldable pub placeFrom : ℕ → Option ℕ → ℕ
+placeFrom a none = noPlace
+placeFrom a (some i) = a + i
 
--- x lies in segment q
-pub record Within (t : List ℕ) (count q x : ℕ) : Type 0 where
-  pub inside : q < count
-  pub from : getD t q 0 ≤ x
-  pub upto : q + 1 < count → x < getD t (q + 1) 0
+-- the line pass over a part of the line that starts at a
+unfoldable pub lineFrom : ℕ → List ℕ → List ℕ
+lineFrom a costs = table (λ (x : ℕ). placeFrom a (best costs x)) 0 (length costs)
+
+-- e ends a run that holds x: it is the end of the line, or the place before it has cost 0
+pub record Ends (costs : List ℕ) (x e : ℕ) : Type 0 where
+  pub after : x < e
+  pub within : e ≤ length costs
+  pub bound : e < length costs → getD costs (e - 1) 0 ≡ 0
+
+-- the places before x are answered, and a run may start at x: it is an end of the line, or the place before it has cost 0
+pub record Done (costs out : List ℕ) (x : ℕ) : Type 0 where
+  pub within : x ≤ length costs
+  pub answered : (k : ℕ) → k < x → getD out k 0 ≡ placeOf (best costs k)
+  pub bound : 0 < x → x < length costs → getD costs (x - 1) 0 ≡ 0

@@ -1,10 +1,11 @@
 // The line pass of an exact Euclidean feature transform: for each place of a line the first site with the least cost + (x - i)².
 ghost use mathlib.Core.Path.{_≡_};
-ghost use Prim.Native.Nat.{ℕ, _+_, _*_, _<_, _≤_};
+ghost use Prim.Native.Nat.{ℕ, _+_, _*_, _-_, _<_, _≤_};
+ghost use lib.Dec.{ltb};
 ghost use lib.ListN.{length, getD, replicate};
 ghost use Rattle.line.specs.Line.{mostLength, noPlace, Site, valueAt, lineOf};
 ghost use Rattle.plane.specs.Plane.{apart};
-ghost use Rattle.line.specs.Envelope.{Room, Stack, Dropped, Near, Within, height, takeoverAt};
+ghost use Rattle.line.specs.Envelope.{Room, Stack, Dropped, Ends, Done, height, takeoverAt, lineFrom};
 
 // A place whose cost is above this has no site (2^33).
 pub const MAX_COST: u64 = 8589934592;
@@ -64,7 +65,26 @@ fn takeover(costs: &[u64], i: usize, u: usize) -> usize
     ensures { λ r. ⌜ r ≡ takeoverAt (now (costs .entry)) i u ⌝ }
 {
     let rise = (high(costs, u) - high(costs, i)) as usize;
-    rise / (2 * (u - i)) + 1
+    let step = u - i;
+    if step == 1 {
+        return rise / 2 + 1;
+    }
+    rise / (2 * step) + 1
+}
+
+// Whether u is better than i, which lies to its left, somewhere on the line; found without a division.
+fn reaches(costs: &[u64], i: usize, u: usize) -> bool
+    requires { ⌜ i < u ⌝ }
+    requires { ⌜ u < length (now costs) ⌝ }
+    requires { ⌜ length (now costs) ≤ mostLength ⌝ }
+    requires { ⌜ Site (now costs) i ⌝ }
+    requires { ⌜ Site (now costs) u ⌝ }
+    requires { ⌜ height (now costs) i ≤ height (now costs) u ⌝ }
+    ensures { λ r. ⌜ r ≡ ltb (takeoverAt (now (costs .entry)) i u) (length (now (costs .entry))) ⌝ }
+{
+    let rise = (high(costs, u) - high(costs, i)) as usize;
+    let most = (costs.len() - 1) * (2 * (u - i));
+    rise < most
 }
 
 // The number of sites that stay when those are taken off the top that u beats already at their own start.
@@ -104,8 +124,8 @@ fn push_site(costs: &[u64], s: &mut [u32], t: &mut [u32], count: usize, u: usize
     }
     let top = k - 1;
     let i = wide(s[top]);
-    let from = takeover(costs, i, u);
-    if from < costs.len() {
+    if reaches(costs, i, u) {
+        let from = takeover(costs, i, u);
         s[k] = u as u32;
         t[k] = from as u32;
         return k + 1;
@@ -129,61 +149,106 @@ fn build(costs: &[u64], s: &mut [u32], t: &mut [u32]) -> usize
     count
 }
 
-// The segment of x, which is that of the place before or the next.
-fn next_segment(costs: &[u64], s: &[u32], t: &[u32], count: usize, q: usize, x: usize) -> usize
-    requires { ⌜ Room (now costs) (now s) (now t) ⌝ }
-    requires { ⌜ Stack (now costs) (now s) (now t) (length (now costs)) count ⌝ }
-    requires { ⌜ Near (now t) count q x ⌝ }
-    ensures { λ r. ⌜ Within (now (t .entry)) count r x ⌝ }
+// A stretch of places that have one answer.
+fn fill(out: &mut [u32], v: u32)
+    ensures { λ _. ⌜ now (out .exit) ≡ replicate (length (now (out .entry))) v ⌝ }
 {
-    let next = q + 1;
-    if next < count {
-        if wide(t[next]) <= x {
-            return next;
-        }
+    let mut x = 0usize;
+    while x < out.len() {
+        out[x] = v;
+        x += 1;
     }
-    q
 }
 
-// The best site of each place.
-fn answer(costs: &[u64], s: &[u32], t: &[u32], count: usize, out: &mut [u32])
+// The best site of each place, segment by segment from the right; the part of the line starts at base.
+fn answer(costs: &[u64], s: &[u32], t: &[u32], count: usize, base: u32, out: &mut [u32])
     requires { ⌜ Room (now costs) (now s) (now t) ⌝ }
     requires { ⌜ length (now out) ≡ length (now costs) ⌝ }
+    requires { ⌜ base ≤ mostLength ⌝ }
     requires { ⌜ 0 < count ⌝ }
     requires { ⌜ Stack (now costs) (now s) (now t) (length (now costs)) count ⌝ }
-    ensures { λ _. ⌜ now (out .exit) ≡ lineOf (now (costs .entry)) ⌝ }
+    ensures { λ _. ⌜ now (out .exit) ≡ lineFrom base (now (costs .entry)) ⌝ }
 {
-    let mut q = 0usize;
-    let mut x = 0usize;
-    while x < out.len() {
-        q = next_segment(costs, s, t, count, q, x);
-        out[x] = s[q];
-        x += 1;
+    let mut q = count;
+    let mut end = out.len();
+    while 0 < q {
+        let top = q - 1;
+        let from = wide(t[top]);
+        let v = base + s[top];
+        fill(&mut out[from..end], v);
+        end = from;
+        q = top;
     }
 }
 
-// A line with no site.
-fn no_answer(out: &mut [u32])
-    ensures { λ _. ⌜ now (out .exit) ≡ replicate (length (now (out .entry))) noPlace ⌝ }
+// The line pass over a part of the line that starts at base.
+fn run(costs: &[u64], base: u32, s: &mut [u32], t: &mut [u32], out: &mut [u32])
+    requires { ⌜ Room (now costs) (now s) (now t) ⌝ }
+    requires { ⌜ length (now out) ≡ length (now costs) ⌝ }
+    requires { ⌜ base ≤ mostLength ⌝ }
+    ensures { λ _. ⌜ now (out .exit) ≡ lineFrom base (now (costs .entry)) ⌝ }
 {
-    let mut x = 0usize;
-    while x < out.len() {
-        out[x] = NO_PLACE;
-        x += 1;
+    let count = build(costs, s, t);
+    if count == 0 {
+        fill(out, NO_PLACE);
+        return;
     }
+    answer(costs, s, t, count, base, out);
+}
+
+// The end of the run that holds x: behind the next place of cost 0, or the end of the line.
+fn run_end(costs: &[u64], x: usize) -> usize
+    requires { ⌜ x < length (now costs) ⌝ }
+    ensures { λ r. ⌜ Ends (now (costs .entry)) x r ⌝ }
+{
+    let mut k = x;
+    while k < costs.len() {
+        let next = k + 1;
+        if costs[k] == 0 {
+            return next;
+        }
+        k = next;
+    }
+    k
+}
+
+// The place before x; 0 for 0.
+fn place_before(x: usize) -> usize
+    ensures { λ r. ⌜ r ≡ x - 1 ⌝ }
+{
+    if 0 < x { x - 1 } else { 0 }
+}
+
+// The run that holds x, from the place before it; its end.
+fn off_run(costs: &[u64], x: usize, s: &mut [u32], t: &mut [u32], out: &mut [u32]) -> usize
+    requires { ⌜ Room (now costs) (now s) (now t) ⌝ }
+    requires { ⌜ length (now out) ≡ length (now costs) ⌝ }
+    requires { ⌜ x < length (now costs) ⌝ }
+    requires { ⌜ Done (now costs) (now out) x ⌝ }
+    ensures { λ r. ⌜ Done (now (costs .entry)) (now (out .exit)) r ⌝ }
+    ensures { λ r. ⌜ Ends (now (costs .entry)) x r ⌝ }
+{
+    let e = run_end(costs, x);
+    let a = place_before(x);
+    run(&costs[a..e], a as u32, s, t, &mut out[a..e]);
+    e
 }
 
 // For each place of a line the first site with the least cost + (x - i)²; NO_PLACE where the line has no site.
+// A place of cost 0 is its own answer, and sites beyond it do not count on this side of it, so the line is done run by run.
 // s and t are work space, as long as the line.
 pub fn line(costs: &[u64], s: &mut [u32], t: &mut [u32], out: &mut [u32])
     requires { ⌜ Room (now costs) (now s) (now t) ⌝ }
     requires { ⌜ length (now out) ≡ length (now costs) ⌝ }
     ensures { λ _. ⌜ now (out .exit) ≡ lineOf (now (costs .entry)) ⌝ }
 {
-    let count = build(costs, s, t);
-    if count == 0 {
-        no_answer(out);
-        return;
+    let mut x = 0usize;
+    while x < costs.len() {
+        if costs[x] == 0 {
+            out[x] = x as u32;
+            x += 1;
+        } else {
+            x = off_run(costs, x, s, t, out);
+        }
     }
-    answer(costs, s, t, count, out);
 }

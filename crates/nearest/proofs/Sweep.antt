@@ -5,12 +5,11 @@ use mathlib.Core.Bool.{Bool, true, false, cond}
 use mathlib.Core.Option.{Option, none, some}
 use mathlib.Core.Logic.{_⊎_, inl, inr, ⊎-elim}
 use Prim.Native.Nat.{ℕ, zero, suc, _+_, _*_, _-_, _≤_, _<_}
-use native.Mathlib.Nat.{add-suc}
 use native.Mathlib.Omega.{arith}
 use borrow.Author.Tests.{lt-ltb, le-ltb}
 use Rattle.plane.specs.Plane.{apart}
 use Rattle.plane.proofs.Search.{which, either, not-both}
-use Rattle.line.specs.Walk.{firstLeast, First, Answers}
+use Rattle.line.specs.Walk.{firstLeast, Answers}
 use Rattle.line.specs.Line.{mostLength}
 use Rattle.line.proofs.Squares.{square-le, square-lt, root-le, root-lt}
 use Rattle.line.proofs.Walk.{clash, same, walk-answers, walk-is}
@@ -133,14 +132,6 @@ module _ (p : ℕ → Bool) where
 
   pub first-low : (y h : ℕ) → y ≤ h → h ≤ noRow → firstFrom p y (h - y) ≤ noRow
   first-low y h l m = low-from y h (firstFrom p y (h - y)) m (first-from (h - y) y h (omega arith))
-
-  from-from : (y h a : ℕ) → y ≤ noRow → First-from y h a → y ≤ a
-  unfolding First-from
-  from-from y h a m (inl z) = omega (arith, z .0)
-  from-from y h a m (inr z) = z .0
-
-  pub first-after : (y h : ℕ) → y ≤ h → h ≤ noRow → y ≤ firstFrom p y (h - y)
-  first-after y h l m = from-from y h (firstFrom p y (h - y)) (omega arith) (first-from (h - y) y h (omega arith))
 
   low-code : (h : ℕ) (b : Option ℕ) (y : ℕ) → h ≤ noRow → Answers (rowNumber y) h b → rowCode b ≤ noRow
   unfolding rowCode

@@ -47,10 +47,6 @@ pub record RowRoom (near costs s t places : List ℕ) (rows cols : List ℤ) : T
 pub record Low (near : List ℕ) : Type 0 where
   pub low : (k : ℕ) → k < length near → getD near k 0 ≤ noRow
 
--- numbers from y on
-pub record From (y : ℕ) (near : List ℕ) : Type 0 where
-  pub from : (k : ℕ) → k < length near → y ≤ getD near k 0
-
 -- ---- first stage, first sweep: from the last row up
 
 -- the first of the n numbers from k on of which p holds
@@ -102,18 +98,18 @@ costsLine y near = table (λ (x : ℕ). squareCost y (getD near x 0)) 0 (length 
 unfoldable pub rowAt : List ℕ → ℕ → ℤ
 rowAt near i = cond (ltb i (length near)) (pos (getD near i 0)) (negsuc 0)
 
-unfoldable pub columnAt : List ℕ → ℕ → ℤ
-columnAt near i = cond (ltb i (length near)) (pos i) (pos 0)
+unfoldable pub columnAt : ℕ → ℕ → ℤ
+columnAt n i = cond (ltb i n) (pos i) (pos 0)
 
 unfoldable pub rowsLine : List ℕ → List ℕ → List ℤ
 rowsLine near places = table (λ (x : ℕ). rowAt near (getD places x 0)) 0 (length near)
 
-unfoldable pub columnsLine : List ℕ → List ℕ → List ℤ
-columnsLine near places = table (λ (x : ℕ). columnAt near (getD places x 0)) 0 (length near)
+unfoldable pub columnsLine : List ℕ → List ℤ
+columnsLine places = table (λ (x : ℕ). columnAt (length places) (getD places x 0)) 0 (length places)
 
 -- the row of each plane, from the line of the nearest on-rows
 unfoldable pub rowsOf : ℕ → List ℕ → List ℤ
 rowsOf y near = rowsLine near (lineOf (costsLine y near))
 
 unfoldable pub columnsOf : ℕ → List ℕ → List ℤ
-columnsOf y near = columnsLine near (lineOf (costsLine y near))
+columnsOf y near = columnsLine (lineOf (costsLine y near))

@@ -1,14 +1,40 @@
 -- `line::push_site` meets its contract.
 -- Assumes nothing.
-use mathlib.Core.Path.{_≡_}
-use Prim.Native.Nat.{_+_, _-_}
-use lib.ListN.{getD}
+use mathlib.Core.Path.{_≡_, refl, sym, _∙_}
+use mathlib.Core.Bool.{false}
+use Prim.Native.Nat.{_+_, _-_, _≤_, _<_}
+use lib.Dec.{ltb}
+use lib.ListN.{length, getD}
 use native.Mathlib.Omega.{arith}
-use Rattle.line.specs.Envelope.{Dropped, takeoverAt}
+use borrow.Author.Tests.{ltb-true, ltb-false}
+use Rattle.line.specs.Line.{Site}
+use Rattle.line.specs.Envelope.{Dropped, height, takeoverAt}
 use Rattle.line.proofs.Push.{at-start, no-higher, push-alone, push-over, push-none}
 use borrow.Author.Needs.{needs}
 use Rattle.line.proofs.push_site.Statement.{statement}
 use Rattle.line.proofs.push_site.Tie as tie
+
+-- the top that stays lies to the left of u, has a site, and is no higher
+top : (c : tie.After-wide) → (c .wide .result < c .before .before .before .before .before .before .before .before .before .args .u) × (Site (c .before .before .before .before .before .before .before .before .before .args .costs .now) (c .wide .result)) × (height (c .before .before .before .before .before .before .before .before .before .args .costs .now) (c .wide .result) ≤ height (c .before .before .before .before .before .before .before .before .before .args .costs .now) (c .before .before .before .before .before .before .before .before .before .args .u))
+top c =
+    let d = c .before .before .before .drop-worse in
+    let o = c .before .before .before .before .before .before .before .before .before in
+    let a = o .args in
+    let r = d .result in
+    let room = o .pre .0 in
+    let dr : Dropped (a .costs .now) (a .s .now) (a .t .now) (a .u) (a .count) r = d .ensures in
+    let n : r ≡ (r - 1) + 1 = omega (arith, c .before .before .if1 .left) in
+    let i = c .wide .result in
+    let e : i ≡ getD (a .s .now) (r - 1) 0 = c .wide .ensures in
+    let st = o .pre .1 .1 .1 in
+    let lead = at-start (a .costs .now) (a .s .now) (a .t .now) (a .u) (a .count) st (r - 1) (omega (arith, dr .fewer)) in
+    rw e (lead .inside, lead .site, no-higher (a .costs .now) (a .s .now) (a .t .now) (a .u) (a .count) st (o .pre .1 .1 .0) r dr (r - 1) n)
+
+-- where the test holds, the takeover lies within the line
+within : (c : tie.Then2) → takeoverAt (c .before .before .before .before .before .before .before .before .before .before .before .args .costs .now) (c .before .before .wide .result) (c .before .before .before .before .before .before .before .before .before .before .before .args .u) < length (c .before .before .before .before .before .before .before .before .before .before .before .args .costs .now)
+within c =
+    let a = c .before .before .before .before .before .before .before .before .before .before .before .args in
+    ltb-true (takeoverAt (a .costs .now) (c .before .before .wide .result) (a .u)) (length (a .costs .now)) (sym (c .before .reaches .ensures) ∙ c .if2 .taken)
 
 drop-worse-requires : tie.Need-drop-worse-requires
 drop-worse-requires c κs = search needs
@@ -30,15 +56,12 @@ same-length-2 c = search needs
 
 returns : tie.Need-returns
 returns c =
-    let d = c .before in
-    let o = d .before .before .before .before .before .before in
+    let o = c .before .before .before .before .before .before .before in
     let a = o .args in
-    let r = d .drop-worse .result in
-    let st = o .pre .1 .1 .1 in
-    let site = o .pre .1 .1 .0 in
+    let d = c .before .drop-worse in
     let room = o .pre .0 in
-    let dr : Dropped (a .costs .now) (a .s .now) (a .t .now) (a .u) (a .count) r = d .drop-worse .ensures in
-    push-alone (a .costs .now) (a .s .now) (a .t .now) (a .u) (a .count) r (room .sites) (room .starts) (o .pre .1 .0) site st dr (c .if1 .taken)
+    let dr : Dropped (a .costs .now) (a .s .now) (a .t .now) (a .u) (a .count) (d .result) = d .ensures in
+    push-alone (a .costs .now) (a .s .now) (a .t .now) (a .u) (a .count) (d .result) (room .sites) (room .starts) (o .pre .1 .0) (o .pre .1 .1 .0) (o .pre .1 .1 .1) dr (c .if1 .taken)
 
 sub-top : tie.Need-sub-top
 sub-top c = search needs
@@ -52,21 +75,11 @@ slice-read-wide c = search needs
 wide-requires : tie.Need-wide-requires
 wide-requires c κs = search needs
 
+reaches-requires : tie.Need-reaches-requires
+reaches-requires c κs = let f = top c in let o = c .before .before .before .before .before .before .before .before .before in (f .0, (o .pre .1 .0, (o .pre .0 .short, (f .1, (o .pre .1 .1 .0, f .2)))))
+
 takeover-requires : tie.Need-takeover-requires
-takeover-requires c κs =
-    let d = c .before .before .before in
-    let o = d .before .before .before .before .before .before in
-    let a = o .args in
-    let r = d .drop-worse .result in
-    let st = o .pre .1 .1 .1 in
-    let site = o .pre .1 .1 .0 in
-    let room = o .pre .0 in
-    let dr : Dropped (a .costs .now) (a .s .now) (a .t .now) (a .u) (a .count) r = d .drop-worse .ensures in
-    let n : r ≡ (r - 1) + 1 = omega (arith, c .before .before .if1 .left) in
-    let lead = at-start (a .costs .now) (a .s .now) (a .t .now) (a .u) (a .count) st (r - 1) (omega (arith, dr .fewer)) in
-    let e : c .wide .result ≡ getD (a .s .now) (r - 1) 0 = c .wide .ensures in
-    let l = lead .inside in
-    (omega arith, (o .pre .1 .0, (omega arith, (rw e (lead .site), (site, rw e (no-higher (a .costs .now) (a .s .now) (a .t .now) (a .u) (a .count) st site r dr (r - 1) n))))))
+takeover-requires c κs = let f = top (c .before .before) in let o = c .before .before .before .before .before .before .before .before .before .before .before in (f .0, (o .pre .1 .0, (omega (arith, o .pre .1 .0, o .pre .0 .short), (f .1, (o .pre .1 .1 .0, f .2)))))
 
 cast-s-2 : tie.Need-cast-s-2
 cast-s-2 c = search needs
@@ -78,7 +91,11 @@ slice-write-s-2 : tie.Need-slice-write-s-2
 slice-write-s-2 c = search needs
 
 cast-t : tie.Need-cast-t
-cast-t c = search needs
+cast-t c =
+    let o = c .before .before .before .before .before .before .before .before .before .before .before .before in
+    let t : c .takeover .result ≡ takeoverAt (o .args .costs .now) (c .before .before .before .wide .result) (o .args .u) = c .takeover .ensures in
+    let w = within (c .before) in
+    omega (arith, o .pre .0 .short)
 
 mul-t : tie.Need-mul-t
 mul-t c = search needs
@@ -97,18 +114,18 @@ same-length-4 c = search needs
 
 returns-2 : tie.Need-returns-2
 returns-2 c =
-    let d = c .before .before .before .before .before in
-    let o = d .before .before .before .before .before .before in
+    let d = c .before .before .before .before .before .before .drop-worse in
+    let o = c .before .before .before .before .before .before .before .before .before .before .before .before in
     let a = o .args in
-    let r = d .drop-worse .result in
-    let st = o .pre .1 .1 .1 in
-    let site = o .pre .1 .1 .0 in
+    let r = d .result in
     let room = o .pre .0 in
-    let dr : Dropped (a .costs .now) (a .s .now) (a .t .now) (a .u) (a .count) r = d .drop-worse .ensures in
-    let n : r ≡ (r - 1) + 1 = omega (arith, c .before .before .before .before .if1 .left) in
-    let e : c .before .before .wide .result ≡ getD (a .s .now) (r - 1) 0 = c .before .before .wide .ensures in
-    let w : c .before .takeover .result ≡ takeoverAt (a .costs .now) (c .before .before .wide .result) (a .u) = c .before .takeover .ensures in
-    push-over (a .costs .now) (a .s .now) (a .t .now) (a .u) (a .count) r (room .sites) (room .starts) (o .pre .1 .0) site st dr (r - 1) (c .before .takeover .result) n (rw e at w) (c .if2 .taken)
+    let dr : Dropped (a .costs .now) (a .s .now) (a .t .now) (a .u) (a .count) r = d .ensures in
+    let n : r ≡ (r - 1) + 1 = omega (arith, c .before .before .before .before .before .if1 .left) in
+    let i = c .before .before .before .wide .result in
+    let e : i ≡ getD (a .s .now) (r - 1) 0 = c .before .before .before .wide .ensures in
+    let t : c .takeover .result ≡ takeoverAt (a .costs .now) i (a .u) = c .takeover .ensures in
+    let w = within (c .before) in
+    push-over (a .costs .now) (a .s .now) (a .t .now) (a .u) (a .count) r (room .sites) (room .starts) (o .pre .1 .0) (o .pre .1 .1 .0) (o .pre .1 .1 .1) dr (r - 1) (c .takeover .result) n (rw e at t) (omega arith)
 
 same-length-5 : tie.Need-same-length-5
 same-length-5 c = search needs
@@ -118,18 +135,18 @@ same-length-6 c = search needs
 
 returns-3 : tie.Need-returns-3
 returns-3 c =
-    let d = c .before .before .before .before .before in
-    let o = d .before .before .before .before .before .before in
+    let d = c .before .before .before .before .before .drop-worse in
+    let o = c .before .before .before .before .before .before .before .before .before .before .before in
     let a = o .args in
-    let r = d .drop-worse .result in
-    let st = o .pre .1 .1 .1 in
-    let site = o .pre .1 .1 .0 in
+    let r = d .result in
     let room = o .pre .0 in
-    let dr : Dropped (a .costs .now) (a .s .now) (a .t .now) (a .u) (a .count) r = d .drop-worse .ensures in
+    let dr : Dropped (a .costs .now) (a .s .now) (a .t .now) (a .u) (a .count) r = d .ensures in
     let n : r ≡ (r - 1) + 1 = omega (arith, c .before .before .before .before .if1 .left) in
-    let e : c .before .before .wide .result ≡ getD (a .s .now) (r - 1) 0 = c .before .before .wide .ensures in
-    let w : c .before .takeover .result ≡ takeoverAt (a .costs .now) (c .before .before .wide .result) (a .u) = c .before .takeover .ensures in
-    push-none (a .costs .now) (a .s .now) (a .t .now) (a .u) (a .count) r (room .sites) (room .starts) (o .pre .1 .0) site st dr (r - 1) (c .before .takeover .result) n (rw e at w) (c .if2 .left)
+    let i = c .before .before .wide .result in
+    let e : i ≡ getD (a .s .now) (r - 1) 0 = c .before .before .wide .ensures in
+    let q : ltb (takeoverAt (a .costs .now) i (a .u)) (length (a .costs .now)) ≡ false = sym (c .before .reaches .ensures) ∙ c .if2 .left in
+    let f : ltb (takeoverAt (a .costs .now) (getD (a .s .now) (r - 1) 0) (a .u)) (length (a .costs .now)) ≡ false = rw e at q in
+    push-none (a .costs .now) (a .s .now) (a .t .now) (a .u) (a .count) r (room .sites) (room .starts) (o .pre .1 .0) (o .pre .1 .1 .0) (o .pre .1 .1 .1) dr (r - 1) (takeoverAt (a .costs .now) (getD (a .s .now) (r - 1) 0) (a .u)) n refl (ltb-false (takeoverAt (a .costs .now) (getD (a .s .now) (r - 1) 0) (a .u)) (length (a .costs .now)) f)
 
 pub push-site-spec : {M : Type 1} → statement M
 push-site-spec =
@@ -146,6 +163,7 @@ push-site-spec =
     mul-wide
     slice-read-wide
     wide-requires
+    reaches-requires
     takeover-requires
     cast-s-2
     mul-s

@@ -1,0 +1,6 @@
+pub mod Cases
+pub mod Pattern
+pub mod Rank
+pub mod Places
+pub mod Between
+pub mod Laws

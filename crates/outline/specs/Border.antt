@@ -1,0 +1,47 @@
+-- The border of a picture, its colours, and the reference colour that the border's list gives.
+-- Assumes nothing.
+use Prim.Native.Nat.{ℕ, _+_, _*_, _-_}
+use mathlib.Core.Bool.{Bool, false, _||_}
+use mathlib.Core.List.{List, [], _∷_, _++_, map}
+use lib.Dec.{eqb}
+use lib.ListN.{getD}
+use lib.Ieee.{Float, nan}
+use Rattle.plane.specs.Plane.{table}
+use Rattle.colour.specs.declared.Rgb.{Rgb}
+use Rattle.median.specs.Median.{medianOf}
+
+-- the pixels of row y
+unfoldable pub rowPixels : ℕ → ℕ → List ℕ
+rowPixels w y = table (λ (x : ℕ). y * w + x) 0 w
+
+-- the pixels of column x in rows 1 to h - 2
+unfoldable pub innerColumn : ℕ → ℕ → ℕ → List ℕ
+innerColumn h w x = table (λ (y : ℕ). y * w + x) 1 (h - 2)
+
+-- document 01's border list: row 0, row h - 1, then column 0 and then column w - 1 of rows 1 to h - 2, repeats included
+unfoldable pub borderList : ℕ → ℕ → List ℕ
+borderList h w = rowPixels w 0 ++ rowPixels w (h - 1) ++ innerColumn h w 0 ++ innerColumn h w (w - 1)
+
+-- whether a number is in a list
+unfoldable pub listed : ℕ → List ℕ → Bool
+listed i [] = false
+listed i (j ∷ l) = eqb i j || listed i l
+
+-- document 01's border: the pixels of the list
+unfoldable pub onBorder : ℕ → ℕ → ℕ → Bool
+onBorder h w i = listed i (borderList h w)
+
+-- channel c of pixel i stands at 3 * i + c
+unfoldable pub channelAt : List Float → ℕ → ℕ → Float
+channelAt colours c i = getD colours (3 * i + c) nan
+
+-- the colour of pixel i
+unfoldable pub colourAt : List Float → ℕ → Rgb
+colourAt colours i = record { r = channelAt colours 0 i; g = channelAt colours 1 i; b = channelAt colours 2 i }
+
+-- document 01's reference: of each channel the median of the border list's values
+unfoldable pub referenceChannel : List Float → ℕ → ℕ → ℕ → Float
+referenceChannel colours h w c = medianOf (map (channelAt colours c) (borderList h w))
+
+unfoldable pub referenceOf : List Float → ℕ → ℕ → Rgb
+referenceOf colours h w = record { r = referenceChannel colours h w 0; g = referenceChannel colours h w 1; b = referenceChannel colours h w 2 }

@@ -1,0 +1,6 @@
+pub mod Border
+pub mod Ground
+pub mod Growth
+pub mod Cut
+pub mod Refusal
+pub mod Outcome
