@@ -5,46 +5,24 @@ use mathlib.Core.Bool.{Bool, true, false, _&&_}
 use mathlib.Core.List.{List, _++_}
 use mathlib.Core.Logic.{_⊎_, inl, inr, ⊎-elim}
 use Prim.Native.Nat.{ℕ, zero, suc, _+_, _*_, _-_, _/_, _%_, _≤_, _<_}
-use native.Mathlib.Nat.{ne-of-lt, not-suc-le-zero}
+use native.Mathlib.Nat.{not-suc-le-zero}
+use native.Mathlib.Numerals.{add-one}
 use native.Mathlib.Omega.{arith}
 use lib.Dec.{leb, ltb}
 use lib.ListN.{length, getD, set, take, drop, length-set, length-take, length-drop, List·getD-append}
-use lib.Seq.{getD-set-same, getD-set-other, getD-append-add, getD-drop}
-use borrow.Author.Count.{below-more}
+use lib.Seq.{getD-set-other, getD-append-add, getD-take, getD-drop}
+use borrow.Rule.Slice.PartMut.{putMid, same-len-mid}
 use borrow.Author.Tests.{le-leb, lt-leb, lt-ltb, le-ltb}
 use Rattle.plane.specs.Search.{someBelow, countBelow}
 use Rattle.plane.specs.Plane.{mostSide, on, bit, onAt, apart, within, table, planeOf}
 use Rattle.plane.proofs.Search.{which, some-same, none-is}
 use Rattle.plane.proofs.Plane.{row-in, pixel-in, row-of, column-of, index-of, plane-length, plane-at, plane-same, table-length, table-at, table-is, filled, part-at}
-use Rattle.squares.specs.Window.{inWindow, entering, leaving, onIn, onDown, columnCount, dilatedRow, dilatedRows, dilatedColumns, addedLine, takenLine, testedLine, radiusOf, Passed, Addable, Takable, Bits, Columns, Entered}
+use Rattle.squares.specs.Window.{inWindow, entering, leaving, onIn, onDown, rowCount, columnCount, dilatedRow, stepsOf, runningCount, runningLine, litLine, lessLine, dilatedRows, dilatedColumns, addedLine, takenLine, testedLine, radiusOf, Addable, Takable, Bits, Columns, Entered}
 use Rattle.squares.specs.Squares.{reach, inSquare, squaresPlane}
 use Rattle.squares.proofs.Laws.{on-bit, square-radius}
 use Rattle.squares.proofs.Count.{and-yes, and-no, count-more, slide, window-some, window-most}
 
--- ---- the line pass
-
--- the byte for pixel x is written and the count moved on
-pub stepped : (row out new : List ℕ) (k x n m v : ℕ) → Passed row out k x n → x < length row → v ≡ bit (ltb 0 n) → new ≡ set out x v
-    → m + leaving k x (onIn row) ≡ n + entering (length row) k x (onIn row) → Passed row new k (x + 1) m
-stepped row out new k x n m v p l e s b =
-    let f : (i : ℕ) → ℕ = λ (i : ℕ). bit (inWindow (length row) k i (onIn row)) in
-    let value : v ≡ f x = e ∙ ap (λ (q : ℕ). bit (ltb 0 q)) (p .count) ∙ ap bit (window-some (length row) k (onIn row) x) in
-    record {
-      short = p .short;
-      near = p .near;
-      size = ap length s ∙ length-set out x v ∙ p .size;
-      here = omega arith;
-      count = omega (arith, slide (length row) k (onIn row) x l, p .count);
-      done =
-          below-more (λ (i : ℕ). getD new i 0 ≡ f i) x
-          (λ i g. ap (λ (t : List ℕ). getD t i 0) s ∙ getD-set-other out x i v 0 (ne-of-lt g) ∙ p .done i g)
-          (ap (λ (t : List ℕ). getD t x 0) s ∙ getD-set-same out x v 0 (omega (arith, p .size)) ∙ value);
-    }
-
--- all pixels done
-pub passed : (row out : List ℕ) (k x n : ℕ) → Passed row out k x n → length row ≤ x → out ≡ dilatedRow row k
-unfolding dilatedRow
-passed row out k x n p l = table-is (λ (i : ℕ). bit (inWindow (length row) k i (onIn row))) (length row) out 0 (p .size) (λ i g. p .done i (omega arith))
+-- ---- the window
 
 -- what enters and what leaves, where it does and where nothing does
 pub enters-some : (n k x : ℕ) (p : ℕ → Bool) → x + k + 1 < n → entering n k x p ≡ bit (p (x + k + 1))
@@ -108,6 +86,183 @@ taken-length counts line = table-length (λ (i : ℕ). getD counts i 0 - getD li
 pub taken-at : (counts line : List ℕ) (x : ℕ) → x < length counts → getD (takenLine counts line) x 0 ≡ getD counts x 0 - getD line x 0
 unfolding takenLine
 taken-at counts line x l = table-at (λ (i : ℕ). getD counts i 0 - getD line i 0) (length counts) x 0 l
+
+-- ---- the line pass
+
+pub entering-most : (n k x : ℕ) (p : ℕ → Bool) → entering n k x p ≤ 1
+entering-most n k x p =
+    ⊎-elim {C = entering n k x p ≤ 1}
+    (λ (a : x + k + 1 < n). omega (arith, enters-some n k x p a, bit-most (p (x + k + 1))))
+    (λ (a : n ≤ x + k + 1). omega (arith, enters-none n k x p a))
+    (which (x + k + 1) n)
+
+pub leaving-most : (k x : ℕ) (p : ℕ → Bool) → leaving k x p ≤ 1
+leaving-most k x p =
+    ⊎-elim {C = leaving k x p ≤ 1}
+    (λ (a : x < k). omega (arith, leaves-none k x p a))
+    (λ (a : k ≤ x). omega (arith, leaves-some k x p a, bit-most (p (x - k))))
+    (which x k)
+
+-- a step modulo 2^16 from a count to the next, where it gains e and loses l
+pub moved-on : (c m e l : ℕ) → m + l ≡ c + e → c ≤ mostSide → e ≤ 1 → l ≤ 1 → (c + (e + 65536 - l) % 65536) % 65536 ≡ m
+moved-on c m e l p q r s = omega arith
+
+-- a list with a part put into it: in front of the part, and in it
+pub put-front : (a n : ℕ) (xs ys : List ℕ) (i : ℕ) → a ≤ length xs → i < a → getD (putMid a n xs ys) i 0 ≡ getD xs i 0
+put-front a n xs ys i l g = List·getD-append (take a xs) (ys ++ drop n (drop a xs)) 0 i (simp length-take (omega arith)) ∙ getD-take a xs i 0 g
+
+pub put-part : (a n : ℕ) (xs ys : List ℕ) (i : ℕ) → a ≤ length xs → a ≤ i → i < a + length ys → getD (putMid a n xs ys) i 0 ≡ getD ys (i - a) 0
+put-part a n xs ys i l g m =
+    let rest = ys ++ drop n (drop a xs) in
+    let e : i ≡ length (take a xs) + (i - a) = simp length-take (omega arith) in
+    ap (λ (j : ℕ). getD (take a xs ++ rest) j 0) e ∙ getD-append-add (take a xs) rest (i - a) 0 ∙ List·getD-append ys (drop n (drop a xs)) 0 (i - a) (omega arith)
+
+-- no step at all, where every window holds the whole row
+pub steps-none : (row : List ℕ) (k : ℕ) → length row ≤ k → table (λ (x : ℕ). 0) 0 (length row) ≡ stepsOf row k
+unfolding stepsOf
+steps-none row k a =
+    let n = length row in
+    table-is (λ (x : ℕ). (entering n k x (onIn row) + 65536 - leaving k x (onIn row)) % 65536) n (table (λ (x : ℕ). 0) 0 n) 0 (table-length (λ (x : ℕ). 0) 0 n)
+    (λ x l. table-at (λ (i : ℕ). 0) n x 0 l ∙ omega (arith, enters-none n k x (onIn row) (omega arith), leaves-none k x (onIn row) (omega arith)))
+
+pub lit-length : (row : List ℕ) → length (litLine row) ≡ length row
+unfolding litLine
+lit-length row = table-length (λ (x : ℕ). bit (onIn row x)) 0 (length row)
+
+pub lit-at : (row : List ℕ) (x : ℕ) → x < length row → getD (litLine row) x 0 ≡ bit (onIn row x)
+unfolding litLine
+lit-at row x l = table-at (λ (i : ℕ). bit (onIn row i)) (length row) x 0 l
+
+pub less-length : (steps row : List ℕ) → length (lessLine steps row) ≡ length steps
+unfolding lessLine
+less-length steps row = table-length (λ (x : ℕ). (getD steps x 0 + 65536 - bit (onIn row x)) % 65536) 0 (length steps)
+
+pub less-at : (steps row : List ℕ) (x : ℕ) → x < length steps → getD (lessLine steps row) x 0 ≡ (getD steps x 0 + 65536 - bit (onIn row x)) % 65536
+unfolding lessLine
+less-at steps row x l = table-at (λ (i : ℕ). (getD steps i 0 + 65536 - bit (onIn row i)) % 65536) (length steps) x 0 l
+
+-- the steps of a row from those where a pixel enters, the rest, and what is taken off
+module _ (row old gains rest left : List ℕ) (k : ℕ) (size : length old ≡ length row) (short : k < length row) where
+  abbrev last : ℕ
+  last = length row - k - 1
+
+  abbrev first : List ℕ
+  first = putMid 0 (last - 0) old gains
+
+  abbrev second : List ℕ
+  second = putMid last (length row - last) first rest
+
+  module _ (p : gains ≡ litLine (take (length row - (k + 1)) (drop (k + 1) row))) (q : rest ≡ table (λ (x : ℕ). 0) 0 (length (take (length row - last) (drop last first))))
+      (r : left ≡ lessLine (take (length row - k) (drop k second)) (take (length row - k - 0) (drop 0 row))) where
+    gains-long : length gains ≡ last
+    gains-long = ap length p ∙ lit-length (take (length row - (k + 1)) (drop (k + 1) row)) ∙ simp (length-take, length-drop) (omega arith)
+
+    first-long : length first ≡ length row
+    first-long = same-len-mid 0 (last - 0) old gains (gains-long ∙ simp (length-take, length-drop) (omega arith)) ∙ size
+
+    rest-part : length rest ≡ length (take (length row - last) (drop last first))
+    rest-part = ap length q ∙ table-length (λ (x : ℕ). 0) 0 (length (take (length row - last) (drop last first)))
+
+    rest-long : length rest ≡ length row - last
+    rest-long = let f = first-long in rest-part ∙ length-take (length row - last) (drop last first) ∙ omega (arith, length-drop last first)
+
+    second-long : length second ≡ length row
+    second-long = same-len-mid last (length row - last) first rest rest-part ∙ first-long
+
+    left-part : length left ≡ length (take (length row - k) (drop k second))
+    left-part = ap length r ∙ less-length (take (length row - k) (drop k second)) (take (length row - k - 0) (drop 0 row))
+
+    part-long : length (take (length row - k) (drop k second)) ≡ length row - k
+    part-long = let f = second-long in length-take (length row - k) (drop k second) ∙ omega (arith, length-drop k second)
+
+    third-long : length (putMid k (length row - k) second left) ≡ length row
+    third-long = same-len-mid k (length row - k) second left left-part ∙ second-long
+
+    -- what enters stands in the line
+    gained : (x : ℕ) → x < length row → getD second x 0 ≡ entering (length row) k x (onIn row)
+    gained x l =
+        let f = first-long in
+        let g = gains-long in
+        let h = rest-long in
+        ⊎-elim {C = getD second x 0 ≡ entering (length row) k x (onIn row)}
+        (λ (a : x < last).
+        let line = take (length row - (k + 1)) (drop (k + 1) row) in
+        let long : length line ≡ last = sym (lit-length line) ∙ sym (ap length p) ∙ g in
+        let at : k + 1 + (x - 0) ≡ x + k + 1 = omega arith in
+        put-front last (length row - last) first rest x (omega arith) a
+        ∙ put-part 0 (last - 0) old gains x (omega arith) (omega arith) (omega arith)
+        ∙ ap (λ (t : List ℕ). getD t (x - 0) 0) p
+        ∙ lit-at line (x - 0) (omega arith)
+        ∙ ap (λ (v : ℕ). bit (on v)) (getD-take (length row - (k + 1)) (drop (k + 1) row) (x - 0) 0 (omega arith) ∙ getD-drop (k + 1) row (x - 0) 0)
+        ∙ ap (λ (i : ℕ). bit (onIn row i)) at
+        ∙ sym (enters-some (length row) k x (onIn row) (omega arith)))
+        (λ (a : last ≤ x).
+        put-part last (length row - last) first rest x (omega arith) a (omega arith)
+        ∙ ap (λ (t : List ℕ). getD t (x - last) 0) q
+        ∙ table-at (λ (i : ℕ). 0) (length (take (length row - last) (drop last first))) (x - last) 0 (omega (arith, rest-part))
+        ∙ sym (enters-none (length row) k x (onIn row) (omega arith)))
+        (which x last)
+
+    pub steps-made : putMid k (length row - k) second left ≡ stepsOf row k
+    unfolding stepsOf
+    steps-made =
+        let n = length row in
+        let f : ℕ → ℕ = λ (x : ℕ). (entering n k x (onIn row) + 65536 - leaving k x (onIn row)) % 65536 in
+        let s = second-long in
+        let m = left-part in
+        let u = part-long in
+        let made = putMid k (n - k) second left in
+        table-is f n made 0 third-long
+        (λ x l.
+        let gain = gained x l in
+        ⊎-elim {C = getD made x 0 ≡ f x}
+        (λ (a : x < k).
+        put-front k (n - k) second left x (omega arith) a ∙ gain ∙ omega (arith, leaves-none k x (onIn row) a, entering-most n k x (onIn row)))
+        (λ (a : k ≤ x).
+        let part = take (n - k) (drop k second) in
+        let line = take (n - k - 0) (drop 0 row) in
+        let back : k + (x - k) ≡ x = omega arith in
+        let here : getD part (x - k) 0 ≡ entering n k x (onIn row) =
+        getD-take (n - k) (drop k second) (x - k) 0 (omega arith) ∙ getD-drop k second (x - k) 0 ∙ ap (λ (i : ℕ). getD second i 0) back ∙ gain in
+        let gone : bit (onIn line (x - k)) ≡ leaving k x (onIn row) =
+        ap (λ (v : ℕ). bit (on v)) (getD-take (n - k - 0) row (x - k) 0 (omega arith)) ∙ sym (leaves-some k x (onIn row) a) in
+        put-part k (n - k) second left x (omega arith) a (omega arith)
+        ∙ ap (λ (t : List ℕ). getD t (x - k) 0) r
+        ∙ less-at part line (x - k) (omega arith)
+        ∙ ap (λ (v : ℕ). (v + 65536 - bit (onIn line (x - k))) % 65536) here
+        ∙ ap (λ (v : ℕ). (entering n k x (onIn row) + 65536 - v) % 65536) gone)
+        (which x k))
+
+pub steps-length : (row : List ℕ) (k : ℕ) → length (stepsOf row k) ≡ length row
+unfolding stepsOf
+steps-length row k = table-length (λ (x : ℕ). (entering (length row) k x (onIn row) + 65536 - leaving k x (onIn row)) % 65536) 0 (length row)
+
+-- at each pixel the running count is the count of its window
+pub running-is : (row : List ℕ) (k x : ℕ) → length row ≤ mostSide → x < length row + 1 → runningCount (rowCount row k 0) (stepsOf row k) x ≡ rowCount row k x
+unfolding runningCount stepsOf
+running-is row k zero a b = refl
+running-is row k (suc x) a b =
+    let n = length row in
+    let p = onIn row in
+    let f : ℕ → ℕ = λ (i : ℕ). (entering n k i p + 65536 - leaving k i p) % 65536 in
+    let before = running-is row k x a (omega arith) in
+    let step : getD (stepsOf row k) x 0 ≡ f x = table-at f n x 0 (omega arith) in
+    let next : rowCount row k (x + 1) ≡ rowCount row k (suc x) = ap (rowCount row k) (add-one x) in
+    ap (λ (c : ℕ). (c + getD (stepsOf row k) x 0) % 65536) before
+    ∙ ap (λ (d : ℕ). (rowCount row k x + d) % 65536) step
+    ∙ moved-on (rowCount row k x) (rowCount row k (x + 1)) (entering n k x p) (leaving k x p) (slide n k p x (omega arith)) (omega (arith, window-most n k p x)) (entering-most n k x p) (leaving-most k x p)
+    ∙ next
+
+-- so the bytes are those of the dilated row
+pub running-row : (row : List ℕ) (k : ℕ) → length row ≤ mostSide → runningLine (rowCount row k 0) (stepsOf row k) ≡ dilatedRow row k
+unfolding runningLine dilatedRow
+running-row row k a =
+    let n = length row in
+    let g : ℕ → ℕ = λ (x : ℕ). bit (ltb 0 (runningCount (rowCount row k 0) (stepsOf row k) x)) in
+    let long : length (stepsOf row k) ≡ n = steps-length row k in
+    table-is (λ (x : ℕ). bit (inWindow n k x (onIn row))) n (table g 0 (length (stepsOf row k))) 0 (table-length g 0 (length (stepsOf row k)) ∙ long)
+    (λ x l.
+    table-at g (length (stepsOf row k)) x 0 (omega arith) ∙ ap (λ (c : ℕ). bit (ltb 0 c)) (running-is row k x a (omega arith)) ∙ ap bit (window-some n k (onIn row) x))
 
 -- ---- rows of a plane
 

@@ -1,7 +1,7 @@
 -- How the dilation is computed: a window along each row, then a window along each column, each with the running number of its on-pixels.
 -- Assumes nothing.
 use mathlib.Core.Path.{_≡_}
-use Prim.Native.Nat.{ℕ, _+_, _*_, _-_, _≤_, _<_}
+use Prim.Native.Nat.{ℕ, zero, suc, _+_, _*_, _-_, _%_, _≤_, _<_}
 use mathlib.Core.Bool.{Bool, cond, _&&_}
 use mathlib.Core.List.{List}
 use lib.Dec.{leb, ltb}
@@ -38,6 +38,26 @@ rowCount row k x = windowCount (length row) k x (onIn row)
 unfoldable pub dilatedRow : List ℕ → ℕ → List ℕ
 dilatedRow row k = table (λ (x : ℕ). bit (inWindow (length row) k x (onIn row))) 0 (length row)
 
+-- how a row's count moves on from each pixel to the next, modulo 2^16: 1 more for a pixel that enters, 1 less for one that leaves
+unfoldable pub stepsOf : List ℕ → ℕ → List ℕ
+stepsOf row k = table (λ (x : ℕ). (entering (length row) k x (onIn row) + 65536 - leaving k x (onIn row)) % 65536) 0 (length row)
+
+-- the running count before step x
+unfoldable pub runningCount : ℕ → List ℕ → ℕ → ℕ
+runningCount first steps zero = first
+runningCount first steps (suc x) = (runningCount first steps x + getD steps x 0) % 65536
+
+-- the bytes that say where it is not 0
+unfoldable pub runningLine : ℕ → List ℕ → List ℕ
+runningLine first steps = table (λ (x : ℕ). bit (ltb 0 (runningCount first steps x))) 0 (length steps)
+
+-- 1 for each pixel that is on, 0 for each that is off; and that taken off a line, modulo 2^16
+unfoldable pub litLine : List ℕ → List ℕ
+litLine row = table (λ (x : ℕ). bit (onIn row x)) 0 (length row)
+
+unfoldable pub lessLine : List ℕ → List ℕ → List ℕ
+lessLine steps row = table (λ (x : ℕ). (getD steps x 0 + 65536 - bit (onIn row x)) % 65536) 0 (length steps)
+
 -- a plane after the line pass along each row
 unfoldable pub dilatedRows : List ℕ → ℕ → ℕ → ℕ → List ℕ
 dilatedRows mask h w k = planeOf h w (λ (y x : ℕ). bit (inWindow w k x (onAt mask w y)))
@@ -68,20 +88,12 @@ testedLine counts w = table (λ (x : ℕ). bit (ltb 0 (getD counts x 0))) 0 w
 unfoldable pub radiusOf : ℕ → ℕ → ℕ → ℕ
 radiusOf h w iterations = cond (leb (reach h w iterations) (larger h w)) (reach h w iterations) (larger h w)
 
--- the line pass has done the pixels before x, and n is the count of x's window
-pub record Passed (row out : List ℕ) (k x n : ℕ) : Type 0 where
+-- a row, the line of its steps, and the row that is written
+pub record Rows (row steps out : List ℕ) (k : ℕ) : Type 0 where
   pub short : length row ≤ mostSide
   pub near : k ≤ mostSide
+  pub steps-size : length steps ≡ length row
   pub size : length out ≡ length row
-  pub here : x ≤ length row
-  pub count : n ≡ rowCount row k x
-  pub done : (i : ℕ) → i < x → getD out i 0 ≡ bit (inWindow (length row) k i (onIn row))
-
--- at each step from one pixel to the other a pixel enters the window and one leaves it
-pub record Both (row : List ℕ) (k from to : ℕ) : Type 0 where
-  pub order : from ≤ to
-  pub late : k ≤ from
-  pub early : from < to → to + k < length row
 
 -- a line of numbers that can be added to another of which each fits 16 bits
 pub record Addable (counts line : List ℕ) : Type 0 where
@@ -109,6 +121,14 @@ pub record Columns (plane : List ℕ) (h w k y : ℕ) (counts : List ℕ) : Type
 pub record Entered (plane : List ℕ) (h w k y : ℕ) (counts : List ℕ) : Type 0 where
   pub room : w ≤ length counts
   pub each : (x : ℕ) → x < w → getD counts x 0 ≡ columnCount plane h w k y x + entering h k y (onDown plane w x)
+
+-- a mask with its sides and a k, the steps of a row, and the buffer for the rows
+pub record Planes (mask steps work : List ℕ) (h w k : ℕ) : Type 0 where
+  pub sides : Sides h w
+  pub near : k ≤ mostSide
+  pub mask-size : length mask ≡ h * w
+  pub steps-size : w ≤ length steps
+  pub work-size : h * w ≤ length work
 
 -- what the dilation needs: accepted sides, and buffers of the plane's size
 pub record Lent (mask work out : List ℕ) (h w : ℕ) : Type 0 where

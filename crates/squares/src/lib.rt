@@ -2,12 +2,12 @@
 // columns at once; the number of on-pixels in it is kept as a running count.
 ghost use mathlib.Core.Path.{_≡_};
 ghost use mathlib.Core.List.{_++_};
-ghost use Prim.Native.Nat.{ℕ, _+_, _*_, _<_, _≤_};
+ghost use Prim.Native.Nat.{ℕ, _+_, _*_, _-_, _%_, _<_, _≤_};
 ghost use lib.Dec.{ltb};
 ghost use lib.ListN.{length, getD, drop};
-ghost use Rattle.plane.specs.Plane.{mostSide, Sides, on, bit};
+ghost use Rattle.plane.specs.Plane.{mostSide, Sides, on, bit, table};
 ghost use Rattle.squares.specs.Squares.{squaresPlane};
-ghost use Rattle.squares.specs.Window.{rowCount, dilatedRow, dilatedRows, dilatedColumns, addedLine, takenLine, testedLine, radiusOf, Passed, Both, Addable, Takable, Bits, Columns, Entered, Lent};
+ghost use Rattle.squares.specs.Window.{rowCount, dilatedRow, dilatedRows, dilatedColumns, addedLine, takenLine, testedLine, stepsOf, runningLine, litLine, lessLine, radiusOf, Rows, Planes, Addable, Takable, Bits, Columns, Entered, Lent};
 
 // The k that is used: the larger side for iterations 0 and for more iterations than that.
 fn radius(h: usize, w: usize, iterations: u64) -> usize
@@ -24,27 +24,34 @@ fn radius(h: usize, w: usize, iterations: u64) -> usize
 }
 
 // 1 for a pixel that is on, 0 for one that is off.
-fn lit(b: u8) -> u32
+fn lit(b: u8) -> u16
     ensures { λ r. ⌜ r ≡ bit (on b) ⌝ }
 {
     if b == 0 { 0 } else { 1 }
 }
 
+// -1 for a pixel that is on, modulo 2^16.
+fn unlit(b: u8) -> u16
+    ensures { λ r. ⌜ r ≡ (65536 - bit (on b)) % 65536 ⌝ }
+{
+    if b == 0 { 0 } else { 65535 }
+}
+
 // The byte for a window with n on-pixels.
-fn any(n: u32) -> u8
+fn any(n: u16) -> u8
     ensures { λ r. ⌜ r ≡ bit (ltb 0 n) ⌝ }
 {
     if n == 0 { 0 } else { 1 }
 }
 
 // The count of the first pixel's window.
-fn first_window(row: &[u8], k: usize) -> u32
+fn first_window(row: &[u8], k: usize) -> u16
     requires { ⌜ length (now row) ≤ mostSide ⌝ }
     requires { ⌜ k ≤ mostSide ⌝ }
     ensures { λ r. ⌜ r ≡ rowCount (now (row .entry)) k 0 ⌝ }
 {
     let end = if k < row.len() { k + 1 } else { row.len() };
-    let mut n = 0u32;
+    let mut n = 0u16;
     let mut i = 0usize;
     while i < end {
         n += lit(row[i]);
@@ -53,93 +60,108 @@ fn first_window(row: &[u8], k: usize) -> u32
     n
 }
 
-// The pixels before `to`, of whose windows none has left a pixel behind.
-fn growing(row: &[u8], k: usize, to: usize, first: u32, out: &mut [u8]) -> u32
-    requires { ⌜ Passed (now row) (now out) k 0 first ⌝ }
-    requires { ⌜ to ≤ k ⌝ }
-    requires { ⌜ to ≤ length (now row) ⌝ }
-    ensures { λ r. ⌜ Passed (now (row .entry)) (now (out .exit)) k to r ⌝ }
+// The steps of a count: pixels that enter,
+fn enter_line(line: &[u8], steps: &mut [u16])
+    requires { ⌜ length (now steps) ≡ length (now line) ⌝ }
+    ensures { λ _. ⌜ now (steps .exit) ≡ litLine (now (line .entry)) ⌝ }
+{
+    let mut x = 0usize;
+    while x < line.len() {
+        steps[x] = lit(line[x]);
+        x += 1;
+    }
+}
+
+// none,
+fn clear_line(steps: &mut [u16])
+    ensures { λ _. ⌜ now (steps .exit) ≡ table (λ _. 0) 0 (length (now (steps .entry))) ⌝ }
+{
+    let mut x = 0usize;
+    while x < steps.len() {
+        steps[x] = 0;
+        x += 1;
+    }
+}
+
+// and pixels that leave.
+fn leave_line(line: &[u8], steps: &mut [u16])
+    requires { ⌜ length (now steps) ≡ length (now line) ⌝ }
+    ensures { λ _. ⌜ now (steps .exit) ≡ lessLine (now (steps .entry)) (now (line .entry)) ⌝ }
+{
+    let mut x = 0usize;
+    while x < line.len() {
+        steps[x] = std::num::wrapping_add_u16(steps[x], unlit(line[x]));
+        x += 1;
+    }
+}
+
+// How the count of a row's window moves on from each pixel to the next.
+fn step_line(row: &[u8], k: usize, steps: &mut [u16])
+    requires { ⌜ length (now steps) ≡ length (now row) ⌝ }
+    ensures { λ _. ⌜ now (steps .exit) ≡ stepsOf (now (row .entry)) k ⌝ }
+{
+    let w = row.len();
+    if w <= k {
+        clear_line(steps);
+        return;
+    }
+    let last = w - k - 1;
+    enter_line(&row[k + 1..w], &mut steps[0..last]);
+    clear_line(&mut steps[last..w]);
+    leave_line(&row[0..w - k], &mut steps[k..w]);
+}
+
+// The running count: it starts at first, and each step is added to it.
+fn running(steps: &[u16], first: u16, out: &mut [u8])
+    requires { ⌜ length (now out) ≡ length (now steps) ⌝ }
+    ensures { λ _. ⌜ now (out .exit) ≡ runningLine first (now (steps .entry)) ⌝ }
 {
     let mut n = first;
     let mut x = 0usize;
-    while x < to {
+    while x < steps.len() {
         out[x] = any(n);
-        let enters = x + k + 1;
-        if enters < row.len() {
-            n += lit(row[enters]);
-        }
-        x += 1;
-    }
-    n
-}
-
-// The pixels between, at each of which one pixel enters and one leaves.
-fn sliding(row: &[u8], k: usize, from: usize, to: usize, first: u32, out: &mut [u8]) -> u32
-    requires { ⌜ Passed (now row) (now out) k from first ⌝ }
-    requires { ⌜ Both (now row) k from to ⌝ }
-    ensures { λ r. ⌜ Passed (now (row .entry)) (now (out .exit)) k to r ⌝ }
-{
-    let mut n = first;
-    let mut x = from;
-    while x < to {
-        out[x] = any(n);
-        let enters = x + k + 1;
-        let leaves = x - k;
-        n = n + lit(row[enters]) - lit(row[leaves]);
-        x += 1;
-    }
-    n
-}
-
-// The last pixels, at whose windows none enters any more.
-fn shrinking(row: &[u8], k: usize, from: usize, first: u32, out: &mut [u8])
-    requires { ⌜ Passed (now row) (now out) k from first ⌝ }
-    requires { ⌜ k ≤ from ⌝ }
-    requires { ⌜ length (now row) ≤ from + k + 1 ⌝ }
-    ensures { λ _. ⌜ now (out .exit) ≡ dilatedRow (now (row .entry)) k ⌝ }
-{
-    let mut n = first;
-    let mut x = from;
-    while x < row.len() {
-        out[x] = any(n);
-        let leaves = x - k;
-        n -= lit(row[leaves]);
+        n = std::num::wrapping_add_u16(n, steps[x]);
         x += 1;
     }
 }
 
 // The line pass: each pixel of a row is on where the row has an on-pixel at most k away.
-fn dilate_line(row: &[u8], k: usize, out: &mut [u8])
-    requires { ⌜ length (now row) ≤ mostSide ⌝ }
-    requires { ⌜ k ≤ mostSide ⌝ }
-    requires { ⌜ length (now out) ≡ length (now row) ⌝ }
+fn dilate_line(row: &[u8], k: usize, steps: &mut [u16], out: &mut [u8])
+    requires { ⌜ Rows (now row) (now steps) (now out) k ⌝ }
     ensures { λ _. ⌜ now (out .exit) ≡ dilatedRow (now (row .entry)) k ⌝ }
 {
-    let w = row.len();
-    let n = first_window(row, k);
-    if w <= k {
-        growing(row, k, w, n, out);
-        return;
-    }
-    let n = growing(row, k, k, n, out);
-    let to = if 2 * k < w { w - k - 1 } else { k };
-    let n = sliding(row, k, k, to, n, out);
-    shrinking(row, k, to, n, out);
+    let first = first_window(row, k);
+    step_line(row, k, steps);
+    running(steps, first, out);
 }
 
 // The line pass along each row.
-fn dilate_lines(mask: &[u8], h: usize, w: usize, k: usize, work: &mut [u8])
+fn dilate_lines(mask: &[u8], h: usize, w: usize, k: usize, steps: &mut [u16], work: &mut [u8])
+    requires { ⌜ Planes (now mask) (now steps) (now work) h w k ⌝ }
+    ensures { λ _. ⌜ now (work .exit) ≡ dilatedRows (now (mask .entry)) h w k ++ drop (h * w) (now (work .entry)) ⌝ }
+{
+    let mut y = 0usize;
+    while y < h {
+        dilate_line(
+            &mask[y * w..y * w + w],
+            k,
+            &mut steps[0..w],
+            &mut work[y * w..y * w + w],
+        );
+        y += 1;
+    }
+}
+
+// The pass along the rows.
+fn dilate_rows(mask: &[u8], h: usize, w: usize, k: usize, work: &mut [u8])
     requires { ⌜ Sides h w ⌝ }
     requires { ⌜ k ≤ mostSide ⌝ }
     requires { ⌜ length (now mask) ≡ h * w ⌝ }
     requires { ⌜ h * w ≤ length (now work) ⌝ }
     ensures { λ _. ⌜ now (work .exit) ≡ dilatedRows (now (mask .entry)) h w k ++ drop (h * w) (now (work .entry)) ⌝ }
 {
-    let mut y = 0usize;
-    while y < h {
-        dilate_line(&mask[y * w..y * w + w], k, &mut work[y * w..y * w + w]);
-        y += 1;
-    }
+    let mut steps = [0u16; plane::MOST_SIDE];
+    dilate_lines(mask, h, w, k, &mut steps[..], work);
 }
 
 // A count for each column: a row enters the window,
@@ -257,6 +279,6 @@ pub fn dilate(mask: &[u8], h: usize, w: usize, iterations: u64, work: &mut [u8],
     ensures { λ _. ⌜ now (work .exit) ≡ dilatedRows (now (mask .entry)) h w (radiusOf h w iterations) ++ drop (h * w) (now (work .entry)) ⌝ }
 {
     let k = radius(h, w, iterations);
-    dilate_lines(mask, h, w, k, work);
+    dilate_rows(mask, h, w, k, work);
     dilate_columns(work, h, w, k, out);
 }

@@ -23,15 +23,15 @@ near c =
     let a = o .args in
     omega (arith, c .radius .ensures, radius-most (a .h) (a .w) (a .iterations), larger-least (a .h) (a .w) mostSide (o .pre .sides .tall) (o .pre .sides .wide))
 
-dilate-lines-requires : tie.Need-dilate-lines-requires
-dilate-lines-requires c κs = let o = c .before .before .before .before .before in (o .pre .sides, (near (c .before), (o .pre .mask-size, o .pre .work-size)))
+dilate-rows-requires : tie.Need-dilate-rows-requires
+dilate-rows-requires c κs = let o = c .before .before .before .before .before in (o .pre .sides, (near (c .before), (o .pre .mask-size, o .pre .work-size)))
 
 dilate-columns-requires : tie.Need-dilate-columns-requires
 dilate-columns-requires c κs =
     let r = c .before .before .before .before .before .before in
     let o = r .before .before .before .before in
     let a = o .args in
-    let call = c .before .before .before .before .dilate-lines in
+    let call = c .before .before .before .before .dilate-rows in
     let plane : List ℕ = call .last .1 .1 .1 .1 .0 in
     let rest : List ℕ = drop (a .h * a .w) (a .work .now) in
     let e : plane ≡ between (a .mask .now) rest (a .h) (a .w) (r .radius .result) = call .ensures in (
@@ -54,7 +54,7 @@ returns : tie.Need-returns
 returns c =
     let r = c .before .before .before .before .before .before .before .before .before in
     let a = r .before .before .before .before .args in
-    let call = c .before .before .before .before .before .before .before .dilate-lines in
+    let call = c .before .before .before .before .before .before .before .dilate-rows in
     let plane : List ℕ = call .last .1 .1 .1 .1 .0 in
     let rest : List ℕ = drop (a .h * a .w) (a .work .now) in
     let e : plane ≡ between (a .mask .now) rest (a .h) (a .w) (radiusOf (a .h) (a .w) (a .iterations)) =
@@ -69,7 +69,7 @@ dilate-spec =
     tie.close
     (tie.spec
     radius-requires
-    dilate-lines-requires
+    dilate-rows-requires
     dilate-columns-requires
     same-length
     same-length-2
