@@ -3,4 +3,6 @@ pub mod Borders
 pub mod GroundLaws
 pub mod GrowthLaws
 pub mod Body
+pub mod CutLaws
+pub mod Pictures
 pub mod TwoPictures
