@@ -6,3 +6,4 @@ pub mod Body
 pub mod CutLaws
 pub mod Pictures
 pub mod TwoPictures
+pub mod Cases
