@@ -1,13 +1,12 @@
 -- Document 01's list "The proved cases": one list, line by line, with one check that the prover computes from the definitions.
 -- Assumes nothing.
-use mathlib.Core.Bool.{Bool, true, false, cond, not, _&&_, _||_}
-use mathlib.Core.List.{List, [], _∷_, _++_, map}
-use mathlib.Core.Option.{Option, none, some}
-use Prim.Native.Nat.{ℕ, _+_, _*_}
+use mathlib.Core.Bool.{Bool, true, false, cond, not, _&&_}
+use mathlib.Core.List.{List, [], _∷_, _++_}
+use Prim.Native.Nat.{ℕ, _*_}
 use lib.IntN.{ℤ, pos, negsuc}
 use lib.Dec.{T, eqb}
 use lib.ListN.{replicate}
-use lib.Ieee.{Float, fin, binary64, lt, le, eq, add, sub, mul, div, neg, ofInt, ofBits}
+use lib.Ieee.{Float, fin, lt, le, eq, add, sub, mul, div, neg, ofInt, ofBits}
 use Rattle.plane.specs.Plane.{on, bit, onAt, apart, within, table, rowsUpto, planeOf}
 use Rattle.plane.specs.Search.{someBelow, countBelow}
 use Rattle.line.specs.Walk.{lower}
@@ -15,7 +14,6 @@ use Rattle.line.specs.Grid.{valueOf, walk, upto, grid, plus}
 use Rattle.nearest.specs.Nearest.{rowCost, nearest, rowOf, columnOf, rowsPlane, columnsPlane, away, distanceTo}
 use Rattle.squares.specs.Squares.{larger, reach, inSquare, squaresPlane}
 use Rattle.labels.specs.Labels.{isOn, beside, lesser, merge, joinTwo, joinWith, joinUpto, firstPixel, isFirst, parts, labelOf, labelAt, labelsPlane}
-use Rattle.colour.specs.declared.Rgb.{Rgb}
 use Rattle.colour.specs.declared.Settings.{Settings}
 use Rattle.colour.specs.Number.{zero64, one64, absOf, plusZero, halfOf}
 use Rattle.colour.specs.Colour.{differenceOf, closeTo}
@@ -25,7 +23,7 @@ use Rattle.median.specs.Median.{insert, sorted, placed, lowerMiddle, upperMiddl
 use Rattle.outline.specs.Border.{rowPixels, innerColumn, borderList, listed, onBorder, channelAt, colourAt, referenceChannel, referenceOf}
 use Rattle.outline.specs.Ground.{isClose, closePlane, isGround, groundFrom, groundOf, countOn, someOff, foundFrom, isFound}
 use Rattle.outline.specs.Growth.{nearGround, isEdge, isShallow, isDeep, maskOf, indexOf, isReach, bodyFrom, joinsFrom, isJoining, passOf, growthOf}
-use Rattle.outline.specs.Cut.{Box, alphaMask, isSought, isKeyed, grownGround, cutMask, firstBelow, lastBelow, rowHas, columnHas, lesserOf, boxOf, cropOf}
+use Rattle.outline.specs.Cut.{alphaMask, isSought, isKeyed, grownGround, cutMask, firstBelow, lastBelow, rowHas, columnHas, lesserOf, boxOf, cropOf}
 
 -- ---- tests
 

@@ -1,10 +1,10 @@
 -- Laws of the cut: what an accepted one knows, and that its mask is never empty.
 -- Assumes nothing.
-use mathlib.Core.Path.{_≡_, refl, sym, ap, _∙_}
-use mathlib.Core.Bool.{Bool, true, false, cond, not, _&&_}
+use mathlib.Core.Path.{_≡_, refl, _∙_}
+use mathlib.Core.Bool.{Bool, true, false, cond, not}
 use mathlib.Core.List.{List}
 use mathlib.Core.Logic.{⊎-elim}
-use Prim.Native.Nat.{ℕ, suc, _+_, _*_, _≤_, _<_}
+use Prim.Native.Nat.{ℕ, _*_}
 use native.Mathlib.Omega.{arith}
 use lib.Dec.{eqb, leb}
 use lib.ListN.{length}
@@ -19,7 +19,7 @@ use Rattle.colour.specs.declared.Settings.{Settings}
 use Rattle.colour.specs.Settings.{passesOf}
 use Rattle.outline.specs.Border.{borderList, referenceOf}
 use Rattle.outline.specs.Ground.{closePlane, groundFrom, groundOf, countOn, someOff, foundFrom, isFound}
-use Rattle.outline.specs.Growth.{maskOf, growthOf}
+use Rattle.outline.specs.Growth.{maskOf}
 use Rattle.outline.specs.Cut.{alphaMask, isSought, isKeyed, grownGround, cutMask}
 use Rattle.outline.specs.Refusal.{firstOf, cutNumber}
 use Rattle.outline.proofs.Masks.{mask-on}

@@ -4,6 +4,7 @@ pub mod GroundLaws
 pub mod GrowthLaws
 pub mod Body
 pub mod CutLaws
+pub mod Crop
 pub mod Pictures
 pub mod TwoPictures
 pub mod Cases

@@ -3,20 +3,16 @@
 use mathlib.Core.Path.{_≡_, refl, sym, ap, _∙_}
 use mathlib.Core.Bool.{Bool, true, false, not, _&&_, _||_}
 use mathlib.Core.List.{List}
-use mathlib.Core.Logic.{_⊎_, inl, inr, ⊎-elim}
+use mathlib.Core.Logic.{_⊎_, inl, inr}
 use Prim.Native.Nat.{ℕ, _+_, _*_, _/_, _%_, _≤_, _<_}
 use native.Mathlib.Omega.{arith}
-use lib.Dec.{eqb}
 use lib.ListN.{length, getD}
 use borrow.Author.Tests.{eqb-true}
 use Rattle.plane.specs.Plane.{on, bit, onAt, apart, table}
 use Rattle.plane.proofs.Plane.{table-length, table-at, table-is, pixel-in, row-of, column-of, index-of}
-use Rattle.plane.proofs.Search.{which, either, not-both}
-use Rattle.plane.proofs.Refusal.{and-true}
 use Rattle.labels.specs.Labels.{isOn, beside}
 use Rattle.labels.proofs.Joined.{on-inside}
 use Rattle.labels.proofs.Steps.{row-is, column-is}
-use Rattle.squares.specs.Squares.{inSquare}
 use Rattle.squares.proofs.Laws.{same-test, Site, square-found, square-is, on-bit, apart-sum}
 use Rattle.outline.specs.Growth.{nearGround, maskOf}
 

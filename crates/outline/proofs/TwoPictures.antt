@@ -12,7 +12,6 @@ use lib.ListN.{length, getD}
 use lib.Ieee.{Float, nan, inf, fin, binary64, eq, isNan, fits}
 use lib.Ieee.Scale.{finite}
 use borrow.Author.Tests.{eqb-true}
-use Rattle.plane.specs.Plane.{Sides}
 use Rattle.plane.proofs.Search.{either}
 use Rattle.plane.proofs.Refusal.{and-true}
 use Rattle.labels.specs.Labels.{isOn}
