@@ -64,7 +64,7 @@ pub record TwoCalls (one two : List Float) (alpha : List ℕ) (h w : ℕ) (s t :
   -- all colours lent are from 0 to 1
   pub in-range : coloursOk one ≡ true
   pub in-range′ : coloursOk two ≡ true
-  -- where the first call is not declined, the pictures agree on the border and about the ground
+  -- the pictures agree on the border and about the first picture's ground; where the first call is declined, for whatever reason, they need not agree anywhere
   pub agree : cutNumber one alpha h w s mask weights near first second third ≡ 0 → Agree one two h w s
   -- every number lent is a binary64 number, as every f64 in memory is
   pub held : Held one
@@ -77,7 +77,10 @@ pub record TwoCalls (one two : List Float) (alpha : List ℕ) (h w : ℕ) (s t :
 tolerance-alike : (t u : Float) → T (fits binary64 t) → T (fits binary64 u) → sameTolerance t u ≡ true → Alike t u
 unfolding sameTolerance isNan
 tolerance-alike t u a b e =
-    ⊎-elim {C = Alike t u} (λ (q : eq t u ≡ true). eq-alike binary64 t u a b (is (eq t u) q)) (λ (q : isNan t && isNan u ≡ true). (let z = and-true (isNan t) (isNan u) q in ap plus0 (no-number t (z .0) ∙ sym (no-number u (z .1))))) (or-cases (eq t u) (isNan t && isNan u) e)
+    ⊎-elim {C = Alike t u}
+    (λ (q : eq t u ≡ true). eq-alike binary64 t u a b (is (eq t u) q))
+    (λ (q : isNan t && isNan u ≡ true). (let z = and-true (isNan t) (isNan u) q in ap plus0 (no-number t (z .0) ∙ sym (no-number u (z .1)))))
+    (or-cases (eq t u) (isNan t && isNan u) e)
   where
     no-number : (x : Float) → isNan x ≡ true → x ≡ nan
     no-number nan q = refl
