@@ -1,7 +1,7 @@
--- The theorem about two pictures: what a picture shows away from its border and its ground does not move the outline.
+-- The theorem about two pictures: what a picture shows away from its border and its ground does not move the outline. The statement is the last in this file.
 -- Assumes nothing.
 use mathlib.Core.Path.{_≡_, refl, sym, ap, _∙_}
-use mathlib.Core.Bool.{Bool, true, false, cond, not, _&&_, _||_}
+use mathlib.Core.Bool.{Bool, true, false, cond, not, _&&_}
 use mathlib.Core.List.{List}
 use mathlib.Core.Logic.{⊎-elim}
 use Prim.Native.Nat.{ℕ, zero, suc, _+_, _*_, _≤_, _<_}
@@ -17,12 +17,10 @@ use Rattle.plane.proofs.Refusal.{and-true}
 use Rattle.labels.specs.Labels.{isOn}
 use Rattle.colour.specs.declared.Rgb.{Rgb}
 use Rattle.colour.specs.declared.Settings.{Settings}
-use Rattle.colour.specs.Colour.{coloursOk, sameColour}
 use Rattle.colour.specs.Settings.{onOf, passesOf}
 use Rattle.colour.proofs.Range.{is}
 use Rattle.colour.proofs.Zero.{plus0, Alike, eq-alike}
 use Rattle.colour.proofs.Same.{same-colour}
-use Rattle.median.proofs.Places.{Held}
 use Rattle.outline.specs.Border.{onBorder, channelAt, colourAt, referenceOf}
 use Rattle.outline.specs.Ground.{groundOf}
 use Rattle.outline.specs.Growth.{nearGround, maskOf, growthOf}
@@ -32,45 +30,8 @@ use Rattle.outline.specs.Outcome.{accepted, cutOf}
 use Rattle.outline.proofs.Masks.{or-cases, near-found, near-is, within-more}
 use Rattle.outline.proofs.Borders.{border-inside}
 use Rattle.outline.proofs.CutLaws.{Taken, taken}
+use Rattle.outline.proofs.Premises.{sameTolerance, AgreeAt, Binary64, TwoCalls}
 use Rattle.outline.proofs.Pictures.{Same, references, grounds, found-alike, growths}
-
--- ---- the premises
-
--- two tolerances are equal: as numbers, where -0 equals 0, or both are no number
-unfoldable pub sameTolerance : Float → Float → Bool
-sameTolerance t u = eq t u || (isNan t && isNan u)
-
--- settings are equal: each field is, a negative p read as 0
-pub record SameSettings (s t : Settings) : Type 0 where
-  pub threshold : s .«alpha_threshold» ≡ t .«alpha_threshold»
-  pub keying : s .«key_bg» ≡ t .«key_bg»
-  pub passes : passesOf s ≡ passesOf t
-  pub tolerance : sameTolerance (s .«key_bg_tolerance») (t .«key_bg_tolerance») ≡ true
-  pub cropping : s .«crop_to_alpha» ≡ t .«crop_to_alpha»
-
--- two pictures agree at pixel i: its three colours are equal numbers
-abbrev pub AgreeAt : List Float → List Float → ℕ → Type 0
-AgreeAt one two i = sameColour (colourAt one i) (colourAt two i) ≡ true
-
--- two pictures agree on the border, and on every pixel within p + 4 rows and columns of the first picture's ground, found or not, sought or not
-pub record Agree (one two : List Float) (h w : ℕ) (s : Settings) : Type 0 where
-  pub border : (i : ℕ) → i < h * w → onBorder h w i ≡ true → AgreeAt one two i
-  pub around : (i : ℕ) → i < h * w → nearGround (groundOf one h w (s .«key_bg_tolerance»)) h w (passesOf s + 4) i ≡ true → AgreeAt one two i
-
--- two calls of the cut: on pictures of one size, h rows and w columns, with one alpha, with equal settings, and with each buffer as long in one call as in the other
-pub record TwoCalls (one two : List Float) (alpha : List ℕ) (h w : ℕ) (s t : Settings) (mask weights near first second third : ℕ) : Type 0 where
-  pub sizes : length one ≡ length two
-  pub settings : SameSettings s t
-  -- all colours lent are from 0 to 1
-  pub in-range : coloursOk one ≡ true
-  pub in-range′ : coloursOk two ≡ true
-  -- the pictures agree on the border and about the first picture's ground; where the first call is declined, for whatever reason, they need not agree anywhere
-  pub agree : cutNumber one alpha h w s mask weights near first second third ≡ 0 → Agree one two h w s
-  -- every number lent is a binary64 number, as every f64 in memory is
-  pub held : Held one
-  pub held′ : Held two
-  pub tolerance-held : T (fits binary64 (s .«key_bg_tolerance»))
-  pub tolerance-held′ : T (fits binary64 (t .«key_bg_tolerance»))
 
 -- ---- tolerances
 
@@ -99,7 +60,7 @@ finite-alike t u e = finite-plus0 t ∙ ap finite e ∙ sym (finite-plus0 u)
 
 -- ---- agreeing pictures have the same colours, as numbers
 
-colour-held : (colours : List Float) (n i : ℕ) → Held colours → length colours ≡ 3 * n → i < n → Rattle.colour.proofs.Same.Held (colourAt colours i)
+colour-held : (colours : List Float) (n i : ℕ) → Binary64 colours → length colours ≡ 3 * n → i < n → Rattle.colour.proofs.Same.Held (colourAt colours i)
 unfolding colourAt channelAt
 colour-held colours n i a e l = record { r = a (3 * i + 0) (omega arith); g = a (3 * i + 1) (omega arith); b = a (3 * i + 2) (omega arith) }
 
