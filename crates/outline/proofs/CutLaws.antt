@@ -1,13 +1,13 @@
 -- Laws of the cut: what an accepted one knows, and that its mask is never empty.
 -- Assumes nothing.
-use mathlib.Core.Path.{_≡_, refl, _∙_}
+use mathlib.Core.Path.{_≡_, refl, sym, ap, _∙_}
 use mathlib.Core.Bool.{Bool, true, false, cond, not}
 use mathlib.Core.List.{List}
 use mathlib.Core.Logic.{⊎-elim}
-use Prim.Native.Nat.{ℕ, _*_}
+use Prim.Native.Nat.{ℕ, _*_, _<_}
 use native.Mathlib.Omega.{arith}
 use lib.Dec.{eqb, leb}
-use lib.ListN.{length}
+use lib.ListN.{length, getD}
 use lib.Ieee.{Float}
 use borrow.Author.Tests.{eqb-true, eqb-false}
 use Rattle.plane.specs.Plane.{Sides}
@@ -16,13 +16,13 @@ use Rattle.plane.proofs.Search.{either, some-same}
 use Rattle.plane.proofs.Refusal.{and-true, accepted, sides-are}
 use Rattle.labels.specs.Labels.{isOn}
 use Rattle.colour.specs.declared.Settings.{Settings}
-use Rattle.colour.specs.Settings.{passesOf}
+use Rattle.colour.specs.Settings.{onOf, passesOf}
 use Rattle.outline.specs.Border.{borderList, referenceOf}
 use Rattle.outline.specs.Ground.{closePlane, groundFrom, groundOf, countOn, someOff, foundFrom, isFound}
 use Rattle.outline.specs.Growth.{maskOf}
 use Rattle.outline.specs.Cut.{alphaMask, isSought, isKeyed, grownGround, cutMask}
 use Rattle.outline.specs.Refusal.{firstOf, cutNumber}
-use Rattle.outline.proofs.Masks.{mask-on}
+use Rattle.outline.proofs.Masks.{mask-length, mask-on, mask-again}
 use Rattle.outline.proofs.GrowthLaws.{growth-leaves}
 
 -- ---- numbers
@@ -60,6 +60,33 @@ module _ (colours : List Float) (alpha : List ℕ) (h w : ℕ) (s : Settings) wh
         alpha-long = eqb-true _ _ (i .1);
         some-alpha = reached (someBelow (h * w) (isOn (alphaMask alpha (h * w) s))) (first-zero _ _ (first-zero _ _ (z .1) .1) .1);
       }
+
+  -- ---- the mask
+
+  pub alpha-on : (i : ℕ) → i < h * w → isOn (alphaMask alpha (h * w) s) i ≡ onOf (getD alpha i 0) (s .«alpha_threshold»)
+  unfolding alphaMask
+  alpha-on i l = mask-on (h * w) (λ (k : ℕ). onOf (getD alpha k 0) (s .«alpha_threshold»)) i l
+
+  -- keyed, a pixel is on where the grown ground is not; else where alpha is at least the threshold
+  pub cut-on : (i : ℕ) → i < h * w → isOn (cutMask colours alpha h w s) i ≡ cond (isKeyed colours alpha h w s) (not (isOn (grownGround colours h w s) i)) (onOf (getD alpha i 0) (s .«alpha_threshold»))
+  unfolding cutMask
+  cut-on i l =
+      ⊎-elim {C = isOn (cutMask colours alpha h w s) i ≡ cond (isKeyed colours alpha h w s) (not (isOn (grownGround colours h w s) i)) (onOf (getD alpha i 0) (s .«alpha_threshold»))}
+      (λ (k : isKeyed colours alpha h w s ≡ true). rw k (mask-on (h * w) (λ (j : ℕ). not (isOn (grownGround colours h w s) j)) i l))
+      (λ (k : isKeyed colours alpha h w s ≡ false). rw k (alpha-on i l))
+      (either (isKeyed colours alpha h w s))
+
+  -- the mask has the picture's size, and holds 0 and 1 only
+  pub cut-bits : cutMask colours alpha h w s ≡ maskOf (h * w) (isOn (cutMask colours alpha h w s))
+  unfolding cutMask alphaMask
+  cut-bits =
+      ⊎-elim {C = cutMask colours alpha h w s ≡ maskOf (h * w) (isOn (cutMask colours alpha h w s))}
+      (λ (k : isKeyed colours alpha h w s ≡ true). rw k (sym (mask-again (h * w) (λ (j : ℕ). not (isOn (grownGround colours h w s) j)))))
+      (λ (k : isKeyed colours alpha h w s ≡ false). rw k (sym (mask-again (h * w) (λ (j : ℕ). onOf (getD alpha j 0) (s .«alpha_threshold»)))))
+      (either (isKeyed colours alpha h w s))
+
+  pub cut-length : length (cutMask colours alpha h w s) ≡ h * w
+  cut-length = ap length cut-bits ∙ mask-length (h * w) (isOn (cutMask colours alpha h w s))
 
   -- ---- the mask is never empty
 
