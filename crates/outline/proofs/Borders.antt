@@ -1,7 +1,7 @@
 -- Laws of the border list: it lies in the plane, and what is alike on it gives one reference and one count.
 -- Assumes nothing.
-use mathlib.Core.Path.{_≡_, refl, sym, ap, _∙_}
-use mathlib.Core.Bool.{Bool, true, false, cond, _||_}
+use mathlib.Core.Path.{_≡_, refl, sym, _∙_}
+use mathlib.Core.Bool.{true, false, _||_}
 use mathlib.Core.List.{List, [], _∷_, _++_, map}
 use mathlib.Core.Logic.{_⊎_, inl, inr, ⊎-elim}
 use Prim.Native.Nat.{ℕ, zero, suc, _+_, _*_, _-_, _≤_, _<_}
@@ -15,7 +15,6 @@ use Rattle.plane.specs.Plane.{table}
 use Rattle.plane.proofs.Plane.{pixel-in}
 use Rattle.plane.proofs.Search.{not-both}
 use Rattle.labels.specs.Labels.{isOn}
-use Rattle.colour.specs.declared.Rgb.{Rgb}
 use Rattle.colour.proofs.Zero.{Alike}
 use Rattle.colour.proofs.Same.{SameColour}
 use Rattle.median.specs.Median.{medianOf}

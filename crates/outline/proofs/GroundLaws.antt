@@ -1,16 +1,14 @@
 -- Laws of the ground, over the definitions alone: it is the least set of close pixels that has every close border pixel and is closed under 4-steps over close pixels.
 -- Assumes nothing.
-use mathlib.Core.Path.{_≡_, refl, sym, ap, _∙_}
-use mathlib.Core.Bool.{Bool, true, false, not, _&&_}
+use mathlib.Core.Path.{_≡_, refl, sym, _∙_}
+use mathlib.Core.Bool.{Bool, true, _&&_}
 use mathlib.Core.List.{List}
-use mathlib.Core.Logic.{⊎-elim}
-use Prim.Native.Nat.{ℕ, _+_, _*_, _≤_, _<_}
+use Prim.Native.Nat.{ℕ, _*_, _<_}
 use native.Mathlib.Omega.{arith}
 use lib.Dec.{eqb}
 use lib.ListN.{length}
 use lib.Ieee.{Float}
 use borrow.Author.Tests.{eqb-true, eq-eqb}
-use Rattle.plane.specs.Plane.{bit, table}
 use Rattle.plane.specs.Search.{someBelow}
 use Rattle.plane.proofs.Search.{some-found, some-is}
 use Rattle.plane.proofs.Refusal.{and-true}
@@ -19,8 +17,8 @@ use Rattle.labels.proofs.Joined.{on-inside, start-on, end-on, spreads}
 use Rattle.labels.proofs.Firsts.{first-same, same-first}
 use Rattle.squares.proofs.Laws.{and-is, same-test}
 use Rattle.colour.specs.declared.Rgb.{Rgb}
-use Rattle.outline.specs.Border.{borderList, onBorder}
-use Rattle.outline.specs.Ground.{isClose, closePlane, isGround, groundFrom, foundFrom}
+use Rattle.outline.specs.Border.{borderList, onBorder, referenceOf}
+use Rattle.outline.specs.Ground.{isClose, closePlane, isGround, groundFrom, groundOf, foundFrom}
 use Rattle.outline.specs.Growth.{nearGround, maskOf}
 use Rattle.outline.proofs.Masks.{mask-length, mask-on, mask-inside, mask-holds, mask-same, near-is, within-more, within-self, within-sum, nigh-beside}
 use Rattle.outline.proofs.Borders.{border-inside, count-alike}
@@ -100,6 +98,55 @@ module _ (close : List ℕ) (h w : ℕ) where
     pub ground-least : (P : ℕ → Type 0) → ((i : ℕ) → i < h * w → onBorder h w i ≡ true → isOn close i ≡ true → P i)
         → ((i j : ℕ) → P i → beside w i j ≡ true → isOn close j ≡ true → P j) → (i : ℕ) → isOn (groundFrom close h w) i ≡ true → P i
     ground-least P b s i e = let z = ground-joined i e in spreads P s (z .3) (b (z .0) (z .1) (z .2) (start-on (z .3)))
+
+    -- these laws determine it
+    pub ground-is : (p : ℕ → Bool) → ((i : ℕ) → i < h * w → p i ≡ true → (j : ℕ) × (j < h * w) × (onBorder h w j ≡ true) × (Joined close w j i))
+        → ((i : ℕ) → i < h * w → onBorder h w i ≡ true → isOn close i ≡ true → p i ≡ true) → ((i j : ℕ) → p i ≡ true → beside w i j ≡ true → isOn close j ≡ true → p j ≡ true)
+        → maskOf (h * w) p ≡ groundFrom close h w
+    ground-is p sound border step =
+        mask-same (h * w) p (isGround close h w)
+        (λ i l.
+        same-test (p i) (isOn (groundFrom close h w) i)
+        (λ e. (let z = sound i l e in joined-ground (z .0) i (z .2) (z .1) (z .3)))
+        (ground-least (λ (k : ℕ). p k ≡ true) border step i)
+        ∙ ground-on i l)
+        ∙ sym (ground-mask close h w)
+
+-- ---- the ground of a picture
+
+module _ (colours : List Float) (h w : ℕ) (tolerance : Float) where
+  -- whether pixel i of the picture is close
+  abbrev pub closeAt : ℕ → Bool
+  closeAt = isClose colours (referenceOf colours h w) tolerance
+
+  abbrev closes : List ℕ
+  closes = closePlane colours h w (referenceOf colours h w) tolerance
+
+  long : length closes ≡ h * w
+  long = close-length colours h w (referenceOf colours h w) tolerance
+
+  lit : (i : ℕ) → i < h * w → isOn closes i ≡ closeAt i
+  lit = close-on colours h w (referenceOf colours h w) tolerance
+
+  -- the ground is close,
+  pub picture-close : (i : ℕ) → isOn (groundOf colours h w tolerance) i ≡ true → closeAt i ≡ true
+  unfolding groundOf
+  picture-close i e = sym (lit i (ground-inside closes h w i e)) ∙ ground-close closes h w i e
+
+  -- joined to a close border pixel by 4-steps over close pixels,
+  pub picture-joined : (i : ℕ) → isOn (groundOf colours h w tolerance) i ≡ true → (j : ℕ) × (j < h * w) × (onBorder h w j ≡ true) × (Joined (closePlane colours h w (referenceOf colours h w) tolerance) w j i)
+  unfolding groundOf
+  picture-joined i e = ground-joined closes h w long i e
+
+  -- has every close border pixel,
+  pub picture-border : (i : ℕ) → i < h * w → onBorder h w i ≡ true → closeAt i ≡ true → isOn (groundOf colours h w tolerance) i ≡ true
+  unfolding groundOf
+  picture-border i l b e = ground-border closes h w long i l b (lit i l ∙ e)
+
+  -- and is closed under 4-steps over close pixels
+  pub picture-step : (i j : ℕ) → isOn (groundOf colours h w tolerance) i ≡ true → beside w i j ≡ true → j < h * w → closeAt j ≡ true → isOn (groundOf colours h w tolerance) j ≡ true
+  unfolding groundOf
+  picture-step i j e b l c = ground-step closes h w long i j e b (lit j l ∙ c)
 
 -- ---- two planes of close pixels
 

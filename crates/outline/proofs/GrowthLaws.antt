@@ -1,10 +1,10 @@
 -- Laws of growth, over the definitions alone.
 -- Assumes nothing.
 use mathlib.Core.Path.{_≡_, refl, sym, ap, _∙_}
-use mathlib.Core.Bool.{Bool, true, false, cond, not, _&&_, _||_}
+use mathlib.Core.Bool.{Bool, true, false, not, _||_}
 use mathlib.Core.List.{List}
 use mathlib.Core.Logic.{⊎-elim}
-use Prim.Native.Nat.{ℕ, zero, suc, _+_, _*_, _≤_, _<_}
+use Prim.Native.Nat.{ℕ, zero, suc, _+_, _*_, _-_, _≤_, _<_}
 use native.Mathlib.Nat.{zero-add, suc-add}
 use native.Mathlib.Omega.{arith}
 use lib.ListN.{length}
@@ -217,6 +217,14 @@ module _ (colours : List Float) (reference : Rgb) (h w : ℕ) where
       where
         again : (b : List ℕ) → growthOf colours reference h w q (maskOf (h * w) (isOn b)) ≡ growthOf colours reference h w q b
         again b = growth-same q (maskOf (h * w) (isOn b)) b (mask-on (h * w) (isOn b))
+
+    -- so more passes only add
+    pub growth-mono : (p q : ℕ) (back : List ℕ) (i : ℕ) → p ≤ q → isOn (growthOf colours reference h w p back) i ≡ true → isOn (growthOf colours reference h w q back) i ≡ true
+    growth-mono p q back i l e =
+        let k : p + (q - p) ≡ q = omega arith in
+        ap (λ (n : ℕ). isOn (growthOf colours reference h w n back) i) (sym k)
+        ∙ ap (λ (g : List ℕ). isOn g i) (sym (growth-sum p (q - p) back))
+        ∙ growth-adds (q - p) (growthOf colours reference h w p back) i (growth-inside p back i e) e
 
     -- where one further pass changes nothing, no number of further passes does
     pub growth-stays : (p q : ℕ) (back : List ℕ) → growthOf colours reference h w (p + 1) back ≡ growthOf colours reference h w p back

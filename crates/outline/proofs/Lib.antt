@@ -3,4 +3,9 @@ pub mod Borders
 pub mod GroundLaws
 pub mod GrowthLaws
 pub mod Body
+pub mod CutLaws
+pub mod Crop
+pub mod Premises
+pub mod Pictures
 pub mod TwoPictures
+pub mod Cases

@@ -3,20 +3,16 @@
 use mathlib.Core.Path.{_≡_, refl, sym, ap, _∙_}
 use mathlib.Core.Bool.{Bool, true, false, not, _&&_, _||_}
 use mathlib.Core.List.{List}
-use mathlib.Core.Logic.{_⊎_, inl, inr, ⊎-elim}
+use mathlib.Core.Logic.{_⊎_, inl, inr}
 use Prim.Native.Nat.{ℕ, _+_, _*_, _/_, _%_, _≤_, _<_}
 use native.Mathlib.Omega.{arith}
-use lib.Dec.{eqb}
 use lib.ListN.{length, getD}
 use borrow.Author.Tests.{eqb-true}
 use Rattle.plane.specs.Plane.{on, bit, onAt, apart, table}
 use Rattle.plane.proofs.Plane.{table-length, table-at, table-is, pixel-in, row-of, column-of, index-of}
-use Rattle.plane.proofs.Search.{which, either, not-both}
-use Rattle.plane.proofs.Refusal.{and-true}
 use Rattle.labels.specs.Labels.{isOn, beside}
 use Rattle.labels.proofs.Joined.{on-inside}
 use Rattle.labels.proofs.Steps.{row-is, column-is}
-use Rattle.squares.specs.Squares.{inSquare}
 use Rattle.squares.proofs.Laws.{same-test, Site, square-found, square-is, on-bit, apart-sum}
 use Rattle.outline.specs.Growth.{nearGround, maskOf}
 
@@ -24,9 +20,6 @@ use Rattle.outline.specs.Growth.{nearGround, maskOf}
 
 pub not-is : (t : Bool) → t ≡ false → not t ≡ true
 not-is t e = rw e
-
-pub is-not : (t : Bool) → t ≡ true → not t ≡ false
-is-not t e = rw e
 
 pub or-left : (s t : Bool) → s ≡ true → s || t ≡ true
 or-left s t e = rw e
@@ -38,11 +31,6 @@ or-right false t e = e
 pub or-cases : (s t : Bool) → s || t ≡ true → (s ≡ true) ⊎ (t ≡ true)
 or-cases true t e = inl refl
 or-cases false t e = inr e
-
--- what is not false is true
-pub true-if : (t : Bool) → (t ≡ false → ⊥) → t ≡ true
-true-if true h = refl
-true-if false h = absurd (h refl)
 
 -- two conjunctions are equal where the first parts are, and the second parts are wherever the first hold
 pub and-same : (s t a b : Bool) → s ≡ t → (s ≡ true → a ≡ b) → s && a ≡ t && b
@@ -147,10 +135,6 @@ module _ {mask : List ℕ} {h w k i : ℕ} where
 pub record Nigh (w k i j : ℕ) : Type 0 where
   pub rows : apart (i / w) (j / w) ≤ k
   pub columns : apart (i % w) (j % w) ≤ k
-
-pub nigh-self : (w i : ℕ) → Nigh w 0 i i
-unfolding apart
-nigh-self w i = record { rows = omega arith; columns = omega arith }
 
 -- one step up, down, left or right
 pub nigh-beside : (w i j : ℕ) → beside w i j ≡ true → Nigh w 1 j i
