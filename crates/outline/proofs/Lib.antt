@@ -5,7 +5,6 @@ pub mod GrowthLaws
 pub mod Body
 pub mod CutLaws
 pub mod Crop
-pub mod Premises
 pub mod Pictures
 pub mod TwoPictures
 pub mod Cases

@@ -30,7 +30,7 @@ use Rattle.outline.specs.Outcome.{accepted, cutOf}
 use Rattle.outline.proofs.Masks.{or-cases, near-found, near-is, within-more}
 use Rattle.outline.proofs.Borders.{border-inside}
 use Rattle.outline.proofs.CutLaws.{Taken, taken}
-use Rattle.outline.proofs.Premises.{sameTolerance, AgreeAt, Binary64, TwoCalls}
+use Rattle.outline.specs.Premises.{sameTolerance, AgreeAt, Binary64, TwoCalls}
 use Rattle.outline.proofs.Pictures.{Same, references, grounds, found-alike, growths}
 
 -- ---- tolerances

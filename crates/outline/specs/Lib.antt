@@ -4,3 +4,4 @@ pub mod Growth
 pub mod Cut
 pub mod Refusal
 pub mod Outcome
+pub mod Premises
