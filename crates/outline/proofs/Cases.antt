@@ -13,7 +13,7 @@ use Rattle.line.specs.Walk.{lower}
 use Rattle.line.specs.Grid.{valueOf, walk, upto, grid, plus}
 use Rattle.nearest.specs.Nearest.{rowCost, nearest, rowOf, columnOf, rowsPlane, columnsPlane, away, distanceTo}
 use Rattle.squares.specs.Squares.{larger, reach, inSquare, squaresPlane}
-use Rattle.labels.specs.Labels.{isOn, beside, lesser, merge, joinTwo, joinWith, joinUpto, firstPixel, isFirst, parts, labelOf, labelAt, labelsPlane}
+use Rattle.labels.specs.Labels.{isOn, beside, lesser, renamed, merge, joinTwo, joinWith, joinUpto, firstPixel, isFirst, parts, labelOf, labelAt, labelsPlane}
 use Rattle.colour.specs.declared.Settings.{Settings}
 use Rattle.colour.specs.Number.{zero64, one64, absOf, plusZero, halfOf}
 use Rattle.colour.specs.Colour.{differenceOf, closeTo}
@@ -135,5 +135,5 @@ cases =
     ∷ []
 
 pub cases-hold : T (all cases)
-unfolding cases all same sameZ gets labelled greys opaque255 cutTo cutMaskIs found row30 on bit onAt apart within table rowsUpto planeOf someBelow countBelow lower valueOf walk upto grid plus rowCost nearest rowOf columnOf rowsPlane columnsPlane away distanceTo larger reach inSquare squaresPlane isOn beside lesser merge joinTwo joinWith joinUpto firstPixel isFirst parts labelOf labelAt labelsPlane absOf Rattle.colour.specs.Number.larger plusZero halfOf differenceOf closeTo joinsOf passesOf onOf insert sorted placed lowerMiddle upperMiddle medianOf rowPixels innerColumn borderList listed onBorder channelAt colourAt referenceChannel referenceOf isClose closePlane isGround groundFrom groundOf countOn someOff foundFrom isFound nearGround isEdge isShallow isDeep maskOf indexOf isReach bodyFrom joinsFrom isJoining passOf growthOf alphaMask isSought isKeyed grownGround cutMask firstBelow lastBelow rowHas columnHas lesserOf boxOf cropOf lt le eq add sub mul div neg ofInt ofBits
+unfolding cases all same sameZ gets labelled greys opaque255 cutTo cutMaskIs found row30 on bit onAt apart within table rowsUpto planeOf someBelow countBelow lower valueOf walk upto grid plus rowCost nearest rowOf columnOf rowsPlane columnsPlane away distanceTo larger reach inSquare squaresPlane isOn beside lesser renamed merge joinTwo joinWith joinUpto firstPixel isFirst parts labelOf labelAt labelsPlane absOf Rattle.colour.specs.Number.larger plusZero halfOf differenceOf closeTo joinsOf passesOf onOf insert sorted placed lowerMiddle upperMiddle medianOf rowPixels innerColumn borderList listed onBorder channelAt colourAt referenceChannel referenceOf isClose closePlane isGround groundFrom groundOf countOn someOff foundFrom isFound nearGround isEdge isShallow isDeep maskOf indexOf isReach bodyFrom joinsFrom isJoining passOf growthOf alphaMask isSought isKeyed grownGround cutMask firstBelow lastBelow rowHas columnHas lesserOf boxOf cropOf lt le eq add sub mul div neg ofInt ofBits
 cases-hold = tt
