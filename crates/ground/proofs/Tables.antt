@@ -29,3 +29,7 @@ table-same {A} f g k l (suc n) h =
     let step : (m i : ℕ) → suc m + i ≡ m + suc i = λ m i. omega arith in
     let tail : table f (suc k) n ≡ table g (suc l) n = table-same f g (suc k) (suc l) n (λ i. ap f (step k i) ∙ h (suc i) ∙ ap g (sym (step l i))) in
     ap (λ (t : List A). f k ∷ t) tail ∙ ap (λ (x : A). x ∷ table g (suc l) n) head
+
+-- at first all is left
+pub table-whole : {A : Type 0} (f : ℕ → A) (n : ℕ) → table f 0 n ≡ table f 0 (n - 0)
+table-whole f n = let e : n ≡ n - 0 = omega arith in ap (λ (m : ℕ). table f 0 m) e
