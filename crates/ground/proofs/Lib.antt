@@ -1,5 +1,5 @@
 pub mod Tables
-pub mod Lists
 pub mod Room
+pub mod Lists
 pub mod Flooding
 pub mod Reached
