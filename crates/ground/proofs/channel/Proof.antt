@@ -31,7 +31,8 @@ gather-requires c κs =
     let a = o .args in
     let p = o .pre .0 in
     let k = o .pre .1 in
-    let m : c .before .between .result ≡ a .h - 2 = c .before .between .ensures in
+    let n = c .before .between .result in
+    let m : n ≡ a .h - 2 = c .before .between .ensures in
     first-gathers p (k .channel) _ (k .room)
 
 sub-gather : tie.Need-sub-gather
@@ -48,7 +49,8 @@ gather-requires-2 c κs =
     let a = o .args in
     let p = o .pre .0 in
     let k = o .pre .1 in
-    let m : c .before .before .before .before .before .between .result ≡ a .h - 2 = c .before .before .before .before .before .between .ensures in
+    let n = c .before .before .before .before .before .between .result in
+    let m : n ≡ a .h - 2 = c .before .before .before .before .before .between .ensures in
     let f1 = c .before .before .before .gather in
     let v1 = f1 .last .1 .1 .1 .1 .1 .1 .0 in
     let l1 : length v1 ≡ 16384 = f1 .kept .1 .1 .1 .1 .1 .1 .0 ∙ k .room in
@@ -63,7 +65,8 @@ gather-requires-3 c κs =
     let a = o .args in
     let p = o .pre .0 in
     let k = o .pre .1 in
-    let m : c .before .before .before .before .before .before .before .before .before .between .result ≡ a .h - 2 = c .before .before .before .before .before .before .before .before .before .between .ensures in
+    let n = c .before .before .before .before .before .before .before .before .before .between .result in
+    let m : n ≡ a .h - 2 = c .before .before .before .before .before .before .before .before .before .between .ensures in
     let f1 = c .before .before .before .before .before .before .before .gather in
     let v1 = f1 .last .1 .1 .1 .1 .1 .1 .0 in
     let l1 : length v1 ≡ 16384 = f1 .kept .1 .1 .1 .1 .1 .1 .0 ∙ k .room in
@@ -90,7 +93,8 @@ gather-requires-4 c κs =
     let a = o .args in
     let p = o .pre .0 in
     let k = o .pre .1 in
-    let m : c .before .before .before .before .before .before .before .before .before .before .before .before .before .between .result ≡ a .h - 2 = c .before .before .before .before .before .before .before .before .before .before .before .before .before .between .ensures in
+    let n = c .before .before .before .before .before .before .before .before .before .before .before .before .before .between .result in
+    let m : n ≡ a .h - 2 = c .before .before .before .before .before .before .before .before .before .before .before .before .before .between .ensures in
     let f1 = c .before .before .before .before .before .before .before .before .before .before .before .gather in
     let v1 = f1 .last .1 .1 .1 .1 .1 .1 .0 in
     let l1 : length v1 ≡ 16384 = f1 .kept .1 .1 .1 .1 .1 .1 .0 ∙ k .room in
@@ -126,7 +130,8 @@ median-requires c κs =
     let a = o .args in
     let p = o .pre .0 in
     let k = o .pre .1 in
-    let m : c .before .before .before .before .before .before .before .before .before .before .before .before .before .before .before .before .before .before .between .result ≡ a .h - 2 = c .before .before .before .before .before .before .before .before .before .before .before .before .before .before .before .before .before .before .between .ensures in
+    let n = c .before .before .before .before .before .before .before .before .before .before .before .before .before .before .before .before .before .before .between .result in
+    let m : n ≡ a .h - 2 = c .before .before .before .before .before .before .before .before .before .before .before .before .before .before .before .before .before .before .between .ensures in
     let f1 = c .before .before .before .before .before .before .before .before .before .before .before .before .before .before .before .before .gather in
     let v1 = f1 .last .1 .1 .1 .1 .1 .1 .0 in
     let l1 : length v1 ≡ 16384 = f1 .kept .1 .1 .1 .1 .1 .1 .0 ∙ k .room in
@@ -139,7 +144,7 @@ median-requires c κs =
     let f4 = c .before .before .before .before .gather4 in
     let v4 = f4 .last .1 .1 .1 .1 .1 .1 .0 in
     let l4 : length v4 ≡ 16384 = f4 .kept .1 .1 .1 .1 .1 .1 .0 ∙ l3 in
-    let e = part-whole _ v4 ∙ gathered (channelAt (a .colours .now) (a .c)) (a .h) (a .w) _ (a .values .now) v1 v2 v3 v4 m (f1 .ensures) (f2 .ensures) (f3 .ensures) (f4 .ensures) in
+    let e = part-whole (a .w + a .w + n + n) v4 ∙ gathered (channelAt (a .colours .now) (a .c)) (a .h) (a .w) n (a .values .now) v1 v2 v3 v4 m (f1 .ensures) (f2 .ensures) (f3 .ensures) (f4 .ensures) in
     rw e (border-channel p (k .channel))
 
 same-length : tie.Need-same-length
@@ -152,7 +157,8 @@ returns c =
     let a = o .args in
     let p = o .pre .0 in
     let k = o .pre .1 in
-    let m : c .before .before .before .before .before .before .before .before .before .before .before .before .before .before .before .before .before .before .before .between .result ≡ a .h - 2 = c .before .before .before .before .before .before .before .before .before .before .before .before .before .before .before .before .before .before .before .between .ensures in
+    let n = c .before .before .before .before .before .before .before .before .before .before .before .before .before .before .before .before .before .before .before .between .result in
+    let m : n ≡ a .h - 2 = c .before .before .before .before .before .before .before .before .before .before .before .before .before .before .before .before .before .before .before .between .ensures in
     let f1 = c .before .before .before .before .before .before .before .before .before .before .before .before .before .before .before .before .before .gather in
     let v1 = f1 .last .1 .1 .1 .1 .1 .1 .0 in
     let l1 : length v1 ≡ 16384 = f1 .kept .1 .1 .1 .1 .1 .1 .0 ∙ k .room in
@@ -165,7 +171,7 @@ returns c =
     let f4 = c .before .before .before .before .before .gather4 in
     let v4 = f4 .last .1 .1 .1 .1 .1 .1 .0 in
     let l4 : length v4 ≡ 16384 = f4 .kept .1 .1 .1 .1 .1 .1 .0 ∙ l3 in
-    let e = part-whole _ v4 ∙ gathered (channelAt (a .colours .now) (a .c)) (a .h) (a .w) _ (a .values .now) v1 v2 v3 v4 m (f1 .ensures) (f2 .ensures) (f3 .ensures) (f4 .ensures) in
+    let e = part-whole (a .w + a .w + n + n) v4 ∙ gathered (channelAt (a .colours .now) (a .c)) (a .h) (a .w) n (a .values .now) v1 v2 v3 v4 m (f1 .ensures) (f2 .ensures) (f3 .ensures) (f4 .ensures) in
     let z = border-channel p (k .channel) in
     let r : c .median .result ≡ referenceChannel (a .colours .now) (a .h) (a .w) (a .c) = c .median .ensures ∙ ap medianOf e in
     (r, rw r (median-ok (map (channelAt (a .colours .now) (a .c)) (borderList (a .h) (a .w))) (held-map (a .colours .now) (a .c) (λ i. c .before .before .before .before .before .before .before .before .before .before .before .before .before .before .before .before .before .before .before .before .before .shared-slice-known .given i) (borderList (a .h) (a .w))) (z .ok) (z .some)))
