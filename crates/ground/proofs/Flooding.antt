@@ -244,20 +244,20 @@ module _ (mask : List ℕ) (h w : ℕ) where
       let v4 = visits p (ltb (p % w + 1) w) (p + 1) s3 (λ t o. further p (p + 1) r (beside-right w wide p (ltb-true (p % w + 1) w t)) o) (v3 .floods) in
       let s4 = visitIf (ltb (p % w + 1) w) (p + 1) s3 in (
         released p s4 (v4 .floods)
-        (λ j b o.
-        ⊎-elim {C = at s4 j ≡ 2}
-        (λ z. v4 .stays j (v3 .stays j (v2 .stays j (rw (z .1) (v1 .done (le-leb w p (z .0)) (rw (z .1) at o))))))
-        (λ y.
-        ⊎-elim {C = at s4 j ≡ 2}
-        (λ z. (
-        let e : isOn mask (p + w) ≡ true = rw z at o in
-        v4 .stays j (v3 .stays j (rw z (v2 .done (lt-ltb (p + w) (length mask) (on-inside mask (p + w) e)) e)))))
-        (λ x.
-        ⊎-elim {C = at s4 j ≡ 2}
-        (λ z. v4 .stays j (rw (z .1) (v3 .done (lt-ltb 0 (p % w) (z .0)) (rw (z .1) at o))))
-        (λ z. rw (z .1) (v4 .done (lt-ltb (p % w + 1) w (z .0)) (rw (z .1) at o)))
-        x)
-        y)
-        (beside-sides w wide p j b)),
+            (λ j b o.
+            ⊎-elim {C = at s4 j ≡ 2}
+            (λ z. v4 .stays j (v3 .stays j (v2 .stays j (rw (z .1) (v1 .done (le-leb w p (z .0)) (rw (z .1) at o))))))
+            (λ y.
+            ⊎-elim {C = at s4 j ≡ 2}
+            (λ z. (
+            let e : isOn mask (p + w) ≡ true = rw z at o in
+            v4 .stays j (v3 .stays j (rw z (v2 .done (lt-ltb (p + w) (length mask) (on-inside mask (p + w) e)) e)))))
+            (λ x.
+            ⊎-elim {C = at s4 j ≡ 2}
+            (λ z. v4 .stays j (rw (z .1) (v3 .done (lt-ltb 0 (p % w) (z .0)) (rw (z .1) at o))))
+            (λ z. rw (z .1) (v4 .done (lt-ltb (p % w + 1) w (z .0)) (rw (z .1) at o)))
+            x)
+            y)
+            (beside-sides w wide p j b)),
         λ k l. v4 .stays k (v3 .stays k (v2 .stays k (v1 .stays k l))),
       )

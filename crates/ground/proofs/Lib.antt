@@ -4,3 +4,4 @@ pub mod Lists
 pub mod Values
 pub mod Flooding
 pub mod Reached
+pub mod Answers

@@ -201,7 +201,14 @@ fn spread(w: usize, area: usize, top: usize, stack: &mut [u32], out: &mut [u8]) 
 }
 
 // n pixels are visited, the first `start` and each `stride` after the one before; the new height of the stack.
-fn seed(start: usize, stride: usize, n: usize, top: usize, stack: &mut [u32], out: &mut [u8]) -> usize
+fn seed(
+    start: usize,
+    stride: usize,
+    n: usize,
+    top: usize,
+    stack: &mut [u32],
+    out: &mut [u8],
+) -> usize
     requires { ⌜ Seeds start stride n (state top (now stack) (now out)) ⌝ }
     ensures { λ r. ⌜ state r (now (stack .exit)) (now (out .exit)) ≡ seeded (linePixels start stride n) (state top (now (stack .entry)) (now (out .entry))) ⌝ }
 {
@@ -262,7 +269,14 @@ fn clear(out: &mut [u8])
 }
 
 // The ground as a mask, and the reference where it is found; all 0 where it is not. Work space: h * w numbers in `stack`.
-pub fn flat_ground(colours: &[f64], h: usize, w: usize, tolerance: f64, stack: &mut [u32], out: &mut [u8]) -> Flat
+pub fn flat_ground(
+    colours: &[f64],
+    h: usize,
+    w: usize,
+    tolerance: f64,
+    stack: &mut [u32],
+    out: &mut [u8],
+) -> Flat
     requires { ⌜ Given (now colours) h w (now stack) (now out) ⌝ }
     ensures { λ r. ⌜ r ≡ flatOf (now (colours .entry)) h w tolerance ⌝ }
     ensures { λ r. ⌜ now (out .exit) ≡ flatPlane (now (colours .entry)) h w tolerance ⌝ }

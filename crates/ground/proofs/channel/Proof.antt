@@ -26,7 +26,7 @@ between-requires : tie.Need-between-requires
 between-requires c κs = search needs
 
 gather-requires : tie.Need-gather-requires
-gather-requires c κs = 
+gather-requires c κs =
     let o = c .before .before .before .before in
     let a = o .args in
     let p = o .pre .0 in
@@ -39,12 +39,12 @@ sub-gather : tie.Need-sub-gather
 sub-gather c = search needs
 
 mul-gather : tie.Need-mul-gather
-mul-gather c = 
+mul-gather c =
     let g = c .before .before .before .before .before .before .before .pre .0 .sides in
     omega (arith, last-in g 0 (omega (arith, g .some-columns)), area-most (g .tall) (g .wide))
 
 gather-requires-2 : tie.Need-gather-requires-2
-gather-requires-2 c κs = 
+gather-requires-2 c κs =
     let o = c .before .before .before .before .before .before .before .before in
     let a = o .args in
     let p = o .pre .0 in
@@ -60,7 +60,7 @@ add-gather : tie.Need-add-gather
 add-gather c = search needs
 
 gather-requires-3 : tie.Need-gather-requires-3
-gather-requires-3 c κs = 
+gather-requires-3 c κs =
     let o = c .before .before .before .before .before .before .before .before .before .before .before .before in
     let a = o .args in
     let p = o .pre .0 in
@@ -88,7 +88,7 @@ add-gather-4 : tie.Need-add-gather-4
 add-gather-4 c = search needs
 
 gather-requires-4 : tie.Need-gather-requires-4
-gather-requires-4 c κs = 
+gather-requires-4 c κs =
     let o = c .before .before .before .before .before .before .before .before .before .before .before .before .before .before .before .before in
     let a = o .args in
     let p = o .pre .0 in
@@ -125,7 +125,7 @@ part-median-end : tie.Need-part-median-end
 part-median-end c = search needs
 
 median-requires : tie.Need-median-requires
-median-requires c κs = 
+median-requires c κs =
     let o = c .before .before .before .before .before .before .before .before .before .before .before .before .before .before .before .before .before .before .before .before .before in
     let a = o .args in
     let p = o .pre .0 in
@@ -152,7 +152,7 @@ same-length c = search needs
 
 returns : tie.Need-returns
 unfolding referenceChannel
-returns c = 
+returns c =
     let o = c .before .before .before .before .before .before .before .before .before .before .before .before .before .before .before .before .before .before .before .before .before .before in
     let a = o .args in
     let p = o .pre .0 in

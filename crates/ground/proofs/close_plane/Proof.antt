@@ -58,7 +58,7 @@ abbrev μ-loop : tie.MeasureT-loop
 μ-loop colours reference tolerance out₀ i₀ i-end out i = length out₀ - i
 
 loop-holds : tie.Need-loop-holds Inv-loop μ-loop
-loop-holds c = 
+loop-holds c =
     let a = c .before .before .args in
     (refl, omega arith, refl, below-none (λ (k : ℕ). getD (a .out .now) k 0 ≡ closeAt (a .colours .now) (a .reference) (a .tolerance) k))
 
@@ -96,7 +96,7 @@ shared-slice-read-t22 : tie.Need-shared-slice-read-t22 Inv-loop μ-loop
 shared-slice-read-t22 c = omega arith
 
 close-requires : tie.Need-close-requires Inv-loop μ-loop
-close-requires c κs = 
+close-requires c κs =
     let l = c .before .before .before .before .loop in
     let o = c .before .before .before .before .before .before .before in
     record { first = pixel-ok (o .args .colours .now) (o .args .reference) (o .args .out .now) (l .i) (o .pre) (omega arith); second = o .pre .good }
@@ -114,7 +114,7 @@ loop-less : tie.Need-loop-less Inv-loop μ-loop
 loop-less c = omega arith
 
 loop-again : tie.Need-loop-again Inv-loop μ-loop
-loop-again c = 
+loop-again c =
     let l = c .before .before .before .before .before .loop in
     let a = c .before .before .before .before .before .before .before .before .args in
     let made : c .close .result ≡ closeTo (a .tolerance) (a .reference) (pixel (a .colours .now) (l .i)) = c .close .ensures in (
@@ -122,14 +122,14 @@ loop-again c =
       omega arith,
       length-set (l .out) (l .i) (boolByte (c .close .result)) ∙ l .inv .2,
       filled (closeAt (a .colours .now) (a .reference) (a .tolerance)) (l .out) (l .i) (boolByte (c .close .result)) 0 (omega arith) (l .inv .3)
-      (close-byte (a .colours .now) (a .reference) (a .tolerance) (l .i) (c .close .result) made),
+          (close-byte (a .colours .now) (a .reference) (a .tolerance) (l .i) (c .close .result) made),
     )
 
 same-length : tie.Need-same-length Inv-loop μ-loop
 same-length c = c .before .loop .inv .2
 
 returns : tie.Need-returns Inv-loop μ-loop
-returns c = 
+returns c =
     let l = c .before .loop in
     let a = c .before .before .before .before .args in
     table-is (closeAt (a .colours .now) (a .reference) (a .tolerance)) (length (a .out .now)) (l .out) 0 (l .inv .2) (λ k m. l .inv .3 k (omega arith))

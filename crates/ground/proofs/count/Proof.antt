@@ -48,19 +48,19 @@ loop-holds : tie.Need-loop-holds Inv-loop μ-loop
 loop-holds c = let a = c .args in (omega arith, omega arith, begins (a .plane .now) (a .start) (a .stride) (a .n))
 
 mul-count : tie.Need-mul-count Inv-loop μ-loop
-mul-count c = 
+mul-count c =
     let o = c .before .before in
     let l = c .before .loop in
     omega (arith, o .pre .inside (l .k) (omega arith), o .pre .small)
 
 add-count : tie.Need-add-count Inv-loop μ-loop
-add-count c = 
+add-count c =
     let o = c .before .before in
     let l = c .before .loop in
     omega (arith, o .pre .inside (l .k) (omega arith), o .pre .small)
 
 shared-slice-read-count : tie.Need-shared-slice-read-count Inv-loop μ-loop
-shared-slice-read-count c = 
+shared-slice-read-count c =
     let o = c .before .before .before in
     let l = c .before .before .loop in
     o .pre .inside (l .k) (omega arith)
@@ -69,7 +69,7 @@ cast-count : tie.Need-cast-count Inv-loop μ-loop
 cast-count c = search needs
 
 add-count-2 : tie.Need-add-count-2 Inv-loop μ-loop
-add-count-2 c = 
+add-count-2 c =
     let o = c .before .before .before in
     let l = c .before .before .loop in
     omega (arith, o .pre .few, byte-le (not (eqb (getD (o .args .plane .now) (o .args .start + l .k * o .args .stride) 0) 0)))
@@ -81,7 +81,7 @@ loop-less : tie.Need-loop-less Inv-loop μ-loop
 loop-less c = omega arith
 
 loop-again : tie.Need-loop-again Inv-loop μ-loop
-loop-again c = 
+loop-again c =
     let l = c .before .before .loop in
     let a = c .before .before .before .args in
     let f : ℕ → ℕ = λ j. a .start + j * a .stride in
@@ -93,7 +93,7 @@ loop-again c =
 
 returns : tie.Need-returns Inv-loop μ-loop
 unfolding countOn
-returns c = 
+returns c =
     let l = c .before .loop in
     let a = c .before .before .args in
     sym (l .inv .2 ∙ ap (λ (r : List ℕ). l .count + countOn (a .plane .now) r) (table-end (λ (j : ℕ). a .start + j * a .stride) (l .k) (a .n) (omega arith)) ∙ add-zero (l .count))

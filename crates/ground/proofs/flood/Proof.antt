@@ -24,7 +24,7 @@ at-area : (w n area : ℕ) → n ≡ area → (s t : State) → t ≡ spreadFrom
 at-area w n area e s t q = rw e q
 
 abbrev Inv-loop : tie.InvT-loop
-Inv-loop h w stack₀ out₀ area top₀ stack out top = 
+Inv-loop h w stack₀ out₀ area top₀ stack out top =
     (length stack ≡ length stack₀) × (length out ≡ length out₀) × Some h w (length out₀) (state top stack out)
     × ((mask : List ℕ) → Closed mask h w → Going mask h w (state top₀ stack₀ out₀) → Going mask h w (state top stack out))
 
@@ -35,7 +35,7 @@ seed-border-requires : tie.Need-seed-border-requires Inv-loop μ-loop
 seed-border-requires c κs = search needs
 
 loop-holds : tie.Need-loop-holds Inv-loop μ-loop
-loop-holds c = 
+loop-holds c =
     let o = c .before .before .before .before .before .before .before .before .before in
     let a = o .args in
     let f = c .before .before .before .before .seed-border in
@@ -43,7 +43,7 @@ loop-holds c =
     (refl, refl, (a .out .now, o .pre .0, sym (f .kept .1 .1 .1 .0), first-going (a .out .now) (a .h) (a .w) (o .pre .0) (a .stack .now) (o .pre .1) s (f .ensures)), λ mask g r. r)
 
 spread-requires : tie.Need-spread-requires Inv-loop μ-loop
-spread-requires c κs = 
+spread-requires c κs =
     let l = c .before .before .before .loop in
     let f = c .before .before .before .before .before .before .before .before .seed-border in
     let s = state (l .top) (l .stack) (l .out) in
@@ -52,7 +52,7 @@ spread-requires c κs =
 
 loop-less : tie.Need-loop-less Inv-loop μ-loop
 unfolding total
-loop-less c = 
+loop-less c =
     let l = c .before .before .before .before .before .before .before .before .loop in
     let a = c .before .before .before .before .before .before .before .before .before .before .before .before .before .before .before .before .before .before .args in
     let f = c .before .before .before .before .before .before .before .before .before .before .before .before .before .seed-border in
@@ -65,7 +65,7 @@ loop-less c =
     omega (arith, ap total e, spread-total (ready-at (m .2 ∙ f .kept .1 .1 .1 .0) (spread-ready (m .0) _ _ (m .1) s (m .3) taken)))
 
 loop-again : tie.Need-loop-again Inv-loop μ-loop
-loop-again c = 
+loop-again c =
     let l = c .before .before .before .before .before .before .before .before .loop in
     let a = c .before .before .before .before .before .before .before .before .before .before .before .before .before .before .before .before .before .before .args in
     let f = c .before .before .before .before .before .before .before .before .before .before .before .before .before .seed-border in
@@ -89,7 +89,7 @@ same-length-2 : tie.Need-same-length-2 Inv-loop μ-loop
 same-length-2 c = c .before .loop .inv .1 ∙ c .before .before .before .before .before .before .seed-border .kept .1 .1 .1 .0
 
 returns : tie.Need-returns Inv-loop μ-loop
-returns c = 
+returns c =
     let l = c .before .loop in
     let o = c .before .before .before .before .before .before .before .before .before .before .before in
     let a = o .args in

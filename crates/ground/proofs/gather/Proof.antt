@@ -51,37 +51,37 @@ loop-holds : tie.Need-loop-holds Inv-loop μ-loop
 loop-holds c = let a = c .args in (omega arith, refl, begins (channelAt (a .colours .now) (a .c)) (a .values .now) (a .at) (a .start) (a .stride) (a .n))
 
 mul-i : tie.Need-mul-i Inv-loop μ-loop
-mul-i c = 
+mul-i c =
     let o = c .before .before in
     let l = c .before .loop in
     omega (arith, o .pre .inside (l .k) (omega arith), o .pre .small)
 
 add-i : tie.Need-add-i Inv-loop μ-loop
-add-i c = 
+add-i c =
     let o = c .before .before in
     let l = c .before .loop in
     omega (arith, o .pre .inside (l .k) (omega arith), o .pre .small)
 
 mul-values : tie.Need-mul-values Inv-loop μ-loop
-mul-values c = 
+mul-values c =
     let o = c .before .before in
     let l = c .before .loop in
     omega (arith, o .pre .inside (l .k) (omega arith), o .pre .small)
 
 add-values : tie.Need-add-values Inv-loop μ-loop
-add-values c = 
+add-values c =
     let o = c .before .before in
     let l = c .before .loop in
     omega (arith, o .pre .inside (l .k) (omega arith), o .pre .small)
 
 mul-values-2 : tie.Need-mul-values-2 Inv-loop μ-loop
-mul-values-2 c = 
+mul-values-2 c =
     let o = c .before .before in
     let l = c .before .loop in
     omega (arith, o .pre .inside (l .k) (omega arith), o .pre .small)
 
 shared-slice-read-values : tie.Need-shared-slice-read-values Inv-loop μ-loop
-shared-slice-read-values c = 
+shared-slice-read-values c =
     let o = c .before .before .before in
     let l = c .before .before .loop in
     o .pre .inside (l .k) (omega arith)
@@ -103,7 +103,7 @@ loop-less c = omega arith
 
 loop-again : tie.Need-loop-again Inv-loop μ-loop
 unfolding channelAt
-loop-again c = 
+loop-again c =
     let l = c .before .before .loop in
     let o = c .before .before .before in
     let a = o .args in
@@ -117,7 +117,7 @@ same-length : tie.Need-same-length Inv-loop μ-loop
 same-length c = c .before .loop .inv .1
 
 returns : tie.Need-returns Inv-loop μ-loop
-returns c = 
+returns c =
     let l = c .before .loop in
     let a = c .before .before .args in
     let f : ℕ → ℕ = λ j. a .start + j * a .stride in

@@ -24,7 +24,7 @@ sub-count : tie.Need-sub-count
 sub-count c = search needs
 
 mul-count : tie.Need-mul-count
-mul-count c = 
+mul-count c =
     let o = c .before .before .before in
     omega (arith, last-in (o .pre .sides) 0 (omega (arith, o .pre .sides .some-columns)), area-most (o .pre .sides .tall) (o .pre .sides .wide))
 
@@ -56,7 +56,7 @@ mul-result : tie.Need-mul-result
 mul-result c = search needs
 
 add-result-4 : tie.Need-add-result-4
-add-result-4 c = 
+add-result-4 c =
     let o = c .before .before .before .before .before .before in
     let a = o .args in
     let p = a .plane .now in
@@ -77,7 +77,7 @@ add-result-4 c =
     )
 
 add-result-5 : tie.Need-add-result-5
-add-result-5 c = 
+add-result-5 c =
     let o = c .before .before .before .before .before .before in
     let a = o .args in
     let p = a .plane .now in
@@ -98,7 +98,7 @@ add-result-5 c =
     )
 
 add-result-6 : tie.Need-add-result-6
-add-result-6 c = 
+add-result-6 c =
     let o = c .before .before .before .before .before .before in
     let a = o .args in
     let p = a .plane .now in
@@ -119,7 +119,7 @@ add-result-6 c =
     )
 
 mul-result-2 : tie.Need-mul-result-2
-mul-result-2 c = 
+mul-result-2 c =
     let o = c .before .before .before .before .before .before in
     let a = o .args in
     let p = a .plane .now in
@@ -140,7 +140,7 @@ mul-result-2 c =
     )
 
 returns : tie.Need-returns
-returns c = 
+returns c =
     let o = c .before .before .before .before .before .before in
     let a = o .args in
     let p = a .plane .now in

@@ -31,7 +31,7 @@ channel-requires-3 c κs = search needs
 
 returns : tie.Need-returns
 unfolding referenceOf rgbOk
-returns c = 
+returns c =
     let r = c .before .before .before .before .before .before .before .channel .ensures in
     let g = c .before .before .before .before .channel2 .ensures in
     let b = c .before .channel3 .ensures in

@@ -23,7 +23,7 @@ unfolding seeded
 rest f k n s t l e = ap (λ (r : List ℕ). seeded r s) (table-step f k n l) ∙ ap (seeded (table f (k + 1) (n - (k + 1)))) (sym e)
 
 abbrev Inv-loop : tie.InvT-loop
-Inv-loop start stride n top stack₀ out₀ t₀ k₀ stack out t k = 
+Inv-loop start stride n top stack₀ out₀ t₀ k₀ stack out t k =
     (k ≤ n) × (length stack ≡ length stack₀) × Kept (length out₀) (state t stack out)
     × (seeded (linePixels start stride n) (state top stack₀ out₀) ≡ seeded (table (λ (j : ℕ). start + j * stride) k (n - k)) (state t stack out))
 
@@ -31,25 +31,25 @@ abbrev μ-loop : tie.MeasureT-loop
 μ-loop start stride n top stack₀ out₀ t₀ k₀ stack out t k = n - k
 
 loop-holds : tie.Need-loop-holds Inv-loop μ-loop
-loop-holds c = 
+loop-holds c =
     let o = c .before .before in
     let a = o .args in
     (omega arith, refl, record { room = o .pre .room; long = refl }, begins (a .start) (a .stride) (a .n) (state (a .top) (a .stack .now) (a .out .now)))
 
 mul-visit : tie.Need-mul-visit Inv-loop μ-loop
-mul-visit c = 
+mul-visit c =
     let l = c .before .loop in
     let o = c .before .before .before .before in
     omega (arith, o .pre .inside (l .k) (omega arith), o .pre .room .small)
 
 add-visit : tie.Need-add-visit Inv-loop μ-loop
-add-visit c = 
+add-visit c =
     let l = c .before .loop in
     let o = c .before .before .before .before in
     omega (arith, o .pre .inside (l .k) (omega arith), o .pre .room .small)
 
 visit-requires : tie.Need-visit-requires Inv-loop μ-loop
-visit-requires c κs = 
+visit-requires c κs =
     let l = c .before .before .before .loop in
     let o = c .before .before .before .before .before .before in
     (omega (arith, o .pre .inside (l .k) (omega arith), l .inv .2 .long), l .inv .2 .room)
@@ -61,7 +61,7 @@ loop-less : tie.Need-loop-less Inv-loop μ-loop
 loop-less c = omega arith
 
 loop-again : tie.Need-loop-again Inv-loop μ-loop
-loop-again c = 
+loop-again c =
     let l = c .before .before .before .before .before .before .before .before .loop in
     let o = c .before .before .before .before .before .before .before .before .before .before .before in
     let a = o .args in
@@ -81,7 +81,7 @@ same-length-2 c = sym (c .before .loop .inv .2 .long)
 
 returns : tie.Need-returns Inv-loop μ-loop
 unfolding seeded
-returns c = 
+returns c =
     let l = c .before .loop in
     let a = c .before .before .before .before .args in
     sym (l .inv .3 ∙ ap (λ (r : List ℕ). seeded r (state (l .t) (l .stack) (l .out))) (table-end (λ (j : ℕ). a .start + j * a .stride) (l .k) (a .n) (omega arith)))

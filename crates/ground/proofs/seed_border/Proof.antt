@@ -16,7 +16,7 @@ between-requires : tie.Need-between-requires
 between-requires c κs = search needs
 
 seed-requires : tie.Need-seed-requires
-seed-requires c κs = 
+seed-requires c κs =
     let o = c .before .before .before .before .before in
     let a = o .args in
     let g = o .pre .0 in
@@ -29,12 +29,12 @@ sub-seed : tie.Need-sub-seed
 sub-seed c = search needs
 
 mul-seed : tie.Need-mul-seed
-mul-seed c = 
+mul-seed c =
     let g = c .before .before .before .before .before .before .before .before .before .before .pre .0 .sides in
     omega (arith, last-in g 0 (omega (arith, g .some-columns)), area-most (g .tall) (g .wide))
 
 seed-requires-2 : tie.Need-seed-requires-2
-seed-requires-2 c κs = 
+seed-requires-2 c κs =
     let o = c .before .before .before .before .before .before .before .before .before .before .before .before in
     let a = o .args in
     let g = o .pre .0 in
@@ -48,7 +48,7 @@ seed-requires-2 c κs =
     last-seeds (g .sides) s1 k1
 
 seed-requires-3 : tie.Need-seed-requires-3
-seed-requires-3 c κs = 
+seed-requires-3 c κs =
     let o = c .before .before .before .before .before .before .before .before .before .before .before .before .before .before .before .before .before .before .before in
     let a = o .args in
     let g = o .pre .0 in
@@ -72,7 +72,7 @@ add-seed : tie.Need-add-seed
 add-seed c = search needs
 
 seed-requires-4 : tie.Need-seed-requires-4
-seed-requires-4 c κs = 
+seed-requires-4 c κs =
     let o = c .before .before .before .before .before .before .before .before .before .before .before .before .before .before .before .before .before .before .before .before .before .before .before .before .before .before in
     let a = o .args in
     let g = o .pre .0 in
@@ -100,7 +100,7 @@ same-length-2 : tie.Need-same-length-2
 same-length-2 c = search needs
 
 returns : tie.Need-returns
-returns c = 
+returns c =
     let o = c .before .before .before .before .before .before .before .before .before .before .before .before .before .before .before .before .before .before .before .before .before .before .before .before .before .before .before .before .before .before .before in
     let a = o .args in
     let g = o .pre .0 in

@@ -50,7 +50,7 @@ unfolding marked
 marked-is plane out e h = table-is (mark plane) (length plane) out 0 e h
 
 abbrev Inv-loop : tie.InvT-loop
-Inv-loop out₀ off₀ i₀ i-end out off i = 
+Inv-loop out₀ off₀ i₀ i-end out off i =
     (i-end ≡ length out₀) × (i ≤ length out₀) × (length out ≡ length out₀)
     × ((k : ℕ) → k < i → getD out k 0 ≡ mark out₀ k) × ((k : ℕ) → i ≤ k → getD out k 0 ≡ getD out₀ k 0) × (off ≡ someOff (marked out₀) i)
 
@@ -58,7 +58,7 @@ abbrev μ-loop : tie.MeasureT-loop
 μ-loop out₀ off₀ i₀ i-end out off i = length out₀ - i
 
 loop-holds : tie.Need-loop-holds Inv-loop μ-loop
-loop-holds c = 
+loop-holds c =
     let l = c .args .out .now in
     (refl, omega arith, refl, below-none (λ (k : ℕ). getD l k 0 ≡ mark l k), λ k m. refl, none-off (marked l))
 
@@ -78,7 +78,7 @@ loop-less : tie.Need-loop-less Inv-loop μ-loop
 loop-less c = omega arith
 
 loop-again : tie.Need-loop-again Inv-loop μ-loop
-loop-again c = 
+loop-again c =
     let l = c .before .before .loop in
     let a = c .before .before .before .args in
     let g = eqb (getD (l .out) (l .i) 0) 2 in
@@ -96,7 +96,7 @@ same-length : tie.Need-same-length Inv-loop μ-loop
 same-length c = c .before .loop .inv .2
 
 returns : tie.Need-returns Inv-loop μ-loop
-returns c = 
+returns c =
     let l = c .before .loop in
     let a = c .before .before .args in
     let e : l .i ≡ length (a .out .now) = omega arith in
