@@ -20,9 +20,6 @@ pub enum Flat {
     Absent,
 }
 
-// How many numbers the border list of the largest plane may have (4 * mostSide).
-const MOST_BORDER: usize = 16384;
-
 // The number of rows between the first and the last.
 fn between(h: usize) -> usize
     ensures { λ r. ⌜ r ≡ h - 2 ⌝ }
@@ -67,7 +64,7 @@ fn channel(colours: &[f64], h: usize, w: usize, c: usize, values: &mut [f64]) ->
     median::median(&values[0..w + w + m + m])
 }
 
-// The reference colour.
+// The reference colour. No border list has more than 4 * 4096 entries.
 fn reference(colours: &[f64], h: usize, w: usize) -> Rgb
     requires { ⌜ Picture (now colours) h w ⌝ }
     ensures { λ r. ⌜ r ≡ referenceOf (now (colours .entry)) h w ⌝ }
