@@ -4,13 +4,14 @@ use mathlib.Core.Path.{_≡_, refl, sym, ap, _∙_}
 use mathlib.Core.Bool.{Bool, true, false, not, cond, _||_}
 use mathlib.Core.List.{List}
 use Prim.Native.Nat.{ℕ, zero, suc, _+_, _*_, _-_, _≤_, _<_}
+use native.Mathlib.Nat.{not-suc-le-zero}
 use native.Mathlib.Numerals.{add-one}
 use native.Mathlib.Omega.{arith}
 use mathlib.Core.Logic.{⊎-elim}
 use lib.ListN.{length, getD, take, drop, length-take, length-drop}
 use Rattle.plane.specs.Plane.{on, bit, onAt, table}
 use Rattle.plane.specs.Search.{someBelow}
-use Rattle.plane.proofs.Search.{either, some-same}
+use Rattle.plane.proofs.Search.{which, either, some-is, none-is, some-same}
 use Rattle.plane.proofs.Plane.{row-in, table-length, table-at, part-at}
 use Rattle.labels.specs.Labels.{isOn}
 use Rattle.outline.specs.Cut.{firstBelow, lastBelow, rowHas, columnHas}
@@ -39,6 +40,26 @@ pub last-same : (p q : ℕ → Bool) (n : ℕ) → ((i : ℕ) → i < n → p i 
 unfolding lastBelow
 last-same p q zero h = refl
 last-same p q (suc n) h = rw (last-same p q n (λ i l. h i (omega arith)), h n (omega arith))
+
+-- ---- what the two are: p holds there, and nowhere before, or behind
+
+pub first-at : (p : ℕ → Bool) (n i : ℕ) → i < n → p i ≡ true → ((k : ℕ) → k < i → p k ≡ false) → firstBelow n p ≡ i
+unfolding firstBelow
+first-at p zero i l t h = absurd (not-suc-le-zero l)
+first-at p (suc n) i l t h =
+    ⊎-elim {C = firstBelow (suc n) p ≡ i}
+    (λ (a : i < n). rw (some-is p n i a t) (first-at p n i a t h))
+    (λ (a : n ≤ i). (let e : i ≡ n = omega arith in rw (none-is p n (λ k g. h k (omega arith)), sym (ap p e) ∙ t) (sym e)))
+    (which i n)
+
+pub last-at : (p : ℕ → Bool) (n i : ℕ) → i < n → p i ≡ true → ((k : ℕ) → i < k → k < n → p k ≡ false) → lastBelow n p ≡ i
+unfolding lastBelow
+last-at p zero i l t h = absurd (not-suc-le-zero l)
+last-at p (suc n) i l t h =
+    ⊎-elim {C = lastBelow (suc n) p ≡ i}
+    (λ (a : i < n). rw (h n a (omega arith)) (last-at p n i a t (λ k g m. h k g (omega arith))))
+    (λ (a : n ≤ i). (let e : i ≡ n = omega arith in rw (sym (ap p e) ∙ t) (sym e)))
+    (which i n)
 
 -- the last place is at most n
 pub last-most : (p : ℕ → Bool) (n : ℕ) → lastBelow n p ≤ n

@@ -42,9 +42,10 @@ loop-again : tie.Need-loop-again Inv-loop μ-loop
 unfolding isOn on
 loop-again c =
     let l = c .before .before .before .loop in
-    let line = c .before .before .before .before .before .args .line .now in (
+    let line = c .before .before .before .before .before .args .line .now in
+    let more = first-more (isOn line) (l .i) (l .at) (l .found) _ (l .inv .1) (l .inv .2) refl in (
       omega arith,
-      c .first-step .ensures ∙ first-more (isOn line) (l .i) (l .at) (l .found) _ (l .inv .1) (l .inv .2) refl,
+      rw (c .first-step .ensures) more,
       some-more (isOn line) (l .i) (l .found) _ (l .inv .2) refl,
     )
 
