@@ -150,7 +150,12 @@ fn box_in(mask: &[u8], h: usize, w: usize, down: &mut [u8], across: &mut [u8]) -
     let y1 = end(last(down), h);
     let x0 = start(first(across));
     let x1 = end(last(across), w);
-    Crop { y0: y0, y1: y1, x0: x0, x1: x1 }
+    Crop {
+        y0: y0,
+        y1: y1,
+        x0: x0,
+        x1: x1,
+    }
 }
 
 // The box of a mask's on-pixels with the margin on each side, clamped to the picture.

@@ -113,9 +113,10 @@ returns c =
     let o = c .before .before .before .before .before in
     let a = o .args in
     let m = a .mask .now in
-    let e : l .y ≡ a .h = omega arith in
-    (table-is (λ (k : ℕ). bit (rowHas m (a .w) k)) (a .h) (l .down) 0 (l .inv .1 ∙ o .pre .down-long) (λ k g. l .inv .3 k (omega arith)),
-     table-is (λ (x : ℕ). bit (columnHas m (a .h) (a .w) x)) (a .w) (l .across) 0 (l .inv .2 ∙ o .pre .across-long) (λ x g. l .inv .4 x g ∙ ap (λ (y : ℕ). bit (columnHas m y (a .w) x)) e))
+    let e : l .y ≡ a .h = omega arith in (
+      table-is (λ (k : ℕ). bit (rowHas m (a .w) k)) (a .h) (l .down) 0 (l .inv .1 ∙ o .pre .down-long) (λ k g. l .inv .3 k (omega arith)),
+      table-is (λ (x : ℕ). bit (columnHas m (a .h) (a .w) x)) (a .w) (l .across) 0 (l .inv .2 ∙ o .pre .across-long) (λ x g. l .inv .4 x g ∙ ap (λ (y : ℕ). bit (columnHas m y (a .w) x)) e),
+    )
 
 pub survey-spec : {M : Type 1} → statement M
 survey-spec =
