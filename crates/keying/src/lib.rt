@@ -1,4 +1,5 @@
 // Keying: the public calls of the upper layer. Each declines by document 01's numbers, and a call that declines writes
 // nothing.
+mod crop;
 mod masks;
 mod number;

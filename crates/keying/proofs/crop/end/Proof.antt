@@ -1,0 +1,24 @@
+-- `keying::crop::end` meets its contract.
+-- Assumes nothing.
+use borrow.Author.Needs.{needs}
+use borrow.Author.Tests.{le-leb, lt-leb}
+use Rattle.outline.specs.Cut.{lesserOf}
+use Rattle.keying.proofs.crop.end.Statement.{statement}
+use Rattle.keying.proofs.crop.end.Tie as tie
+
+add-past : tie.Need-add-past
+add-past c = search needs
+
+add-past-2 : tie.Need-add-past-2
+add-past-2 c = search needs
+
+returns : tie.Need-returns
+unfolding lesserOf
+returns c = rw (le-leb _ _ (c .if1 .taken))
+
+returns-2 : tie.Need-returns-2
+unfolding lesserOf
+returns-2 c = rw (lt-leb _ _ (c .if1 .left))
+
+pub end-spec : {M : Type 1} → statement M
+end-spec = tie.close (tie.spec add-past add-past-2 returns returns-2)
