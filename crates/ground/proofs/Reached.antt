@@ -1,22 +1,21 @@
 -- The flood begins at the border, and ends with the ground marked.
 -- Assumes nothing.
 use mathlib.Core.Path.{_≡_, refl, sym, ap, _∙_}
-use mathlib.Core.Bool.{Bool, true, false, _&&_, _||_}
+use mathlib.Core.Bool.{Bool, true, false, not, _&&_, _||_}
 use mathlib.Core.Logic.{_⊎_, inl, inr, ⊎-elim}
 use mathlib.Core.List.{List, [], _∷_}
 use Prim.Native.Nat.{ℕ, _+_, _*_, _-_, _≤_, _<_}
 use native.Mathlib.Omega.{arith}
 use lib.Dec.{eqb}
 use lib.ListN.{length, getD}
-use borrow.Author.Tests.{eqb-true, eqb-false, eq-eqb}
-use Rattle.plane.specs.Plane.{bit, table}
+use borrow.Author.Tests.{eqb-true, eqb-false, eq-eqb, ne-eqb}
+use Rattle.plane.specs.Plane.{on, bit, table}
 use Rattle.plane.specs.Search.{someBelow}
-use Rattle.plane.proofs.Search.{either, not-both, some-found, some-is}
+use Rattle.plane.proofs.Search.{which, either, not-both, some-found, some-is}
 use Rattle.plane.proofs.Refusal.{and-true}
 use Rattle.labels.specs.Labels.{isOn, beside, Joined, same, firstPixel}
 use Rattle.labels.proofs.Joined.{on-inside, start-on, end-on, spreads}
 use Rattle.labels.proofs.Firsts.{first-same, same-first}
-use Rattle.labels.proofs.Flooding.{number-on, on-number}
 use Rattle.labels.proofs.Steps.{next-in}
 use Rattle.outline.specs.Border.{borderList, listed, onBorder}
 use Rattle.outline.specs.Ground.{isGround, groundFrom}
@@ -24,6 +23,18 @@ use Rattle.ground.specs.Flood.{State, state, visited, visitIf, seeded, s
 use Rattle.ground.proofs.Tables.{table-same}
 use Rattle.ground.proofs.Room.{Kept, first-room}
 use Rattle.ground.proofs.Flooding.{at, FromBorder, Flooding, visits, not-past, popped-floods, spread-floods}
+
+number-on : (l : List ℕ) (k v : ℕ) → getD l k 0 ≡ v → 0 < v → isOn l k ≡ true
+unfolding isOn on
+number-on l k v e p = rw (e, ne-eqb v 0 (λ z. omega arith))
+
+on-number : (l : List ℕ) (k : ℕ) → isOn l k ≡ true → 0 < getD l k 0
+unfolding isOn on
+on-number l k t =
+    ⊎-elim {C = 0 < getD l k 0}
+    (λ (p : 0 < getD l k 0). p)
+    (λ (p : getD l k 0 ≤ 0). not-both (not (eqb (getD l k 0) 0)) t (rw (eq-eqb (getD l k 0) 0 (omega arith))))
+    (which 0 (getD l k 0))
 
 or-cases : (s t : Bool) → s || t ≡ true → (s ≡ true) ⊎ (t ≡ true)
 or-cases true t e = inl refl
