@@ -22,6 +22,7 @@ pub record Leads (costs : List ℕ) (u x i : ℕ) : Type 0 where
   pub least : (j : ℕ) → j < u → Site costs j → valueAt costs x i ≤ valueAt costs x j
   pub first : (j : ℕ) → j < i → Site costs j → valueAt costs x i < valueAt costs x j
 
+-- the stack after the first u places, count sites high: the starts rise from 0, and each site leads from its start up to the next
 pub record Stack (costs s t : List ℕ) (u count : ℕ) : Type 0 where
   pub small : count ≤ u
   pub empty : count ≡ 0 → (j : ℕ) → j < u → Site costs j → ⊥

@@ -21,7 +21,7 @@ fn wide(x: u32) -> usize
 }
 
 // How far apart two places are.
-pub fn gap(x: usize, i: usize) -> u64
+fn gap(x: usize, i: usize) -> u64
     ensures { λ r. ⌜ r ≡ apart x i ⌝ }
 {
     if x < i {
