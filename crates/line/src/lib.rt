@@ -3,8 +3,7 @@ ghost use mathlib.Core.Path.{_≡_};
 ghost use mathlib.Core.Bool.{true};
 ghost use Prim.Native.Nat.{ℕ, _+_, _*_, _-_, _<_, _≤_};
 ghost use lib.ListN.{length, getD, replicate};
-ghost use Rattle.line.specs.Line.{mostLength, noPlace, Site, valueAt, lineOf};
-ghost use Rattle.plane.specs.Plane.{apart};
+ghost use Rattle.line.specs.Line.{mostLength, noPlace, Site, lineOf};
 ghost use Rattle.line.specs.Envelope.{Room, Stack, Dropped, Ends, Lone, Done, height, takeoverAt, lineFrom};
 
 // A place whose cost is above this has no site (2^33).
@@ -18,29 +17,6 @@ fn wide(x: u32) -> usize
     ensures { λ r. ⌜ r ≡ x ⌝ }
 {
     x as usize
-}
-
-// How far apart two places are.
-fn gap(x: usize, i: usize) -> u64
-    ensures { λ r. ⌜ r ≡ apart x i ⌝ }
-{
-    if x < i {
-        (i - x) as u64
-    } else {
-        (x - i) as u64
-    }
-}
-
-// The cost of place i and the square of its distance from x.
-fn value(costs: &[u64], x: usize, i: usize) -> u64
-    requires { ⌜ i < length (now costs) ⌝ }
-    requires { ⌜ Site (now costs) i ⌝ }
-    requires { ⌜ i < mostLength ⌝ }
-    requires { ⌜ x < mostLength ⌝ }
-    ensures { λ r. ⌜ r ≡ valueAt (now (costs .entry)) x i ⌝ }
-{
-    let d = gap(x, i);
-    costs[i] + d * d
 }
 
 // The cost of place i and its square.
@@ -73,6 +49,7 @@ fn takeover(costs: &[u64], i: usize, u: usize) -> usize
 }
 
 // The number of sites that stay when those are taken off the top that u beats already at their own start.
+// At x site i is as good as u, to its right, exactly where its height and 2x(u - i) are at most the height of u.
 fn drop_worse(costs: &[u64], s: &[u32], t: &[u32], count: usize, u: usize) -> usize
     requires { ⌜ Room (now costs) (now s) (now t) ⌝ }
     requires { ⌜ u < length (now costs) ⌝ }
@@ -85,7 +62,8 @@ fn drop_worse(costs: &[u64], s: &[u32], t: &[u32], count: usize, u: usize) -> us
         let top = k - 1;
         let x = wide(t[top]);
         let i = wide(s[top]);
-        if value(costs, x, i) <= value(costs, x, u) {
+        let far = (x * (2 * (u - i))) as u64;
+        if high(costs, i) + far <= high(costs, u) {
             return k;
         }
         k = top;
