@@ -20,13 +20,13 @@ pub same : (v : Option ℕ) (a b : ℕ) → v ≡ some a → v ≡ some b → a 
 same v a b p q = cc
 
 -- the test of the walk
-less : (a b : ℕ) → a < b → lower (some a) (some b) ≡ true
-unfolding lower
-less a b l = lt-ltb a b l
-
 no-less : (a b : ℕ) → b ≤ a → lower (some a) (some b) ≡ false
 unfolding lower
 no-less a b l = le-ltb a b l
+
+less : (a b : ℕ) → a < b → lower (some a) (some b) ≡ true
+unfolding lower
+less a b l = lt-ltb a b l
 
 module _ (f : ℕ → Option ℕ) where
   -- the leader stays
