@@ -3,7 +3,7 @@
 use mathlib.Core.Path.{_≡_, refl, sym, ap, _∙_, subst}
 use mathlib.Core.List.{List, _++_}
 use mathlib.Core.Option.{Option, none, some}
-use mathlib.Core.Logic.{⊎-elim}
+use mathlib.Core.Logic.{_⊎_, inl, inr, ⊎-elim}
 use Prim.Native.Nat.{ℕ, _+_, _-_, _≤_, _<_}
 use native.Mathlib.Nat.{add-zero}
 use native.Mathlib.Omega.{arith}
@@ -14,7 +14,7 @@ use Rattle.plane.proofs.Search.{which}
 use Rattle.plane.proofs.Plane.{table-length, table-at, filled}
 use Rattle.line.specs.Walk.{Answers}
 use Rattle.line.specs.Line.{Site, valueAt, offer, best, placeOf}
-use Rattle.line.specs.Envelope.{Leads, placeFrom, lineFrom, Ends, Done}
+use Rattle.line.specs.Envelope.{Leads, placeFrom, lineFrom, Ends, Lone, Done}
 use Rattle.line.proofs.Squares.{square-lt}
 use Rattle.line.proofs.Walk.{clash, walk-answers}
 use Rattle.line.proofs.Best.{offer-site, offered, leader, no-leader}
@@ -35,6 +35,10 @@ apart-right x j l = omega arith
 apart-shift : (a y i : ℕ) → apart y i ≡ apart (a + y) (a + i)
 unfolding apart
 apart-shift a y i = omega arith
+
+apart-same : (x j : ℕ) → apart x j ≡ 0 → x ≡ j
+unfolding apart
+apart-same x j e = omega arith
 
 -- what the definition answers leads
 module _ (costs : List ℕ) (x : ℕ) where
@@ -78,6 +82,32 @@ module _ (costs : List ℕ) (x : ℕ) where
         site = omega arith;
         least = λ j g s. omega arith;
         first = λ j g s. beyond x j e (let f = apart-left x j (omega arith) in omega arith);
+      })
+
+  -- a place of cost 0 leads at the place behind it too, where that has a cost
+  some-value : (j : ℕ) → (getD costs x 0 ≡ 0 → ⊥) → 1 ≤ valueAt costs x j
+  unfolding valueAt
+  some-value j n =
+      ⊎-elim
+      (λ (p : 0 < apart x j). (let s = square-lt p in omega arith))
+      (λ (p : apart x j ≤ 0).
+      let e : x ≡ j = apart-same x j (omega arith) in
+      ⊎-elim (λ (q : 0 < getD costs x 0). (let z : getD costs x 0 ≡ getD costs j 0 = ap (λ (i : ℕ). getD costs i 0) e in omega arith)) (λ (q : getD costs x 0 ≤ 0). absurd (n (omega arith))) (which 0 (getD costs x 0)))
+      (which 0 (apart x j))
+
+  left-value : getD costs (x - 1) 0 ≡ 0 → apart x (x - 1) ≡ 1 → valueAt costs x (x - 1) ≡ 1
+  unfolding valueAt
+  left-value e z = rw (e, z)
+
+  pub left-place : 0 < x → x < length costs → getD costs (x - 1) 0 ≡ 0 → (getD costs x 0 ≡ 0 → ⊥) → best costs x ≡ some (x - 1)
+  left-place p l e n =
+      let a = apart-left x (x - 1) (omega arith) in
+      let v = left-value e (omega arith) in
+      leader costs x (x - 1) (record {
+        inside = omega arith;
+        site = omega arith;
+        least = λ j g s. (let m = some-value j n in omega arith);
+        first = λ j g s. beyond (x - 1) j e (let f = apart-left x j (omega arith) in omega arith);
       })
 
 -- a run from a on, of k places, which holds x
@@ -210,17 +240,33 @@ own-done costs out x long l e d =
     record {
       within = omega arith;
       answered = filled (λ (k : ℕ). placeOf (best costs k)) out x x 0 (omega arith) (d .answered) (sym (ap placeOf (own-place costs x l e)));
-      bound = λ p q. subst (λ (n : ℕ). getD costs n 0 ≡ 0) back e;
+      bound = λ p q. inl (subst (λ (n : ℕ). getD costs n 0 ≡ 0) back e);
+    }
+
+-- the cost that x has is not 0, so that of the place before it is
+starts-run : (costs out : List ℕ) (x : ℕ) → 0 < x → x < length costs → (getD costs x 0 ≡ 0 → ⊥) → Done costs out x → getD costs (x - 1) 0 ≡ 0
+starts-run costs out x p l n d = ⊎-elim {C = getD costs (x - 1) 0 ≡ 0} (λ (e : getD costs (x - 1) 0 ≡ 0). e) (λ (e : getD costs x 0 ≡ 0). absurd (n e)) (d .bound p l)
+
+-- a lone place with a cost has the answer of the place before it
+pub lone-done : (costs out : List ℕ) (x : ℕ) → length out ≡ length costs → (getD costs x 0 ≡ 0 → ⊥) → Lone costs x → Done costs out x → Done costs (set out x (x - 1)) (x + 1)
+unfolding placeOf
+lone-done costs out x long n lone d =
+    let l : x < length costs = omega (arith, lone .within) in
+    record {
+      within = omega arith;
+      answered =
+          filled (λ (k : ℕ). placeOf (best costs k)) out x (x - 1) 0 (omega arith) (d .answered) (sym (ap placeOf (left-place costs x (lone .after) l (starts-run costs out x (lone .after) l n d) n)));
+      bound = λ p q. inr (lone .bound);
     }
 
 -- the run that holds x is answered by its own line pass
-module _ (costs out row : List ℕ) (x a e k : ℕ) (long : length out ≡ length costs) (done : Done costs out x) (ends : Ends costs x e) (from : a ≡ x - 1) (size : k ≡ e - a)
+module _ (costs out row : List ℕ) (x a e k : ℕ) (long : length out ≡ length costs) (some-cost : getD costs x 0 ≡ 0 → ⊥) (done : Done costs out x) (ends : Ends costs x e) (from : a ≡ x - 1) (size : k ≡ e - a)
     (row-is : row ≡ lineFrom a (take k (drop a costs))) where
   whole : a + k ≡ e
   whole = let f = ends .after in omega arith
 
   starts : 0 < a → getD costs a 0 ≡ 0
-  starts l = rw from (done .bound (omega arith) (let f = ends .after in let g = ends .within in omega arith))
+  starts l = rw from (starts-run costs out x (omega arith) (let f = ends .after in let g = ends .within in omega arith) some-cost done)
 
   stops : a + k < length costs → getD costs (a + k - 1) 0 ≡ 0
   stops l = rw whole (ends .bound (let w = whole in omega arith))
@@ -254,4 +300,4 @@ module _ (costs out row : List ℕ) (x a e k : ℕ) (long : length out ≡ lengt
       (which i a)
 
   pub run-done : Done costs (take a out ++ (row ++ drop k (drop a out))) e
-  run-done = record { within = ends .within; answered = answers; bound = λ p q. ends .bound q }
+  run-done = record { within = ends .within; answered = answers; bound = λ p q. inl (ends .bound q) }

@@ -1,7 +1,7 @@
 -- The laws of a first-least walk: its answer is a site, no site is strictly better, each site before it is strictly worse; and these determine it.
 -- Assumes nothing.
 use mathlib.Core.Path.{_≡_, refl, ap}
-use mathlib.Core.Bool.{cond}
+use mathlib.Core.Bool.{true, false, cond}
 use mathlib.Core.Option.{Option, none, some}
 use mathlib.Core.Logic.{⊎-elim}
 use Prim.Native.Nat.{ℕ, zero, suc, _≤_, _<_}
@@ -18,6 +18,15 @@ clash v a p q = let z : _≡_ {A = ℕ} 0 1 = cc in absurd (omega arith)
 -- a number is one
 pub same : (v : Option ℕ) (a b : ℕ) → v ≡ some a → v ≡ some b → a ≡ b
 same v a b p q = cc
+
+-- the test of the walk
+no-less : (a b : ℕ) → b ≤ a → lower (some a) (some b) ≡ false
+unfolding lower
+no-less a b l = le-ltb a b l
+
+less : (a b : ℕ) → a < b → lower (some a) (some b) ≡ true
+unfolding lower
+less a b l = lt-ltb a b l
 
 module _ (f : ℕ → Option ℕ) where
   -- the leader stays
@@ -47,9 +56,9 @@ module _ (f : ℕ → Option ℕ) where
       rw (h .1 .here)
       (⊎-elim
       (λ (l : w < h .0).
-      rw (lt-ltb w (h .0) l) (w, takes n w e (λ j x g q. (let z = h .1 .least j x g q in omega arith))))
+      rw (less w (h .0) l) (w, takes n w e (λ j x g q. (let z = h .1 .least j x g q in omega arith))))
       (λ (l : h .0 ≤ w).
-      rw (le-ltb w (h .0) l) (h .0, stays n i (h .0) (h .1) (λ x q. (let z = same (f n) w x e q in omega arith))))
+      rw (no-less w (h .0) l) (h .0, stays n i (h .0) (h .1) (λ x q. (let z = same (f n) w x e q in omega arith))))
       (which w (h .0)))
 
   -- what the walk answers is so

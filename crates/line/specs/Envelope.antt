@@ -4,6 +4,7 @@ use Prim.Native.Nat.{ℕ, _+_, _*_, _-_, _/_, _≤_, _<_}
 use mathlib.Core.Path.{_≡_}
 use mathlib.Core.List.{List}
 use mathlib.Core.Option.{Option, none, some}
+use mathlib.Core.Logic.{_⊎_}
 use lib.ListN.{length, getD}
 use Rattle.plane.specs.Plane.{table}
 use Rattle.line.specs.Line.{Site, valueAt, mostLength, noPlace, best, placeOf}
@@ -21,6 +22,7 @@ pub record Leads (costs : List ℕ) (u x i : ℕ) : Type 0 where
   pub least : (j : ℕ) → j < u → Site costs j → valueAt costs x i ≤ valueAt costs x j
   pub first : (j : ℕ) → j < i → Site costs j → valueAt costs x i < valueAt costs x j
 
+-- the stack after the first u places, count sites high: the starts rise from 0, and each site leads from its start up to the next
 pub record Stack (costs s t : List ℕ) (u count : ℕ) : Type 0 where
   pub small : count ≤ u
   pub empty : count ≡ 0 → (j : ℕ) → j < u → Site costs j → ⊥
@@ -58,8 +60,14 @@ pub record Ends (costs : List ℕ) (x e : ℕ) : Type 0 where
   pub within : e ≤ length costs
   pub bound : e < length costs → getD costs (e - 1) 0 ≡ 0
 
--- the places before x are answered, and a run may start at x: it is an end of the line, or the place before it has cost 0
+-- x is not the first place, and the place behind it has cost 0
+pub record Lone (costs : List ℕ) (x : ℕ) : Type 0 where
+  pub after : 0 < x
+  pub within : x + 1 < length costs
+  pub bound : getD costs (x + 1) 0 ≡ 0
+
+-- the places before x are answered, and a run may start at x: it is an end of the line, or it or the place before it has cost 0
 pub record Done (costs out : List ℕ) (x : ℕ) : Type 0 where
   pub within : x ≤ length costs
   pub answered : (k : ℕ) → k < x → getD out k 0 ≡ placeOf (best costs k)
-  pub bound : 0 < x → x < length costs → getD costs (x - 1) 0 ≡ 0
+  pub bound : 0 < x → x < length costs → (getD costs (x - 1) 0 ≡ 0) ⊎ (getD costs x 0 ≡ 0)

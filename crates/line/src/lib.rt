@@ -1,10 +1,10 @@
 // The line pass of an exact Euclidean feature transform: for each place of a line the first site with the least cost + (x - i)².
 ghost use mathlib.Core.Path.{_≡_};
+ghost use mathlib.Core.Bool.{true};
 ghost use Prim.Native.Nat.{ℕ, _+_, _*_, _-_, _<_, _≤_};
 ghost use lib.ListN.{length, getD, replicate};
-ghost use Rattle.line.specs.Line.{mostLength, noPlace, Site, valueAt, lineOf};
-ghost use Rattle.plane.specs.Plane.{apart};
-ghost use Rattle.line.specs.Envelope.{Room, Stack, Dropped, Ends, Done, height, takeoverAt, lineFrom};
+ghost use Rattle.line.specs.Line.{mostLength, noPlace, Site, lineOf};
+ghost use Rattle.line.specs.Envelope.{Room, Stack, Dropped, Ends, Lone, Done, height, takeoverAt, lineFrom};
 
 // A place whose cost is above this has no site (2^33).
 pub const MAX_COST: u64 = 8589934592;
@@ -17,29 +17,6 @@ fn wide(x: u32) -> usize
     ensures { λ r. ⌜ r ≡ x ⌝ }
 {
     x as usize
-}
-
-// How far apart two places are.
-pub fn gap(x: usize, i: usize) -> u64
-    ensures { λ r. ⌜ r ≡ apart x i ⌝ }
-{
-    if x < i {
-        (i - x) as u64
-    } else {
-        (x - i) as u64
-    }
-}
-
-// The cost of place i and the square of its distance from x.
-fn value(costs: &[u64], x: usize, i: usize) -> u64
-    requires { ⌜ i < length (now costs) ⌝ }
-    requires { ⌜ Site (now costs) i ⌝ }
-    requires { ⌜ i < mostLength ⌝ }
-    requires { ⌜ x < mostLength ⌝ }
-    ensures { λ r. ⌜ r ≡ valueAt (now (costs .entry)) x i ⌝ }
-{
-    let d = gap(x, i);
-    costs[i] + d * d
 }
 
 // The cost of place i and its square.
@@ -72,6 +49,7 @@ fn takeover(costs: &[u64], i: usize, u: usize) -> usize
 }
 
 // The number of sites that stay when those are taken off the top that u beats already at their own start.
+// At x site i is as good as u, to its right, exactly where its height and 2x(u - i) are at most the height of u.
 fn drop_worse(costs: &[u64], s: &[u32], t: &[u32], count: usize, u: usize) -> usize
     requires { ⌜ Room (now costs) (now s) (now t) ⌝ }
     requires { ⌜ u < length (now costs) ⌝ }
@@ -84,7 +62,8 @@ fn drop_worse(costs: &[u64], s: &[u32], t: &[u32], count: usize, u: usize) -> us
         let top = k - 1;
         let x = wide(t[top]);
         let i = wide(s[top]);
-        if value(costs, x, i) <= value(costs, x, u) {
+        let far = (x * (2 * (u - i))) as u64;
+        if high(costs, i) + far <= high(costs, u) {
             return k;
         }
         k = top;
@@ -203,11 +182,27 @@ fn place_before(x: usize) -> usize
     if 0 < x { x - 1 } else { 0 }
 }
 
+// Whether the place behind x has cost 0, and x is not the first.
+fn lone(costs: &[u64], x: usize) -> bool
+    requires { ⌜ x < length (now costs) ⌝ }
+    ensures { λ r. ⌜ (r ≡ true → Lone (now (costs .entry)) x) ⌝ }
+{
+    if x == 0 {
+        return false;
+    }
+    let next = x + 1;
+    if next < costs.len() {
+        return costs[next] == 0;
+    }
+    false
+}
+
 // The run that holds x, from the place before it; its end.
 fn off_run(costs: &[u64], x: usize, s: &mut [u32], t: &mut [u32], out: &mut [u32]) -> usize
     requires { ⌜ Room (now costs) (now s) (now t) ⌝ }
     requires { ⌜ length (now out) ≡ length (now costs) ⌝ }
     requires { ⌜ x < length (now costs) ⌝ }
+    requires { ⌜ (getD (now costs) x 0 ≡ 0 → ⊥) ⌝ }
     requires { ⌜ Done (now costs) (now out) x ⌝ }
     ensures { λ r. ⌜ Done (now (costs .entry)) (now (out .exit)) r ⌝ }
     ensures { λ r. ⌜ Ends (now (costs .entry)) x r ⌝ }
@@ -219,7 +214,8 @@ fn off_run(costs: &[u64], x: usize, s: &mut [u32], t: &mut [u32], out: &mut [u32
 }
 
 // For each place of a line the first site with the least cost + (x - i)²; NO_PLACE where the line has no site.
-// A place of cost 0 is its own answer, and sites beyond it do not count on this side of it, so the line is done run by run.
+// A place of cost 0 is its own answer, and the answer of a place behind it that has a cost; sites beyond it do not count on this side of it.
+// So the line is done run by run.
 // s and t are work space, as long as the line.
 pub fn line(costs: &[u64], s: &mut [u32], t: &mut [u32], out: &mut [u32])
     requires { ⌜ Room (now costs) (now s) (now t) ⌝ }
@@ -230,6 +226,9 @@ pub fn line(costs: &[u64], s: &mut [u32], t: &mut [u32], out: &mut [u32])
     while x < costs.len() {
         if costs[x] == 0 {
             out[x] = x as u32;
+            x += 1;
+        } else if lone(costs, x) {
+            out[x] = (x - 1) as u32;
             x += 1;
         } else {
             x = off_run(costs, x, s, t, out);

@@ -4,9 +4,9 @@ use mathlib.Core.Path.{_≡_, refl, sym, _∙_}
 use Prim.Native.Nat.{_-_}
 use lib.ListN.{length, length-set}
 use native.Mathlib.Omega.{arith}
-use Rattle.line.specs.Envelope.{Ends, Done}
+use Rattle.line.specs.Envelope.{Ends, Lone, Done}
 use Rattle.line.proofs.Best.{line-is}
-use Rattle.line.proofs.Runs.{nothing-done, own-done}
+use Rattle.line.proofs.Runs.{nothing-done, own-done, lone-done}
 use Rattle.line.proofs.line.Statement.{statement}
 use Rattle.line.proofs.line.Tie as tie
 
@@ -16,6 +16,9 @@ Inv-loop costs s₀ t₀ out₀ x₀ s t out x =
 
 abbrev μ-loop : tie.MeasureT-loop
 μ-loop costs s₀ t₀ out₀ x₀ s t out x = length costs - x
+
+is-lone : (c : tie.Then2 Inv-loop μ-loop) → Lone (c .before .before .before .before .before .before .before .before .before .before .args .costs .now) (c .before .before .before .before .before .loop .x)
+is-lone c = c .before .lone .ensures (c .if2 .taken)
 
 loop-holds : tie.Need-loop-holds Inv-loop μ-loop
 loop-holds c = let o = c .before .before .before .before in (refl, refl, o .pre .1, nothing-done (o .args .costs .now) (o .args .out .now))
@@ -47,24 +50,51 @@ loop-again c =
     let a = c .before .before .before .before .before .before .before .before .args in
     (l .inv .0, l .inv .1, length-set (l .out) (l .x) (l .x) ∙ l .inv .2, own-done (a .costs .now) (l .out) (l .x) (l .inv .2) (c .before .before .loop-test .taken) (c .if1 .taken) (l .inv .3))
 
-off-run-requires : tie.Need-off-run-requires Inv-loop μ-loop
-off-run-requires c κs =
-    let l = c .before .before .before .before .before .before .loop in
-    let o = c .before .before .before .before .before .before .before .before .before .before .before in
-    let room = o .pre .0 in
-    (record { short = room .short; sites = omega (arith, l .inv .0); starts = omega (arith, l .inv .1) }, (l .inv .2, (c .before .before .before .before .before .loop-test .taken, l .inv .3)))
+lone-requires : tie.Need-lone-requires Inv-loop μ-loop
+lone-requires c κs = c .before .before .loop-test .taken
+
+sub-out : tie.Need-sub-out Inv-loop μ-loop
+sub-out c = let n = is-lone c in omega (arith, n .after)
+
+cast-out-2 : tie.Need-cast-out-2 Inv-loop μ-loop
+cast-out-2 c = omega arith
+
+mul-out-2 : tie.Need-mul-out-2 Inv-loop μ-loop
+mul-out-2 c = omega arith
+
+slice-write-out-2 : tie.Need-slice-write-out-2 Inv-loop μ-loop
+slice-write-out-2 c = omega arith
+
+add-x-2 : tie.Need-add-x-2 Inv-loop μ-loop
+add-x-2 c = omega arith
 
 loop-less-2 : tie.Need-loop-less-2 Inv-loop μ-loop
-loop-less-2 c =
-    let l = c .before .before .before .before .before .before .before .before .before .before .before .before .before .loop in
-    let a = c .before .before .before .before .before .before .before .before .before .before .before .before .before .before .before .before .before .before .args in
+loop-less-2 c = omega arith
+
+loop-again-2 : tie.Need-loop-again-2 Inv-loop μ-loop
+loop-again-2 c =
+    let l = c .before .before .before .before .before .loop in
+    let a = c .before .before .before .before .before .before .before .before .before .before .args in
+    (l .inv .0, l .inv .1, length-set (l .out) (l .x) (l .x - 1) ∙ l .inv .2, lone-done (a .costs .now) (l .out) (l .x) (l .inv .2) (c .before .before .if1 .left) (is-lone c) (l .inv .3))
+
+off-run-requires : tie.Need-off-run-requires Inv-loop μ-loop
+off-run-requires c κs =
+    let l = c .before .before .before .before .before .before .before .before .loop in
+    let o = c .before .before .before .before .before .before .before .before .before .before .before .before .before in
+    let room = o .pre .0 in
+    (record { short = room .short; sites = omega (arith, l .inv .0); starts = omega (arith, l .inv .1) }, (l .inv .2, (c .before .before .before .before .before .before .before .loop-test .taken, (c .before .before .before .before .before .if1 .left, l .inv .3))))
+
+loop-less-3 : tie.Need-loop-less-3 Inv-loop μ-loop
+loop-less-3 c =
+    let l = c .before .before .before .before .before .before .before .before .before .before .before .before .before .before .before .loop in
+    let a = c .before .before .before .before .before .before .before .before .before .before .before .before .before .before .before .before .before .before .before .before .args in
     let r = c .before .before .before .before .before .before .off-run in
     let ends : Ends (a .costs .now) (l .x) (r .result) = r .ensures .1 in
     omega (arith, ends .after, ends .within)
 
-loop-again-2 : tie.Need-loop-again-2 Inv-loop μ-loop
-loop-again-2 c =
-    let l = c .before .before .before .before .before .before .before .before .before .before .before .before .before .loop in
+loop-again-3 : tie.Need-loop-again-3 Inv-loop μ-loop
+loop-again-3 c =
+    let l = c .before .before .before .before .before .before .before .before .before .before .before .before .before .before .before .loop in
     let r = c .before .before .before .before .before .before .off-run in
     (r .kept .1 .1 .0 ∙ l .inv .0, r .kept .1 .1 .1 .0 ∙ l .inv .1, r .kept .1 .1 .1 .1 .0 ∙ l .inv .2, r .ensures .0)
 
@@ -98,9 +128,17 @@ line-spec =
     add-x
     loop-less
     loop-again
-    off-run-requires
+    lone-requires
+    sub-out
+    cast-out-2
+    mul-out-2
+    slice-write-out-2
+    add-x-2
     loop-less-2
     loop-again-2
+    off-run-requires
+    loop-less-3
+    loop-again-3
     same-length
     same-length-2
     same-length-3

@@ -62,7 +62,7 @@ returns c =
     let r = c .before .before .before .before .before .before .run in
     let ends : Ends (a .costs .now) (a .x) (e .result) = e .ensures in
     let from : p .result ≡ a .x - 1 = p .ensures in
-    (run-done (a .costs .now) (a .out .now) (r .last .1 .1 .1 .1 .0) (a .x) (p .result) (e .result) (e .result - p .result) (o .pre .1 .0) (o .pre .1 .1 .1) ends from refl (r .ensures), ends)
+    (run-done (a .costs .now) (a .out .now) (r .last .1 .1 .1 .1 .0) (a .x) (p .result) (e .result) (e .result - p .result) (o .pre .1 .0) (o .pre .1 .1 .1 .0) (o .pre .1 .1 .1 .1) ends from refl (r .ensures), ends)
 
 pub off-run-spec : {M : Type 1} → statement M
 off-run-spec =
