@@ -1,0 +1,4 @@
+pub mod Bytes
+pub mod Searching
+pub mod Laying
+pub mod Marks
