@@ -7,31 +7,31 @@ use native.Mathlib.Omega.{arith}
 use lib.ListN.{length, getD, take, drop, length-take, List·getD-append}
 use lib.Seq.{getD-append-add, getD-take, getD-drop}
 
-module _ {A : Type 0} (d : A) (l part : List A) (a k : ℕ) (fits : a + k ≤ length l) (part-long : length part ≡ k) where
-  -- the list with k elements from a on replaced
-  abbrev pub put : List A
-  put = take a l ++ (part ++ drop k (drop a l))
+-- the list with k elements from a on replaced
+abbrev pub put : {A : Type 0} → List A → List A → ℕ → ℕ → List A
+put l part a k = take a l ++ (part ++ drop k (drop a l))
 
+module _ {A : Type 0} (d : A) (l part : List A) (a k : ℕ) (fits : a + k ≤ length l) (part-long : length part ≡ k) where
   front-long : length (take a l) ≡ a
   front-long = simp length-take (omega arith)
 
-  pub put-inside : (i : ℕ) → i < k → getD put (a + i) d ≡ getD part i d
+  pub put-inside : (i : ℕ) → i < k → getD (put l part a k) (a + i) d ≡ getD part i d
   put-inside i g =
-      ap (λ (n : ℕ). getD put (n + i) d) (sym front-long)
+      ap (λ (n : ℕ). getD (put l part a k) (n + i) d) (sym front-long)
       ∙ getD-append-add (take a l) (part ++ drop k (drop a l)) i d
       ∙ List·getD-append part (drop k (drop a l)) d i (omega arith)
 
-  pub put-before : (i : ℕ) → i < a → getD put i d ≡ getD l i d
+  pub put-before : (i : ℕ) → i < a → getD (put l part a k) i d ≡ getD l i d
   put-before i g =
       let e = front-long in
       List·getD-append (take a l) (part ++ drop k (drop a l)) d i (omega arith) ∙ getD-take a l i d g
 
-  pub put-behind : (i : ℕ) → a + k ≤ i → getD put i d ≡ getD l i d
+  pub put-behind : (i : ℕ) → a + k ≤ i → getD (put l part a k) i d ≡ getD l i d
   put-behind i g =
       let m = i - (a + k) in
       let e : i ≡ a + (k + m) = omega arith in
-      ap (λ (n : ℕ). getD put n d) e
-      ∙ ap (λ (n : ℕ). getD put (n + (k + m)) d) (sym front-long)
+      ap (λ (n : ℕ). getD (put l part a k) n d) e
+      ∙ ap (λ (n : ℕ). getD (put l part a k) (n + (k + m)) d) (sym front-long)
       ∙ getD-append-add (take a l) (part ++ drop k (drop a l)) (k + m) d
       ∙ ap (λ (n : ℕ). getD (part ++ drop k (drop a l)) (n + m) d) (sym part-long)
       ∙ getD-append-add part (drop k (drop a l)) m d

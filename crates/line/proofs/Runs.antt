@@ -4,7 +4,7 @@ use mathlib.Core.Path.{_≡_, refl, sym, ap, _∙_, subst}
 use mathlib.Core.List.{List, _++_}
 use mathlib.Core.Option.{Option, none, some}
 use mathlib.Core.Logic.{⊎-elim}
-use Prim.Native.Nat.{ℕ, _+_, _*_, _-_, _≤_, _<_}
+use Prim.Native.Nat.{ℕ, _+_, _-_, _≤_, _<_}
 use native.Mathlib.Nat.{add-zero}
 use native.Mathlib.Omega.{arith}
 use lib.ListN.{length, getD, set, take, drop, length-take, length-drop}
@@ -13,7 +13,7 @@ use Rattle.plane.specs.Plane.{apart}
 use Rattle.plane.proofs.Search.{which}
 use Rattle.plane.proofs.Plane.{table-length, table-at, filled}
 use Rattle.line.specs.Walk.{Answers}
-use Rattle.line.specs.Line.{mostCost, Site, valueAt, offer, best, placeOf}
+use Rattle.line.specs.Line.{Site, valueAt, offer, best, placeOf}
 use Rattle.line.specs.Envelope.{Leads, placeFrom, lineFrom, Ends, Done}
 use Rattle.line.proofs.Squares.{square-lt}
 use Rattle.line.proofs.Walk.{clash, walk-answers}

@@ -1,10 +1,9 @@
 -- Cases of nearest that the prover computes from the definitions.
 -- Assumes nothing.
 use mathlib.Core.Path.{_≡_, refl}
-use mathlib.Core.List.{List, [], _∷_, _++_}
+use mathlib.Core.List.{[], _∷_}
 use mathlib.Core.Option.{none, some}
-use Prim.Native.Nat.{ℕ}
-use lib.IntN.{ℤ, pos, negsuc}
+use lib.IntN.{pos, negsuc}
 use Rattle.plane.specs.Plane.{on, onAt, apart, table, rowsUpto, planeOf}
 use Rattle.line.specs.Walk.{lower}
 use Rattle.line.specs.Grid.{valueOf, walk, upto, grid, plus}

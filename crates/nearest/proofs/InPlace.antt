@@ -1,14 +1,15 @@
 -- A list that is rewritten in place from the front, equal tables, and a row put back into its plane.
 -- Assumes nothing.
 use mathlib.Core.Path.{_≡_, sym, ap, _∙_, subst}
-use mathlib.Core.List.{List, _++_}
+use mathlib.Core.List.{List}
 use mathlib.Core.Logic.{⊎-elim}
-use Prim.Native.Nat.{ℕ, _+_, _*_, _-_, _≤_, _<_}
+use Prim.Native.Nat.{ℕ, _+_, _*_, _≤_, _<_}
 use native.Mathlib.Omega.{arith}
-use lib.ListN.{length, getD, set, take, drop, length-take, List·getD-append}
-use lib.Seq.{getD-set-other, getD-append-add, getD-take, getD-drop}
+use lib.ListN.{length, getD, set}
+use lib.Seq.{getD-set-other}
 use Rattle.plane.specs.Plane.{table}
 use Rattle.plane.proofs.Search.{which}
+use Rattle.line.proofs.Part.{put, put-inside, put-before, put-behind}
 use Rattle.plane.proofs.Plane.{row-in, table-length, table-at, table-is}
 
 -- a store at i leaves what lies behind it as it was
@@ -20,52 +21,32 @@ pub table-same : {A : Type 0} (f g : ℕ → A) (n : ℕ) (d : A) → ((k : ℕ)
 table-same f g n d h = table-is g n (table f 0 n) d (table-length f 0 n) (λ k l. table-at f n k d l ∙ h k l)
 
 module _ {A : Type 0} (d : A) (h w y k : ℕ) (l row : List A) (inside : y < h) (long : length l ≡ h * w) (wide : k ≡ w) (row-long : length row ≡ w) where
-  -- the plane with row y put in its place
-  abbrev pub put : List A
-  put = take (y * w) l ++ (row ++ drop k (drop (y * w) l))
+  fits : y * w + k ≤ length l
+  fits = let r = row-in y h w inside in omega arith
 
-  front-long : length (take (y * w) l) ≡ y * w
-  front-long = let r = row-in y h w inside in simp length-take (omega arith)
-
-  -- the elements of row y are the row's
-  pub put-same : (x : ℕ) → x < w → getD put (y * w + x) d ≡ getD row x d
-  put-same x g =
-      ap (λ (i : ℕ). getD put (i + x) d) (sym front-long)
-      ∙ getD-append-add (take (y * w) l) (row ++ drop k (drop (y * w) l)) x d
-      ∙ List·getD-append row (drop k (drop (y * w) l)) d x (omega arith)
-
-  put-before : (j x : ℕ) → j < y → x < w → getD put (j * w + x) d ≡ getD l (j * w + x) d
-  put-before j x f g =
-      let r = row-in j y w f in
-      let e = front-long in
-      List·getD-append (take (y * w) l) (row ++ drop k (drop (y * w) l)) d (j * w + x) (omega arith) ∙ getD-take (y * w) l (j * w + x) d (omega arith)
-
-  put-behind : (j x : ℕ) → y < j → x < w → getD put (j * w + x) d ≡ getD l (j * w + x) d
-  put-behind j x f g =
-      let r = row-in y j w f in
-      let m = j * w + x - (y * w + w) in
-      let e : j * w + x ≡ y * w + (w + m) = omega arith in
-      ap (λ (i : ℕ). getD put i d) e
-      ∙ ap (λ (i : ℕ). getD put (i + (w + m)) d) (sym front-long)
-      ∙ getD-append-add (take (y * w) l) (row ++ drop k (drop (y * w) l)) (w + m) d
-      ∙ ap (λ (i : ℕ). getD (row ++ drop k (drop (y * w) l)) (i + m) d) (sym row-long)
-      ∙ getD-append-add row (drop k (drop (y * w) l)) m d
-      ∙ getD-drop k (drop (y * w) l) m d
-      ∙ getD-drop (y * w) l (k + m) d
-      ∙ ap (λ (i : ℕ). getD l (y * w + (i + m)) d) wide
-      ∙ ap (λ (i : ℕ). getD l i d) (sym e)
+  -- the plane with row y put in its place: the elements of row y are the row's
+  pub put-same : (x : ℕ) → x < w → getD (put l row (y * w) k) (y * w + x) d ≡ getD row x d
+  put-same x g = put-inside d l row (y * w) k fits (row-long ∙ sym wide) x (omega arith)
 
   -- those of another row are as they were
-  pub put-other : (j x : ℕ) → (j ≡ y → ⊥) → x < w → getD put (j * w + x) d ≡ getD l (j * w + x) d
+  pub put-other : (j x : ℕ) → (j ≡ y → ⊥) → x < w → getD (put l row (y * w) k) (j * w + x) d ≡ getD l (j * w + x) d
   put-other j x n g =
-      ⊎-elim (λ (f : j < y). put-before j x f g) (λ (f : y ≤ j). ⊎-elim (λ (q : y < j). put-behind j x q g) (λ (q : j ≤ y). absurd (n (omega arith))) (which y j)) (which j y)
+      ⊎-elim
+      (λ (f : j < y). (let r = row-in j y w f in put-before d l row (y * w) k fits (row-long ∙ sym wide) (j * w + x) (omega arith)))
+      (λ (f : y ≤ j).
+      ⊎-elim
+      (λ (q : y < j). (let r = row-in y j w q in put-behind d l row (y * w) k fits (row-long ∙ sym wide) (j * w + x) (omega arith)))
+      (λ (q : j ≤ y). absurd (n (omega arith)))
+      (which y j))
+      (which j y)
 
   -- one row more is done
-  pub put-done : (f : ℕ → ℕ → A) → row ≡ table (f y) 0 w → ((j x : ℕ) → j < y → x < w → getD l (j * w + x) d ≡ f j x) → (j x : ℕ) → j < y + 1 → x < w → getD put (j * w + x) d ≡ f j x
+  pub put-done : (f : ℕ → ℕ → A) → row ≡ table (f y) 0 w → ((j x : ℕ) → j < y → x < w → getD l (j * w + x) d ≡ f j x) → (j x : ℕ) → j < y + 1 → x < w
+      → getD (put l row (y * w) k) (j * w + x) d ≡ f j x
   put-done f e p j x g q =
       ⊎-elim
       (λ (z : j < y). put-other j x (λ n. omega arith) q ∙ p j x z q)
       (λ (z : y ≤ j).
       let n : y ≡ j = omega arith in
-      subst (λ (i : ℕ). getD put (i * w + x) d ≡ f i x) n (put-same x q ∙ ap (λ (r : List A). getD r x d) e ∙ table-at (f y) w x d q))
+      subst (λ (i : ℕ). getD (put l row (y * w) k) (i * w + x) d ≡ f i x) n (put-same x q ∙ ap (λ (r : List A). getD r x d) e ∙ table-at (f y) w x d q))
       (which j y)

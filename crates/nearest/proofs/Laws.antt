@@ -1,13 +1,13 @@
 -- Laws of nearest: what its answer is, and that nothing else is; one step from it; distances.
 -- Assumes nothing.
 use mathlib.Core.Path.{_≡_, refl, sym, ap, _∙_, subst}
-use mathlib.Core.Bool.{Bool, true, false, cond}
+use mathlib.Core.Bool.{true, false}
 use mathlib.Core.List.{List}
 use mathlib.Core.Option.{Option, none, some}
 use mathlib.Core.Logic.{_⊎_, inl, inr, ⊎-elim}
 use Prim.Native.Nat.{ℕ, suc, _+_, _*_, _-_, _≤_, _<_}
 use native.Mathlib.Omega.{arith}
-use lib.IntN.{ℤ, pos, negsuc}
+use lib.IntN.{pos}
 use lib.ListN.{getD}
 use borrow.Author.Tests.{lt-ltb, le-ltb}
 use Rattle.plane.specs.Plane.{mostSide, onAt, apart}
@@ -19,7 +19,6 @@ use Rattle.line.proofs.Squares.{square-le, square-lt}
 use Rattle.line.proofs.Walk.{clash, same, walk-answers}
 use Rattle.line.proofs.Grid.{columnBest, columnCost, walk-line, compose}
 use Rattle.nearest.specs.Nearest.{rowCost, nearest, rowOf, columnOf, rowsPlane, columnsPlane, away, distanceTo, distance, distancePlane, towards}
-use Rattle.nearest.proofs.Sweep.{apart-up, apart-down}
 
 -- (j, i) is the nearest on-pixel of (y, x)
 pub record IsNearest (mask : List ℕ) (h w y x i j : ℕ) : Type 0 where

@@ -1,15 +1,14 @@
 -- What the two stages give is the nearest on-pixel.
 -- Assumes nothing.
 use mathlib.Core.Path.{_≡_, refl, sym, ap, _∙_, subst}
-use mathlib.Core.Bool.{Bool, true, false, cond}
 use mathlib.Core.List.{List}
 use mathlib.Core.Option.{Option, none, some}
 use Prim.Native.Nat.{ℕ, _+_, _*_, _-_, _≤_, _<_}
 use native.Mathlib.Omega.{arith}
-use lib.IntN.{ℤ, pos, negsuc}
+use lib.IntN.{ℤ, pos}
 use lib.ListN.{length, getD, take, drop}
 use borrow.Author.Tests.{lt-ltb, le-ltb}
-use Rattle.plane.specs.Plane.{on, onAt, apart, table}
+use Rattle.plane.specs.Plane.{onAt, apart, table}
 use Rattle.plane.proofs.Plane.{table-length, table-at, part-at}
 use Rattle.line.specs.Walk.{firstLeast, Answers}
 use Rattle.line.specs.Line.{mostCost, mostLength, noPlace, offer, best, placeOf, lineOf}
@@ -19,9 +18,9 @@ use Rattle.line.proofs.Walk.{walk-answers}
 use Rattle.line.proofs.Best.{line-length, line-at, offered}
 use Rattle.line.proofs.Grid.{columnBest, columnCost, walk-line, two-stages}
 use Rattle.nearest.specs.Nearest.{rowCost, nearest, rowOf, columnOf}
-use Rattle.nearest.specs.Stages.{noRow, noCost, Low, firstFrom, belowAt, ownOr, codeOf, nearer, nearerLine, rowCode, nearLine, squareCost, costsLine, rowAt, columnAt, rowsLine, columnsLine, rowsOf, columnsOf}
+use Rattle.nearest.specs.Stages.{noRow, Low, belowAt, ownOr, codeOf, nearer, nearerLine, rowCode, nearLine, squareCost, costsLine, rowAt, columnAt, rowsLine, columnsLine, rowsOf, columnsOf}
 use Rattle.nearest.proofs.InPlace.{table-same}
-use Rattle.nearest.proofs.Sweep.{rowNumber, numbered, first-step, first-none, first-low, code-low, sweep-step, sweep-start}
+use Rattle.nearest.proofs.Sweep.{numbered, first-step, first-none, first-low, code-low, sweep-step, sweep-start}
 
 module _ (mask : List ℕ) (h w : ℕ) where
   -- ---- the first sweep
@@ -152,24 +151,22 @@ module _ (mask : List ℕ) (h w : ℕ) where
     some-row x i v g o (some j) e = (refl, refl)
 
     picked : (x : ℕ) (b : Option ℕ) → Answers (offer costs x) (length costs) b
-        → (columnOf (chosen (columnBest (rowCost mask w y) (upto h)) b) ≡ columnAt (nearLine mask h w y) (placeOf b))
+        → (columnOf (chosen (columnBest (rowCost mask w y) (upto h)) b) ≡ columnAt w (placeOf b))
         × (rowOf (chosen (columnBest (rowCost mask w y) (upto h)) b) ≡ rowAt (nearLine mask h w y) (placeOf b))
     unfolding chosen columnAt rowAt placeOf columnOf rowOf
     picked x none a =
         let long = near-length y in
-        let t = le-ltb noPlace (length (nearLine mask h w y)) (omega arith) in
-        (rw t, rw t)
+        (rw (le-ltb noPlace w (omega arith)), rw (le-ltb noPlace (length (nearLine mask h w y)) (omega arith)))
     picked x (some i) a =
         let inner = a .1 .inside in
         let long = costs-length in
         let near-long = near-length y in
         let g : i < w = omega arith in
         let z = some-row x i (a .0) g (a .1 .here) (columnBest (rowCost mask w y) (upto h) i) refl in
-        let t = lt-ltb i (length (nearLine mask h w y)) (omega arith) in
         let e : rowCode (columnBest (rowCost mask w y) (upto h) i) ≡ getD (nearLine mask h w y) i 0 = ap rowCode (walk-line (rowCost mask w y i) h) ∙ sym (near-at y i g) in
-        (z .0 ∙ rw t, z .1 ∙ rw (e, t))
+        (z .0 ∙ rw (lt-ltb i w g), z .1 ∙ rw (e, lt-ltb i (length (nearLine mask h w y)) (omega arith)))
 
-    answer : (x : ℕ) → (columnOf (nearest mask h w y x) ≡ columnAt (nearLine mask h w y) (placeOf (best costs x))) × (rowOf (nearest mask h w y x) ≡ rowAt (nearLine mask h w y) (placeOf (best costs x)))
+    answer : (x : ℕ) → (columnOf (nearest mask h w y x) ≡ columnAt w (placeOf (best costs x))) × (rowOf (nearest mask h w y x) ≡ rowAt (nearLine mask h w y) (placeOf (best costs x)))
     unfolding best
     answer x =
         let p = picked x (best costs x) (walk-answers (offer costs x) (length costs)) in
@@ -180,9 +177,10 @@ module _ (mask : List ℕ) (h w : ℕ) where
     unfolding columnsOf columnsLine
     columns-row =
         let long = costs-length in
-        ap (table (λ (x : ℕ). columnAt (nearLine mask h w y) (getD (lineOf costs) x 0)) 0) (near-length y)
-        ∙ table-same (λ (x : ℕ). columnAt (nearLine mask h w y) (getD (lineOf costs) x 0)) (λ (x : ℕ). columnOf (nearest mask h w y x)) w (pos 0)
-        (λ x g. ap (columnAt (nearLine mask h w y)) (line-at costs x (omega arith)) ∙ sym (answer x .0))
+        let wide-is : length (lineOf costs) ≡ w = line-length costs ∙ long in
+        ap (λ (n : ℕ). table (λ (x : ℕ). columnAt n (getD (lineOf costs) x 0)) 0 n) wide-is
+        ∙ table-same (λ (x : ℕ). columnAt w (getD (lineOf costs) x 0)) (λ (x : ℕ). columnOf (nearest mask h w y x)) w (pos 0)
+        (λ x g. ap (columnAt w) (line-at costs x (omega arith)) ∙ sym (answer x .0))
 
     pub rows-row : rowsOf y (nearLine mask h w y) ≡ table (λ (x : ℕ). rowOf (nearest mask h w y x)) 0 w
     unfolding rowsOf rowsLine

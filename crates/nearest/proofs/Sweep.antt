@@ -5,12 +5,11 @@ use mathlib.Core.Bool.{Bool, true, false, cond}
 use mathlib.Core.Option.{Option, none, some}
 use mathlib.Core.Logic.{_⊎_, inl, inr, ⊎-elim}
 use Prim.Native.Nat.{ℕ, zero, suc, _+_, _*_, _-_, _≤_, _<_}
-use native.Mathlib.Nat.{add-suc}
 use native.Mathlib.Omega.{arith}
 use borrow.Author.Tests.{lt-ltb, le-ltb}
 use Rattle.plane.specs.Plane.{apart}
 use Rattle.plane.proofs.Search.{which, either, not-both}
-use Rattle.line.specs.Walk.{firstLeast, First, Answers}
+use Rattle.line.specs.Walk.{firstLeast, Answers}
 use Rattle.line.specs.Line.{mostLength}
 use Rattle.line.proofs.Squares.{square-le, square-lt, root-le, root-lt}
 use Rattle.line.proofs.Walk.{clash, same, walk-answers, walk-is}

@@ -98,18 +98,18 @@ costsLine y near = table (λ (x : ℕ). squareCost y (getD near x 0)) 0 (length 
 unfoldable pub rowAt : List ℕ → ℕ → ℤ
 rowAt near i = cond (ltb i (length near)) (pos (getD near i 0)) (negsuc 0)
 
-unfoldable pub columnAt : List ℕ → ℕ → ℤ
-columnAt near i = cond (ltb i (length near)) (pos i) (pos 0)
+unfoldable pub columnAt : ℕ → ℕ → ℤ
+columnAt n i = cond (ltb i n) (pos i) (pos 0)
 
 unfoldable pub rowsLine : List ℕ → List ℕ → List ℤ
 rowsLine near places = table (λ (x : ℕ). rowAt near (getD places x 0)) 0 (length near)
 
-unfoldable pub columnsLine : List ℕ → List ℕ → List ℤ
-columnsLine near places = table (λ (x : ℕ). columnAt near (getD places x 0)) 0 (length near)
+unfoldable pub columnsLine : List ℕ → List ℤ
+columnsLine places = table (λ (x : ℕ). columnAt (length places) (getD places x 0)) 0 (length places)
 
 -- the row of each plane, from the line of the nearest on-rows
 unfoldable pub rowsOf : ℕ → List ℕ → List ℤ
 rowsOf y near = rowsLine near (lineOf (costsLine y near))
 
 unfoldable pub columnsOf : ℕ → List ℕ → List ℤ
-columnsOf y near = columnsLine near (lineOf (costsLine y near))
+columnsOf y near = columnsLine (lineOf (costsLine y near))

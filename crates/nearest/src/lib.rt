@@ -30,20 +30,27 @@ fn own_row(b: u8, y: u32, below: u32) -> u32
     if b == 0 { below } else { y }
 }
 
-// For each column the first on-row at or below row y, in the line and in row y of the plane; near has it for the row below.
-fn below_line(mask: &[u8], y: u32, near: &mut [u32], rows: &mut [i32])
+// For each column the first on-row at or below row y; near has it for the row below.
+fn below_line(mask: &[u8], y: u32, near: &mut [u32])
     requires { ⌜ length (now mask) ≡ length (now near) ⌝ }
-    requires { ⌜ length (now rows) ≡ length (now near) ⌝ }
-    requires { ⌜ y ≤ noRow ⌝ }
-    requires { ⌜ Low (now near) ⌝ }
     ensures { λ _. ⌜ now (near .exit) ≡ table (ownOr (now (mask .entry)) y (now (near .entry))) 0 (length (now (near .entry))) ⌝ }
-    ensures { λ _. ⌜ now (rows .exit) ≡ table (λ (x : ℕ). pos (ownOr (now (mask .entry)) y (now (near .entry)) x)) 0 (length (now (near .entry))) ⌝ }
 {
     let mut x = 0usize;
     while x < near.len() {
-        let v = own_row(mask[x], y, near[x]);
-        near[x] = v;
-        rows[x] = v as i32;
+        near[x] = own_row(mask[x], y, near[x]);
+        x += 1;
+    }
+}
+
+// The line as a row of the plane.
+fn store_line(near: &[u32], rows: &mut [i32])
+    requires { ⌜ length (now rows) ≡ length (now near) ⌝ }
+    requires { ⌜ Low (now near) ⌝ }
+    ensures { λ _. ⌜ now (rows .exit) ≡ table (λ (x : ℕ). pos (getD (now (near .entry)) x 0)) 0 (length (now (near .entry))) ⌝ }
+{
+    let mut x = 0usize;
+    while x < near.len() {
+        rows[x] = near[x] as i32;
         x += 1;
     }
 }
@@ -62,7 +69,8 @@ fn below(mask: &[u8], h: usize, w: usize, near: &mut [u32], rows: &mut [i32])
         let row = y - 1;
         let a = row * w;
         let e = a + w;
-        below_line(&mask[a..e], row as u32, near, &mut rows[a..e]);
+        below_line(&mask[a..e], row as u32, near);
+        store_line(near, &mut rows[a..e]);
         y = row;
     }
 }
@@ -132,29 +140,38 @@ fn row_at(near: &[u32], i: usize) -> i32
     if i < near.len() { near[i] as i32 } else { -1 }
 }
 
-// Column i; 0 where there is no such column.
-fn column_at(near: &[u32], i: usize) -> i32
-    requires { ⌜ length (now near) ≤ mostLength ⌝ }
-    ensures { λ r. ⌜ r ≡ columnAt (now (near .entry)) i ⌝ }
+// Column i of n; 0 where there is no such column.
+fn column_at(n: u32, i: u32) -> i32
+    requires { ⌜ n ≤ mostLength ⌝ }
+    ensures { λ r. ⌜ r ≡ columnAt n i ⌝ }
 {
-    if i < near.len() { i as i32 } else { 0 }
+    if i < n { i as i32 } else { 0 }
 }
 
-// Row and column of the chosen column of each place.
-fn write_line(near: &[u32], places: &[u32], rows: &mut [i32], cols: &mut [i32])
-    requires { ⌜ length (now near) ≤ mostLength ⌝ }
+// The row of the chosen column of each place.
+fn rows_line(near: &[u32], places: &[u32], rows: &mut [i32])
     requires { ⌜ length (now places) ≡ length (now near) ⌝ }
     requires { ⌜ length (now rows) ≡ length (now near) ⌝ }
-    requires { ⌜ length (now cols) ≡ length (now near) ⌝ }
     requires { ⌜ Low (now near) ⌝ }
     ensures { λ _. ⌜ now (rows .exit) ≡ rowsLine (now (near .entry)) (now (places .entry)) ⌝ }
-    ensures { λ _. ⌜ now (cols .exit) ≡ columnsLine (now (near .entry)) (now (places .entry)) ⌝ }
 {
     let mut x = 0usize;
     while x < near.len() {
-        let i = wide(places[x]);
-        rows[x] = row_at(near, i);
-        cols[x] = column_at(near, i);
+        rows[x] = row_at(near, wide(places[x]));
+        x += 1;
+    }
+}
+
+// The chosen column of each place.
+fn columns_line(places: &[u32], cols: &mut [i32])
+    requires { ⌜ length (now places) ≤ mostLength ⌝ }
+    requires { ⌜ length (now cols) ≡ length (now places) ⌝ }
+    ensures { λ _. ⌜ now (cols .exit) ≡ columnsLine (now (places .entry)) ⌝ }
+{
+    let n = places.len() as u32;
+    let mut x = 0usize;
+    while x < places.len() {
+        cols[x] = column_at(n, places[x]);
         x += 1;
     }
 }
@@ -181,7 +198,8 @@ fn row_pass(
     nearer_line(y, rows, near);
     costs_line(y, near, costs);
     line::line(costs, s, t, places);
-    write_line(near, places, rows, cols);
+    rows_line(near, places, rows);
+    columns_line(places, cols);
 }
 
 // The planes, in lines of w numbers to work in; near holds no row at first.

@@ -11,7 +11,7 @@ use native.Mathlib.Omega.{arith}
 use Rattle.plane.proofs.Search.{which}
 use Rattle.plane.proofs.Plane.{table-is}
 use Rattle.line.specs.Line.{best}
-use Rattle.line.specs.Envelope.{Stack, Leads, placeFrom, lineFrom}
+use Rattle.line.specs.Envelope.{Leads, placeFrom, lineFrom}
 use Rattle.line.proofs.Best.{leader}
 use Rattle.line.proofs.Push.{at-start}
 use Rattle.line.proofs.Part.{put-inside, put-behind}

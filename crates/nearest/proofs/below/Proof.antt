@@ -1,6 +1,6 @@
 -- `nearest::below` meets its contract.
 -- Assumes nothing.
-use mathlib.Core.Path.{_≡_, refl, sym, ap, _∙_, subst}
+use mathlib.Core.Path.{_≡_, sym, ap, _∙_, subst}
 use mathlib.Core.List.{List, _++_}
 use mathlib.Core.Logic.{⊎-elim}
 use Prim.Native.Nat.{ℕ, _+_, _*_, _-_, _≤_, _<_}
@@ -28,9 +28,23 @@ abbrev μ-loop : tie.MeasureT-loop
 μ-loop mask h w near₀ rows₀ y₀ near rows y = y
 
 -- the row below y ends within the planes
-row-fits : (c : tie.In-loop Inv-loop μ-loop)
-    → (c .before .loop .y - 1) * c .before .before .before .before .args .w + c .before .before .before .before .args .w ≤ c .before .before .before .before .args .h * c .before .before .before .before .args .w
+row-fits : (c : tie.In-loop Inv-loop μ-loop) → (c .before .loop .y - 1) * c .before .before .before .before .args .w + c .before .before .before .before .args .w ≤ c .before .before .before .before .args .h * c .before .before .before .before .args .w
 row-fits c = let t = c .loop-test .taken in row-in (c .before .loop .y - 1) (c .before .before .before .before .args .h) (c .before .before .before .before .args .w) (omega (arith, c .before .loop .inv .0))
+
+-- the line goes on to that row
+next-is : (c : tie.After-below-line Inv-loop μ-loop) → c .below-line .last .1 .1 .0 ≡ table (belowAt (c .before .before .before .before .before .before .before .args .mask .now) (c .before .before .before .before .before .before .before .args .h) (c .before .before .before .before .before .before .before .args .w) (c .before .before .before .before .loop .y - 1)) 0 (c .before .before .before .before .before .before .before .args .w)
+next-is c =
+    let l = c .before .before .before .before .loop in
+    let a = c .before .before .before .before .before .before .before .args in
+    let m = a .mask .now in
+    let y = l .y - 1 in
+    let t = c .before .before .before .loop-test .taken in
+    let up : y + 1 ≡ l .y = omega arith in
+    let k = y * a .w + a .w - y * a .w in
+    let in-plane : y < a .h = omega (arith, l .inv .0) in
+    let long : length (l .near) ≡ a .w = ap length (l .inv .1) ∙ table-length (belowAt m (a .h) (a .w) (l .y)) 0 (a .w) in
+    c .below-line .ensures
+    ∙ rw long (table-same (ownOr (take k (drop (y * a .w) m)) y (l .near)) (belowAt m (a .h) (a .w) y) (a .w) 0 (λ x g. own-below m (a .h) (a .w) y x k (l .near) in-plane g (omega arith) (rw up (l .inv .1))))
 
 loop-holds : tie.Need-loop-holds Inv-loop μ-loop
 loop-holds c =
@@ -59,54 +73,60 @@ part-below-line-end c = let r = row-fits c in omega arith
 cast-below-line : tie.Need-cast-below-line Inv-loop μ-loop
 cast-below-line c = omega arith
 
-mul-below-line : tie.Need-mul-below-line Inv-loop μ-loop
-mul-below-line c = let r = row-fits (c .before .before) in omega arith
-
-sub-below-line-2 : tie.Need-sub-below-line-2 Inv-loop μ-loop
-sub-below-line-2 c = omega arith
-
-part-below-line-start-2 : tie.Need-part-below-line-start-2 Inv-loop μ-loop
-part-below-line-start-2 c = omega arith
-
-part-below-line-end-2 : tie.Need-part-below-line-end-2 Inv-loop μ-loop
-part-below-line-end-2 c = let r = row-fits (c .before .before) in omega arith
-
 below-line-requires : tie.Need-below-line-requires Inv-loop μ-loop
 below-line-requires c κs =
-    let l = c .before .before .before .before .loop in
-    let o = c .before .before .before .before .before .before .before in
-    let a = o .args in
-    let r = row-in (l .y - 1) (a .h) (a .w) (omega arith) in
+    let r = row-fits (c .before .before) in
+    let l = c .before .before .before .loop in
+    let a = c .before .before .before .before .before .before .args in
     let e : length (l .near) ≡ a .w = ap length (l .inv .1) ∙ table-length (belowAt (a .mask .now) (a .h) (a .w) (l .y)) 0 (a .w) in
-    let s = o .pre .0 in
-    (simp (length-take, length-drop) (omega arith), (simp (length-take, length-drop) (omega arith), (omega arith, rw (l .inv .1) (below-low (a .mask .now) (a .h) (a .w) (l .y) (l .inv .0) (omega arith)))))
+    simp (length-take, length-drop) (omega arith)
+
+mul-store-line : tie.Need-mul-store-line Inv-loop μ-loop
+mul-store-line c = let r = row-fits (c .before .before .before .before .before .before) in omega arith
+
+sub-store-line : tie.Need-sub-store-line Inv-loop μ-loop
+sub-store-line c = omega arith
+
+part-store-line-start : tie.Need-part-store-line-start Inv-loop μ-loop
+part-store-line-start c = omega arith
+
+part-store-line-end : tie.Need-part-store-line-end Inv-loop μ-loop
+part-store-line-end c = let r = row-fits (c .before .before .before .before .before .before) in omega arith
+
+store-line-requires : tie.Need-store-line-requires Inv-loop μ-loop
+store-line-requires c κs =
+    let r = row-fits (c .before .before .before .before .before .before .before) in
+    let a = c .before .before .before .before .before .before .before .before .before .before .before .args in
+    let l = c .before .before .before .before .before .before .before .before .loop in
+    let s = c .before .before .before .before .before .before .before .before .before .before .before .pre .0 in
+    let e = next-is (c .before .before .before .before) in
+    let long : length (c .before .before .before .before .below-line .last .1 .1 .0) ≡ a .w = ap length e ∙ table-length (belowAt (a .mask .now) (a .h) (a .w) (l .y - 1)) 0 (a .w) in
+    (simp (length-take, length-drop) (omega arith), rw e (below-low (a .mask .now) (a .h) (a .w) (l .y - 1) (omega (arith, l .inv .0)) (omega arith)))
 
 loop-less : tie.Need-loop-less Inv-loop μ-loop
 loop-less c = omega arith
 
 loop-again : tie.Need-loop-again Inv-loop μ-loop
 loop-again c =
-    let l = c .before .before .before .before .before .before .before .before .loop in
-    let o = c .before .before .before .before .before .before .before .before .before .before .before in
-    let a = o .args in
+    let l = c .before .before .before .before .before .before .before .before .before .before .loop in
+    let a = c .before .before .before .before .before .before .before .before .before .before .before .before .before .args in
     let m = a .mask .now in
     let y = l .y - 1 in
-    let t = c .before .before .before .before .before .before .before .loop-test .taken in
-    let up : y + 1 ≡ l .y = omega arith in
+    let t = c .before .before .before .before .before .before .before .before .before .loop-test .taken in
     let k = y * a .w + a .w - y * a .w in
     let w-is : k ≡ a .w = omega arith in
     let in-plane : y < a .h = omega (arith, l .inv .0) in
-    let long : length (l .near) ≡ a .w = ap length (l .inv .1) ∙ table-length (belowAt m (a .h) (a .w) (l .y)) 0 (a .w) in
-    let call = c .before .before .before .below-line in
-    let own : (x : ℕ) → x < a .w → ownOr (take k (drop (y * a .w) m)) y (l .near) x ≡ belowAt m (a .h) (a .w) y x = λ x g. own-below m (a .h) (a .w) y x k (l .near) in-plane g w-is (rw up (l .inv .1)) in
-    let near-is : call .last .1 .1 .0 ≡ table (belowAt m (a .h) (a .w) y) 0 (a .w) = call .ensures .0 ∙ rw long (table-same (ownOr (take k (drop (y * a .w) m)) y (l .near)) (belowAt m (a .h) (a .w) y) (a .w) 0 own) in
-    let row = call .last .1 .1 .1 .0 in
-    let row-is : row ≡ table (λ (x : ℕ). pos (ownOr (take k (drop (y * a .w) m)) y (l .near) x)) 0 (a .w) = call .ensures .1 ∙ rw long in
-    let row-long : length row ≡ a .w = ap length row-is ∙ table-length (λ (x : ℕ). pos (ownOr (take k (drop (y * a .w) m)) y (l .near) x)) 0 (a .w) in
-    let row-at : (x : ℕ) → x < a .w → getD row x (pos 0) ≡ pos (belowAt m (a .h) (a .w) y x) = λ x g. ap (λ (r : List ℤ). getD r x (pos 0)) row-is ∙ table-at (λ (x : ℕ). pos (ownOr (take k (drop (y * a .w) m)) y (l .near) x)) (a .w) x (pos 0) g ∙ ap pos (own x g) in (
+    let near = c .before .before .before .before .before .before .below-line .last .1 .1 .0 in
+    let near-is = next-is (c .before .before .before .before .before .before) in
+    let long : length near ≡ a .w = ap length near-is ∙ table-length (belowAt m (a .h) (a .w) y) 0 (a .w) in
+    let call = c .before .store-line in
+    let row = call .last .1 .0 in
+    let row-is : row ≡ table (λ (x : ℕ). pos (getD near x 0)) 0 (a .w) = call .ensures ∙ rw long in
+    let row-long : length row ≡ a .w = ap length row-is ∙ table-length (λ (x : ℕ). pos (getD near x 0)) 0 (a .w) in
+    let row-at : (x : ℕ) → x < a .w → getD row x (pos 0) ≡ pos (belowAt m (a .h) (a .w) y x) = λ x g. ap (λ (r : List ℤ). getD r x (pos 0)) row-is ∙ table-at (λ (x : ℕ). pos (getD near x 0)) (a .w) x (pos 0) g ∙ ap pos (ap (λ (n : List ℕ). getD n x 0) near-is ∙ table-at (belowAt m (a .h) (a .w) y) (a .w) x 0 g) in (
       omega (arith, l .inv .0),
       near-is,
-      same-len-mid (y * a .w) k (l .rows) row (call .kept .1 .1 .1 .0) ∙ l .inv .2,
+      same-len-mid (y * a .w) k (l .rows) row (call .kept .1 .0) ∙ l .inv .2,
       (λ j x f g q.
           ⊎-elim
           (λ (z : y < j). put-other (pos 0) (a .h) (a .w) y k (l .rows) row in-plane (l .inv .2) w-is row-long j x (λ e. omega arith) q ∙ l .inv .3 j x (omega arith) g q)
@@ -148,11 +168,12 @@ below-spec =
     part-below-line-start
     part-below-line-end
     cast-below-line
-    mul-below-line
-    sub-below-line-2
-    part-below-line-start-2
-    part-below-line-end-2
     below-line-requires
+    mul-store-line
+    sub-store-line
+    part-store-line-start
+    part-store-line-end
+    store-line-requires
     loop-less
     loop-again
     same-length

@@ -1,12 +1,12 @@
 -- `nearest::code` meets its contract: the test is of what the machine reads back from the number's bits, which is the number itself.
 -- Assumes nothing.
 use mathlib.Core.Path.{_≡_, refl, sym, subst}
-use mathlib.Core.Bool.{Bool, true, false}
-use Prim.Native.Nat.{ℕ, _<_}
+use mathlib.Core.Bool.{true, false}
+use Prim.Native.Nat.{_<_}
 use native.Mathlib.Nat.{not-suc-le-zero}
 use native.Mathlib.Omega.{arith}
 use lib.IntN.{ℤ, pos, negsuc, natAbs}
-use lib.Signed.{ltZ, mag, nonNeg}
+use lib.Signed.{ltZ, nonNeg}
 use lib.Dec.{T, ltb→lt}
 use mir.Syntax.{w32}
 use mir.Val.{Fits, SFits, toZ, ofZ}

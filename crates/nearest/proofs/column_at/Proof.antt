@@ -1,7 +1,6 @@
 -- `nearest::column_at` meets its contract.
 -- Assumes nothing.
 use native.Mathlib.Omega.{arith}
-use lib.ListN.{length}
 use borrow.Author.Tests.{lt-ltb, le-ltb}
 use mir.Syntax.{w32}
 use mir.Facts.{toZ-pos}
@@ -15,7 +14,7 @@ cast-result c = search needs
 
 returns : tie.Need-returns
 unfolding columnAt
-returns c = let a = c .before .args in let l = c .if1 .taken in rw (toZ-pos w32 {n = a .i} (omega arith), lt-ltb (a .i) (length (a .near .now)) l)
+returns c = let a = c .before .args in let l = c .if1 .taken in rw (toZ-pos w32 {n = a .i} (omega arith), lt-ltb (a .i) (a .n) l)
 
 returns-2 : tie.Need-returns-2
 unfolding columnAt

@@ -1,6 +1,6 @@
 -- `nearest::nearer_line` meets its contract.
 -- Assumes nothing.
-use mathlib.Core.Path.{_≡_, refl, sym, ap, _∙_}
+use mathlib.Core.Path.{_≡_, refl, ap, _∙_}
 use Prim.Native.Nat.{ℕ, _-_, _≤_, _<_}
 use lib.IntN.{pos}
 use lib.ListN.{length, getD, length-set}

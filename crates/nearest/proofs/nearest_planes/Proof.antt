@@ -1,9 +1,9 @@
 -- `nearest::nearest_planes` meets its contract.
 -- Assumes nothing.
-use mathlib.Core.Path.{_≡_, ap, _∙_}
+use mathlib.Core.Path.{_≡_, _∙_}
 use Prim.Native.Nat.{ℕ, _-_, _≤_}
 use native.Mathlib.Omega.{arith}
-use lib.ListN.{length, getD, take, replicate, length-take, length-replicate, getD-replicate}
+use lib.ListN.{length, take, replicate, length-take, length-replicate, getD-replicate}
 use lib.Seq.{getD-take}
 use Rattle.plane.specs.Plane.{mostSide, table}
 use Rattle.plane.proofs.Plane.{table-is}
