@@ -15,6 +15,7 @@ use lib.Ieee.Fits.{up-pos, down-pos, and-l, and-r}
 use Rattle.colour.proofs.Compare.{lt-or-eq}
 use Rattle.colour.proofs.Zero.{plus0, Alike, lt-left, lt-right, eq-left, eq-right, eq-alike}
 
+-- x in units of the format's smallest value
 abbrev pub unitsOf : Format → Float → ℕ
 unitsOf f nan = 0
 unitsOf f (inf s) = 0
@@ -45,6 +46,7 @@ down-divides (negsuc k) l h = divides (suc k) l h
 two-factors : (a b : ℕ) → 0 < a → a * b ≡ 1 → b ≤ 1
 two-factors a b p e = le-trans (le-of-eq (sym (one-mul b))) (le-trans (mul-le-mul-right b p) (le-of-eq e))
 
+-- a value of the format is a whole number of its smallest values
 pub down-le : (f : Format) (s : Bool) (m : ℕ) (e : ℤ) → T (fits f (fin s m e)) → down e ≤ 2 ^ low f
 unfolding fits
 down-le f s zero e t = le-trans (two-factors (up e) (down e) (up-pos e) (eqb→eq (up e * down e) 1 t)) (pow-mono {i = 0} {j = low f} (omega arith))

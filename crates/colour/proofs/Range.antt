@@ -84,6 +84,11 @@ pub channels : (p : Rgb) → rgbOk p ≡ true → (T (colourOk (p .r))) × (T (c
 unfolding rgbOk
 channels p e = three (colourOk (p .r)) (colourOk (p .g)) (colourOk (p .b)) e
 
+-- a colour whose channels are in range
+pub rgb-from : (p : Rgb) → colourOk (p .r) ≡ true → colourOk (p .g) ≡ true → colourOk (p .b) ≡ true → rgbOk p ≡ true
+unfolding rgbOk
+rgb-from p r g b = rw (r, g, b)
+
 channel : (x y : Float) → T (colourOk x) → T (colourOk y) → T (not (isNan (absOf (sub binary64 x y))))
 channel x y t u = abs-number (sub binary64 x y) (sub-number binary64 x y (ok-finite x t) (ok-finite y u))
 

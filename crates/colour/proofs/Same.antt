@@ -1,16 +1,18 @@
 -- Colours that are equal as numbers: whichever of them is used, closeness and the join test answer the same.
 -- Assumes nothing.
-use mathlib.Core.Path.{_≡_, refl, sym}
+use mathlib.Core.Path.{_≡_, refl, sym, ap, _∙_}
 use mathlib.Core.Bool.{Bool, true, false, _&&_, cond}
+use Prim.Native.Nat.{zero, suc}
 use lib.Dec.{T}
-use lib.Ieee.{Float, binary64, neg, lt, eq, fits}
+use lib.Ieee.{Float, nan, inf, fin, binary64, neg, lt, eq, fits}
 use lib.Ieee.Fits.{and-l, and-r}
+use lib.Ieee.Scale.{finite}
 use Rattle.colour.specs.declared.Rgb.{Rgb}
-use Rattle.colour.specs.Number.{zero64, two64, absOf, larger, halfOf}
-use Rattle.colour.specs.Colour.{differenceOf, closeTo, sameColour}
+use Rattle.colour.specs.Number.{zero64, one64, two64, absOf, larger, halfOf}
+use Rattle.colour.specs.Colour.{differenceOf, closeTo, colourOk, sameColour}
 use Rattle.colour.specs.Join.{millionth, joinsOf}
 use Rattle.colour.proofs.Range.{is}
-use Rattle.colour.proofs.Zero.{Alike, neg-of-alike, sub-alike, add-alike, mul-alike, div-alike, lt-alike, le-alike, eq-alike}
+use Rattle.colour.proofs.Zero.{plus0, Alike, neg-of-alike, sub-alike, add-alike, mul-alike, div-alike, lt-alike, le-alike, eq-alike}
 
 pub abs-alike : (x y : Float) → Alike x y → Alike (absOf x) (absOf y)
 unfolding absOf
@@ -31,6 +33,21 @@ larger-alike x x' y y' p q = rw (lt-alike x x' y y' p q) (go (lt x' y'))
 pub half-alike : (x x' y y' : Float) → Alike x x' → Alike y y' → Alike (halfOf x y) (halfOf x' y')
 unfolding halfOf
 half-alike x x' y y' p q = div-alike binary64 _ _ false 0 _ (add-alike binary64 x x' y y' p q)
+
+-- the tests on one number: whether a colour is in range, and whether a tolerance is finite
+pub ok-alike : (x y : Float) → Alike x y → colourOk x ≡ colourOk y
+unfolding colourOk
+ok-alike x y p = rw (le-alike zero64 zero64 x y refl p, le-alike x y one64 one64 p refl)
+
+plus0-finite : (x : Float) → finite x ≡ finite (plus0 x)
+unfolding plus0
+plus0-finite nan = refl
+plus0-finite (inf s) = refl
+plus0-finite (fin s zero e) = refl
+plus0-finite (fin s (suc m) e) = refl
+
+pub finite-alike : (x y : Float) → Alike x y → finite x ≡ finite y
+finite-alike x y p = plus0-finite x ∙ ap finite p ∙ sym (plus0-finite y)
 
 -- the three channels are equal numbers
 pub record SameColour (p q : Rgb) : Type 0 where

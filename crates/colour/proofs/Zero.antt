@@ -1,5 +1,5 @@
 -- The sign of a zero. `plus0 x` is x with a zero's sign cleared. Comparisons do not see the difference, and each operation here gives the same number.
--- So where two colours are equal as numbers, each comparison of their differences has the same answer.
+-- `Alike x y`: x and y are the same number, up to the sign of a zero.
 -- Assumes nothing.
 use mathlib.Core.Path.{_≡_, refl, sym, ap, _∙_, subst}
 use mathlib.Core.Bool.{Bool, true, false, not, _&&_, _||_, Bool·beq, cond}
@@ -16,6 +16,7 @@ use lib.Ieee.Nearest.{div-same}
 use lib.Ieee.Scale.{round-same, finite}
 use Rattle.colour.specs.Number.{zero64, plusZero}
 
+-- x with a zero's sign cleared
 unfoldable pub plus0 : Float → Float
 plus0 nan = nan
 plus0 (inf s) = inf s

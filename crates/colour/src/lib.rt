@@ -1,6 +1,5 @@
 // One colour or two: difference, closeness, the join test, the range of a colour, the settings' record.
 ghost use mathlib.Core.Path.{_≡_};
-ghost use lib.IntN.{ℤ};
 ghost use lib.Ieee.Scale.{finite};
 ghost use Rattle.colour.specs.Number.{absOf, larger, plusZero, halfOf};
 ghost use Rattle.colour.specs.Colour.{differenceOf, closeTo, colourOk, coloursOk, InRange};

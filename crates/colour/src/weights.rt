@@ -261,6 +261,7 @@ const WEIGHTS: [f64; 256] = [
     1.0,
 ];
 
+// The weight of byte v: v / 255, rounded once.
 pub fn weight(v: u8) -> f64
     ensures { λ r. ⌜ r ≡ weightOf v ⌝ }
 {

@@ -84,9 +84,9 @@ pub fn label4(mask: &[u8], h: usize, w: usize, stack: &mut [u32], labels: &mut [
     ensures { λ r. ⌜ now (labels .exit) ≡ after (planeNumber h w (length (now (mask .entry))) (length (now (labels .entry))) (length (now (stack .entry)))) (labelsPlane (now (mask .entry)) h w) (now (labels .entry)) ⌝ }
     ensures { λ r. ⌜ ((planeNumber h w (length (now (mask .entry))) (length (now (labels .entry))) (length (now (stack .entry))) ≡ 0 → ⊥) → now (stack .exit) ≡ now (stack .entry)) ⌝ }
 {
-    let number = number::plane_number(h, w, mask.len(), labels.len(), stack.len());
-    if number != 0 {
-        return Labelled::Refused(number);
+    let refusal = number::plane_number(h, w, mask.len(), labels.len(), stack.len());
+    if refusal != 0 {
+        return Labelled::Refused(refusal);
     }
     let n = labels::label(mask, h, w, stack, labels);
     Labelled::Parts(n)

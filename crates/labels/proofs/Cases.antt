@@ -5,7 +5,7 @@ use mathlib.Core.List.{List, [], _∷_}
 use Prim.Native.Nat.{ℕ}
 use Rattle.plane.specs.Plane.{on, apart, table, rowsUpto, planeOf}
 use Rattle.plane.specs.Search.{countBelow}
-use Rattle.labels.specs.Labels.{isOn, beside, lesser, merge, joinTwo, joinWith, joinUpto, firstPixel, isFirst, parts, labelOf, labelAt, labelsPlane}
+use Rattle.labels.specs.Labels.{isOn, beside, lesser, renamed, merge, joinTwo, joinWith, joinUpto, firstPixel, isFirst, parts, labelOf, labelAt, labelsPlane}
 
 -- a mask's labels and their number
 abbrev pub answer : List ℕ → ℕ → ℕ → List ℕ × ℕ
@@ -25,5 +25,5 @@ pub cases : answer (1 ∷ 0 ∷ 0 ∷ 1 ∷ []) 2 2
     ∷ (0 ∷ 1 ∷ 0 ∷ 2 ∷ 0 ∷ 3 ∷ 0 ∷ 4 ∷ 0 ∷ 5 ∷ 0 ∷ 4 ∷ 4 ∷ 4 ∷ 0 ∷ 6 ∷ 0 ∷ 4 ∷ 0 ∷ 7 ∷ 0 ∷ 8 ∷ 0 ∷ 9 ∷ 0 ∷ [], 9)
     ∷ (0 ∷ 0 ∷ 0 ∷ 0 ∷ [], 0)
     ∷ []
-unfolding on apart table rowsUpto planeOf countBelow isOn beside lesser merge joinTwo joinWith joinUpto firstPixel isFirst parts labelOf labelAt labelsPlane
+unfolding on apart table rowsUpto planeOf countBelow isOn beside lesser renamed merge joinTwo joinWith joinUpto firstPixel isFirst parts labelOf labelAt labelsPlane
 cases = refl

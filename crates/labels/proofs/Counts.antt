@@ -1,6 +1,6 @@
 -- Laws of counting below n.
 -- Assumes nothing.
-use mathlib.Core.Path.{_≡_}
+use mathlib.Core.Path.{_≡_, refl, _∙_}
 use mathlib.Core.Bool.{Bool, true, false, cond}
 use mathlib.Core.Logic.{⊎-elim}
 use Prim.Native.Nat.{ℕ, zero, suc, _+_, _≤_, _<_}
@@ -27,6 +27,15 @@ module _ (p : ℕ → Bool) where
       ⊎-elim {C = countBelow a p ≤ countBelow b p + cond (p b) 1 0}
       (λ (m : b < a). (let q : a ≡ suc b = omega arith in rw q (omega arith)))
       (λ (m : a ≤ b). omega (arith, count-mono a b m))
+      (which b a)
+
+  -- and stays where p holds of none in between
+  pub count-gap : (a b : ℕ) → a ≤ b → ((k : ℕ) → a ≤ k → k < b → p k ≡ false) → countBelow b p ≡ countBelow a p
+  count-gap a zero l h = let q : a ≡ 0 = omega arith in rw q refl
+  count-gap a (suc b) l h =
+      ⊎-elim {C = countBelow (suc b) p ≡ countBelow a p}
+      (λ (m : b < a). (let q : a ≡ suc b = omega arith in rw q refl))
+      (λ (m : a ≤ b). count-no-more b (h b m (omega arith)) ∙ count-gap a b m (λ k i j. h k i (omega arith)))
       (which b a)
 
   -- and rises past a number of which p holds

@@ -14,7 +14,7 @@ use Rattle.plane.specs.Plane.{table}
 use Rattle.plane.proofs.Plane.{table-at, table-length}
 use Rattle.plane.proofs.Search.{which, either}
 use Rattle.plane.proofs.Refusal.{and-true}
-use Rattle.labels.specs.Labels.{isOn, beside, Joined, same, onward, lesser, merge, joinTwo, joinWith, joinUpto, firstPixel, isFirst}
+use Rattle.labels.specs.Labels.{isOn, beside, Joined, same, onward, lesser, renamed, merge, joinTwo, joinWith, joinUpto, firstPixel, isFirst}
 use Rattle.labels.proofs.Joined.{on-inside, beside-back, start-on, end-on, joined-trans, joined-sym}
 
 -- the element of a mapped list
@@ -22,10 +22,6 @@ map-at : {A B : Type 0} (f : A → B) (l : List A) (k : ℕ) (a : A) (b : B) →
 map-at f [] k a b h = absurd (not-suc-le-zero h)
 map-at f (x ∷ l) zero a b h = refl
 map-at f (x ∷ l) (suc k) a b h = map-at f l k a b (le-of-suc-le-suc h)
-
--- the new number of what carried n
-abbrev renamed : ℕ → ℕ → ℕ → ℕ
-renamed a b n = cond (eqb n a || eqb n b) (lesser a b) n
 
 merge-at : (a b : ℕ) (numbers : List ℕ) (k : ℕ) → k < length numbers → getD (merge a b numbers) k 0 ≡ renamed a b (getD numbers k 0)
 unfolding merge
@@ -35,18 +31,21 @@ merge-long : (a b : ℕ) (numbers : List ℕ) → length (merge a b numbers) ≡
 unfolding merge
 merge-long a b numbers = length-map numbers (renamed a b)
 
-renamed-left : (a b : ℕ) → renamed a b a ≡ lesser a b
+pub renamed-left : (a b : ℕ) → renamed a b a ≡ lesser a b
+unfolding renamed
 renamed-left a b = simp (eq-eqb a a refl)
 
 or-right : (s t : Bool) → t ≡ true → s || t ≡ true
 or-right true t e = refl
 or-right false t e = e
 
-renamed-right : (a b : ℕ) → renamed a b b ≡ lesser a b
+pub renamed-right : (a b : ℕ) → renamed a b b ≡ lesser a b
+unfolding renamed
 renamed-right a b = rw (or-right (eqb b a) (eqb b b) (eq-eqb b b refl))
 
 -- a number is one of the two, and renamed to the lesser, or stays
-renamed-cases : (a b n : ℕ) → ((n ≡ a) × (renamed a b n ≡ lesser a b)) ⊎ (((n ≡ b) × (renamed a b n ≡ lesser a b)) ⊎ (renamed a b n ≡ n))
+pub renamed-cases : (a b n : ℕ) → ((n ≡ a) × (renamed a b n ≡ lesser a b)) ⊎ (((n ≡ b) × (renamed a b n ≡ lesser a b)) ⊎ (renamed a b n ≡ n))
+unfolding renamed
 renamed-cases a b n = cases (eqb n a) (eqb n b) refl refl
   where
     cases : (s t : Bool) → eqb n a ≡ s → eqb n b ≡ t → ((n ≡ a) × (cond (s || t) (lesser a b) n ≡ lesser a b)) ⊎ (((n ≡ b) × (cond (s || t) (lesser a b) n ≡ lesser a b)) ⊎ (cond (s || t) (lesser a b) n ≡ n))
@@ -54,7 +53,7 @@ renamed-cases a b n = cases (eqb n a) (eqb n b) refl refl
     cases false true e g = inr (inl (eqb-true n b g, refl))
     cases false false e g = inr (inr refl)
 
-lesser-left : (a b : ℕ) → lesser a b ≤ a
+pub lesser-left : (a b : ℕ) → lesser a b ≤ a
 unfolding lesser
 lesser-left a b =
     ⊎-elim {C = cond (leb a b) a b ≤ a}
@@ -62,7 +61,7 @@ lesser-left a b =
     (λ (e : leb a b ≡ false). (let l = leb-false a b e in rw e (omega arith)))
     (either (leb a b))
 
-lesser-right : (a b : ℕ) → lesser a b ≤ b
+pub lesser-right : (a b : ℕ) → lesser a b ≤ b
 unfolding lesser
 lesser-right a b =
     ⊎-elim {C = cond (leb a b) a b ≤ b}

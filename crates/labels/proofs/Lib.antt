@@ -4,6 +4,6 @@ pub mod Joined
 pub mod Firsts
 pub mod Laws
 pub mod Steps
-pub mod Room
-pub mod Flooding
-pub mod Reached
+pub mod Forests
+pub mod Scanning
+pub mod Numbers

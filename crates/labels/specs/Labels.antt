@@ -1,13 +1,13 @@
--- Labels: the parts of a mask that steps up, down, left or right over on-pixels join, numbered in raster order of their first pixels.
--- A pixel is named by its index, row * w + column.
+-- Labels: the parts of a mask that steps up, down, left or right over on-pixels join (SciPy's ndimage.label with its default structuring element),
+-- numbered from 1 in raster order of their first pixels. A pixel is named by its index, row * w + column.
 -- Assumes nothing.
 use mathlib.Core.Path.{_≡_}
 use mathlib.Core.Bool.{Bool, true, cond, _&&_, _||_}
 use mathlib.Core.List.{List, map}
-use Prim.Native.Nat.{ℕ, zero, suc, _+_, _*_, _/_, _%_}
+use Prim.Native.Nat.{ℕ, zero, suc, _+_, _*_, _/_, _%_, _<_}
 use lib.Dec.{eqb, leb}
-use lib.ListN.{getD}
-use Rattle.plane.specs.Plane.{on, apart, table, planeOf}
+use lib.ListN.{length, getD}
+use Rattle.plane.specs.Plane.{Sides, on, apart, table, planeOf}
 use Rattle.plane.specs.Search.{countBelow}
 
 -- whether pixel i is on; none is past the end of the mask
@@ -27,9 +27,13 @@ pub data Joined (mask : List ℕ) (w : ℕ) : ℕ → ℕ → Type 0 where
 unfoldable pub lesser : ℕ → ℕ → ℕ
 lesser a b = cond (leb a b) a b
 
--- what carries the number a or b now carries the lesser of them
+-- the new number of what carries n, when a and b become one number: the lesser of the two in their place
+unfoldable pub renamed : ℕ → ℕ → ℕ → ℕ
+renamed a b n = cond (eqb n a || eqb n b) (lesser a b) n
+
+-- all pixels renamed so
 unfoldable pub merge : ℕ → ℕ → List ℕ → List ℕ
-merge a b numbers = map (λ (n : ℕ). cond (eqb n a || eqb n b) (lesser a b) n) numbers
+merge a b numbers = map (renamed a b) numbers
 
 -- the parts of pixels i and j become one, if both are on and beside each other
 unfoldable pub joinTwo : List ℕ → ℕ → ℕ → ℕ → List ℕ → List ℕ
@@ -69,3 +73,10 @@ labelAt mask h w y x = labelOf mask h w (y * w + x)
 -- the plane of labels
 unfoldable pub labelsPlane : List ℕ → ℕ → ℕ → List ℕ
 labelsPlane mask h w = planeOf h w (labelAt mask h w)
+
+-- what a call of `label` is given: accepted sides, planes of their lengths, and work space of one number more than the plane has
+pub record Given (mask parents labels : List ℕ) (h w : ℕ) : Type 0 where
+  pub sides : Sides h w
+  pub input : length mask ≡ h * w
+  pub output : length labels ≡ h * w
+  pub room : h * w < length parents

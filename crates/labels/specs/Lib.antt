@@ -1,2 +1,2 @@
 pub mod Labels
-pub mod Flood
+pub mod Trees

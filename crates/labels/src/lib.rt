@@ -1,175 +1,207 @@
-// Labels of the parts of a mask that are joined by steps up, down, left or right over on-pixels.
+// Labels of the parts of a mask that are joined by steps up, down, left or right over on-pixels: each pixel gets a provisional
+// label from its neighbours to the left and above, and labels that meet are joined in trees, whose roots are numbered at the end.
 ghost use mathlib.Core.Path.{_≡_};
+ghost use Prim.Native.Nat.{ℕ, _+_, _*_, _-_, _<_, _≤_};
 ghost use mathlib.Core.Bool.{cond};
-ghost use Prim.Native.Nat.{ℕ, _+_, _*_, _-_, _%_, _<_, _≤_};
-ghost use lib.Dec.{ltb, leb};
-ghost use lib.ListN.{length, getD};
-ghost use Rattle.plane.specs.Plane.{on, table};
-ghost use Rattle.plane.specs.Search.{countBelow};
-ghost use Rattle.labels.specs.Labels.{isFirst, parts, labelsPlane};
-ghost use Rattle.labels.specs.Flood.{unset, Given, Begun, waitingAt, reached, state, visited, visitIf, spreadFrom, Room, Spreads, Ready, Flooded};
+ghost use lib.Dec.{eqb};
+ghost use lib.ListN.{length, getD, set};
+ghost use Rattle.plane.specs.Plane.{table};
+ghost use Rattle.labels.specs.Labels.{parts, labelsPlane, Given};
+ghost use Rattle.labels.specs.Trees.{mostPixels, Trees, Found, Joinable, Linked, Placeable, Placed, upAt, larger, Scanned, RowsDone, Numberable, Numbered};
 
-// The label of an on-pixel that no flood has reached (unset in specs/Flood.antt).
-const UNSET: u32 = 4294967295;
-
-// Pixel q gets label n and is pushed, if it waits for a label; the new height of the stack.
-fn visit(q: usize, n: u32, top: usize, stack: &mut [u32], labels: &mut [u32]) -> usize
-    requires { ⌜ q < length (now labels) ⌝ }
-    requires { ⌜ Room (state top (now stack) (now labels)) ⌝ }
-    ensures { λ r. ⌜ state r (now (stack .exit)) (now (labels .exit)) ≡ visited n q (state top (now (stack .entry)) (now (labels .entry))) ⌝ }
+// A label as an index.
+fn wide(l: u32) -> usize
+    ensures { λ r. ⌜ r ≡ l ⌝ }
 {
-    if labels[q] != UNSET {
-        return top;
+    l as usize
+}
+
+// The parent of label a becomes its parent's parent, which is the result.
+fn halve(parents: &mut [u32], m: u32, a: u32) -> u32
+    requires { ⌜ Trees (now parents) m ⌝ }
+    requires { ⌜ a ≤ m ⌝ }
+    ensures { λ r. ⌜ r ≡ getD (now (parents .entry)) (getD (now (parents .entry)) a 0) 0 ⌝ }
+    ensures { λ r. ⌜ now (parents .exit) ≡ set (now (parents .entry)) a r ⌝ }
+{
+    let b = parents[wide(a)];
+    let c = parents[wide(b)];
+    parents[wide(a)] = c;
+    c
+}
+
+// The root of label l, of the labels up to m.
+fn find(parents: &mut [u32], m: u32, l: u32) -> u32
+    requires { ⌜ Trees (now parents) m ⌝ }
+    requires { ⌜ l ≤ m ⌝ }
+    ensures { λ r. ⌜ Found (now (parents .entry)) (now (parents .exit)) m l r ⌝ }
+{
+    let mut a = l;
+    let mut b = parents[wide(a)];
+    while b != a {
+        a = halve(parents, m, a);
+        b = parents[wide(a)];
     }
-    labels[q] = n;
-    stack[top] = q as u32;
-    top + 1
+    a
 }
 
-// The pixel above p is visited, if p is not in the first row.
-fn above(w: usize, n: u32, p: usize, top: usize, stack: &mut [u32], labels: &mut [u32]) -> usize
-    requires { ⌜ p < length (now labels) ⌝ }
-    requires { ⌜ Room (state top (now stack) (now labels)) ⌝ }
-    ensures { λ r. ⌜ state r (now (stack .exit)) (now (labels .exit)) ≡ visitIf (leb w p) n (p - w) (state top (now (stack .entry)) (now (labels .entry))) ⌝ }
+// The trees of labels a and b become one: the greater root gets the lesser as its parent; the lesser root.
+fn join(parents: &mut [u32], m: u32, a: u32, b: u32) -> u32
+    requires { ⌜ Joinable (now parents) m a b ⌝ }
+    ensures { λ r. ⌜ Linked (now (parents .entry)) (now (parents .exit)) m a b r ⌝ }
 {
-    if w <= p {
-        return visit(p - w, n, top, stack, labels);
+    let x = find(parents, m, a);
+    let y = find(parents, m, b);
+    if x < y {
+        parents[wide(y)] = x;
+        return x;
     }
-    top
+    parents[wide(x)] = y;
+    y
 }
 
-// The pixel q below another is visited, if the plane has it.
-fn below(q: usize, area: usize, n: u32, top: usize, stack: &mut [u32], labels: &mut [u32]) -> usize
-    requires { ⌜ area ≡ length (now labels) ⌝ }
-    requires { ⌜ Room (state top (now stack) (now labels)) ⌝ }
-    ensures { λ r. ⌜ state r (now (stack .exit)) (now (labels .exit)) ≡ visitIf (ltb q area) n q (state top (now (stack .entry)) (now (labels .entry))) ⌝ }
+// The label of a pixel with byte v, from those of the pixels to the left, above, and above to the left of it.
+// Where the pixel above to the left is on, its two neighbours, which are the other two, have one root already.
+fn place(v: u8, left: u32, up: u32, diag: u32, m: u32, parents: &mut [u32]) -> u32
+    requires { ⌜ Placeable (now parents) m left up ⌝ }
+    ensures { λ r. ⌜ Placed v left up diag m (now (parents .entry)) (now (parents .exit)) r ⌝ }
 {
-    if q < area {
-        return visit(q, n, top, stack, labels);
-    }
-    top
-}
-
-// The pixel to the left of p is visited, if p's column x is not the first.
-fn left(n: u32, p: usize, x: usize, top: usize, stack: &mut [u32], labels: &mut [u32]) -> usize
-    requires { ⌜ p < length (now labels) ⌝ }
-    requires { ⌜ x ≤ p ⌝ }
-    requires { ⌜ Room (state top (now stack) (now labels)) ⌝ }
-    ensures { λ r. ⌜ state r (now (stack .exit)) (now (labels .exit)) ≡ visitIf (ltb 0 x) n (p - 1) (state top (now (stack .entry)) (now (labels .entry))) ⌝ }
-{
-    if 0 < x {
-        return visit(p - 1, n, top, stack, labels);
-    }
-    top
-}
-
-// The pixel to the right of p is visited, if p's column x is not the last.
-fn right(
-    w: usize,
-    n: u32,
-    p: usize,
-    x: usize,
-    top: usize,
-    stack: &mut [u32],
-    labels: &mut [u32],
-) -> usize
-    requires { ⌜ x < w ⌝ }
-    requires { ⌜ (x + 1 < w → p + 1 < length (now labels)) ⌝ }
-    requires { ⌜ Room (state top (now stack) (now labels)) ⌝ }
-    ensures { λ r. ⌜ state r (now (stack .exit)) (now (labels .exit)) ≡ visitIf (ltb (x + 1) w) n (p + 1) (state top (now (stack .entry)) (now (labels .entry))) ⌝ }
-{
-    if x + 1 < w {
-        return visit(p + 1, n, top, stack, labels);
-    }
-    top
-}
-
-// The pixel on top of the stack is taken off, and its four neighbours are visited; the new height of the stack.
-fn spread(w: usize, area: usize, n: u32, top: usize, stack: &mut [u32], labels: &mut [u32]) -> usize
-    requires { ⌜ Spreads w area n top (now stack) (now labels) ⌝ }
-    ensures { λ r. ⌜ state r (now (stack .exit)) (now (labels .exit)) ≡ spreadFrom w area n (getD (now (stack .entry)) (top - 1) 0) (state (top - 1) (now (stack .entry)) (now (labels .entry))) ⌝ }
-{
-    let t0 = top - 1;
-    let pixel = stack[t0];
-    let p = pixel as usize;
-    let x = (pixel % (w as u32)) as usize;
-    let q = p + w;
-    let t1 = above(w, n, p, t0, stack, labels);
-    let t2 = below(q, area, n, t1, stack, labels);
-    let t3 = left(n, p, x, t2, stack, labels);
-    right(w, n, p, x, t3, stack, labels)
-}
-
-// The part of pixel i gets label n.
-fn flood(w: usize, i: usize, n: u32, stack: &mut [u32], labels: &mut [u32])
-    requires { ⌜ Ready (now labels) (now stack) w i n ⌝ }
-    ensures { λ _. ⌜ Flooded (now (labels .entry)) (now (labels .exit)) w i n ⌝ }
-{
-    let area = labels.len();
-    labels[i] = n;
-    stack[0] = i as u32;
-    let mut top = 1usize;
-    while 0 < top {
-        top = spread(w, area, n, top, stack, labels);
-    }
-}
-
-// The label before any flood.
-fn waits(m: u8) -> u32
-    ensures { λ r. ⌜ r ≡ cond (on m) unset 0 ⌝ }
-{
-    if m == 0 {
+    if v == 0 {
         return 0;
     }
-    UNSET
-}
-
-// Every on-pixel waits for its label, every off-pixel has it.
-fn prepare(mask: &[u8], labels: &mut [u32])
-    requires { ⌜ length (now labels) ≡ length (now mask) ⌝ }
-    ensures { λ _. ⌜ now (labels .exit) ≡ table (waitingAt (now (mask .entry))) 0 (length (now (mask .entry))) ⌝ }
-{
-    let mut i = 0usize;
-    while i < mask.len() {
-        labels[i] = waits(mask[i]);
-        i += 1;
+    if left == 0 {
+        if up == 0 {
+            parents[wide(m + 1)] = m + 1;
+            return m + 1;
+        }
+        return up;
     }
+    if up == 0 {
+        return left;
+    }
+    if diag != 0 {
+        return left;
+    }
+    join(parents, m, left, up)
 }
 
-// The part that begins with pixel i, if one does, gets label n + 1; the number of parts that begin up to i.
-fn start(
+// The label of the pixel above pixel i, 0 for none.
+fn upper(labels: &[u32], w: usize, i: usize) -> u32
+    requires { ⌜ i < length (now labels) ⌝ }
+    ensures { λ r. ⌜ r ≡ upAt (now (labels .entry)) w i ⌝ }
+{
+    if i < w {
+        return 0;
+    }
+    labels[i - w]
+}
+
+// The greater of two labels.
+fn greater(a: u32, b: u32) -> u32
+    ensures { λ r. ⌜ r ≡ larger a b ⌝ }
+{
+    if a < b {
+        return b;
+    }
+    a
+}
+
+// The pixels of row y get provisional labels, of which the rows before it have `found`; how many labels there are then.
+fn scan_row(
     mask: &[u8],
     h: usize,
     w: usize,
-    i: usize,
-    n: u32,
-    stack: &mut [u32],
+    y: usize,
+    found: u32,
+    parents: &mut [u32],
     labels: &mut [u32],
 ) -> u32
-    requires { ⌜ Begun (now mask) (now stack) (now labels) h w i n ⌝ }
-    ensures { λ r. ⌜ r ≡ countBelow (i + 1) (isFirst (now (mask .entry)) h w) ⌝ }
-    ensures { λ r. ⌜ now (labels .exit) ≡ reached (now (mask .entry)) h w (i + 1) ⌝ }
+    requires { ⌜ RowsDone (now mask) (now labels) (now parents) h w y found ⌝ }
+    ensures { λ r. ⌜ Scanned (now (mask .entry)) (now (labels .exit)) (now (parents .exit)) h w (y * w + w) r ⌝ }
 {
-    if labels[i] != UNSET {
-        return n;
+    let start = y * w;
+    let mut m = found;
+    let mut left = 0u32;
+    let mut diag = 0u32;
+    let mut x = 0usize;
+    while x < w {
+        let i = start + x;
+        let up = upper(labels, w, i);
+        let l = place(mask[i], left, up, diag, m, parents);
+        labels[i] = l;
+        m = greater(m, l);
+        left = l;
+        diag = up;
+        x += 1;
     }
-    let number = n + 1;
-    flood(w, i, number, stack, labels);
-    number
+    m
 }
 
-// Each pixel's label, 0 where the mask is off, and the number of labels. Work space: h * w numbers in `stack`.
-pub fn label(mask: &[u8], h: usize, w: usize, stack: &mut [u32], labels: &mut [u32]) -> u32
-    requires { ⌜ Given (now mask) (now stack) (now labels) h w ⌝ }
+// Every pixel gets a provisional label; how many labels there are.
+fn scan(mask: &[u8], h: usize, w: usize, parents: &mut [u32], labels: &mut [u32]) -> u32
+    requires { ⌜ Given (now mask) (now parents) (now labels) h w ⌝ }
+    ensures { λ r. ⌜ Scanned (now (mask .entry)) (now (labels .exit)) (now (parents .exit)) h w (h * w) r ⌝ }
+{
+    parents[0] = 0;
+    let mut m = 0u32;
+    let mut y = 0usize;
+    while y < h {
+        m = scan_row(mask, h, w, y, m, parents, labels);
+        y += 1;
+    }
+    m
+}
+
+// Label k gets the next number, n + 1, if it is a root, else the number that its parent has; how many numbers there are then.
+fn number(parents: &mut [u32], k: usize, n: u32) -> u32
+    requires { ⌜ Numberable (now parents) k n ⌝ }
+    ensures { λ r. ⌜ r ≡ cond (eqb (getD (now (parents .entry)) k 0) k) (n + 1) n ⌝ }
+    ensures { λ r. ⌜ now (parents .exit) ≡ set (now (parents .entry)) k (cond (eqb (getD (now (parents .entry)) k 0) k) (n + 1) (getD (now (parents .entry)) (getD (now (parents .entry)) k 0) 0)) ⌝ }
+{
+    let p = wide(parents[k]);
+    if p == k {
+        parents[k] = n + 1;
+        return n + 1;
+    }
+    parents[k] = parents[p];
+    n
+}
+
+// The labels from 1 to m get the numbers of their roots, in the roots' order; how many roots there are.
+fn flatten(parents: &mut [u32], m: u32) -> u32
+    requires { ⌜ Trees (now parents) m ⌝ }
+    requires { ⌜ m ≤ mostPixels ⌝ }
+    ensures { λ r. ⌜ Numbered (now (parents .entry)) (now (parents .exit)) m (m + 1) r ⌝ }
+{
+    let end = wide(m) + 1;
+    let mut n = 0u32;
+    let mut k = 1usize;
+    while k < end {
+        n = number(parents, k, n);
+        k += 1;
+    }
+    n
+}
+
+// Every label becomes its number.
+fn rename(numbers: &[u32], labels: &mut [u32])
+    requires { ⌜ ((k : ℕ) → k < length (now labels) → getD (now labels) k 0 < length (now numbers)) ⌝ }
+    ensures { λ _. ⌜ now (labels .exit) ≡ table (λ (k : ℕ). getD (now (numbers .entry)) (getD (now (labels .entry)) k 0) 0) 0 (length (now (labels .entry))) ⌝ }
+{
+    let mut i = 0usize;
+    while i < labels.len() {
+        labels[i] = numbers[wide(labels[i])];
+        i += 1;
+    }
+}
+
+// Each pixel's label, 0 where the mask is off, and the number of labels (label4). Work space: `parents`, h * w + 1 numbers.
+pub fn label(mask: &[u8], h: usize, w: usize, parents: &mut [u32], labels: &mut [u32]) -> u32
+    requires { ⌜ Given (now mask) (now parents) (now labels) h w ⌝ }
     ensures { λ r. ⌜ r ≡ parts (now (mask .entry)) h w ⌝ }
     ensures { λ r. ⌜ now (labels .exit) ≡ labelsPlane (now (mask .entry)) h w ⌝ }
 {
-    prepare(mask, labels);
-    let mut n = 0u32;
-    let mut i = 0usize;
-    while i < labels.len() {
-        n = start(mask, h, w, i, n, stack, labels);
-        i += 1;
-    }
+    let m = scan(mask, h, w, parents, labels);
+    let n = flatten(parents, m);
+    rename(parents, labels);
     n
 }

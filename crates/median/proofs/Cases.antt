@@ -7,7 +7,8 @@ use lib.Dec.{T, eqb}
 use lib.IntN.{pos, negsuc}
 use lib.Ieee.{Float, fin, binary64, ofBits, toBits, lt, le, eq, add, div, ofInt}
 use Rattle.colour.specs.Number.{plusZero, halfOf}
-use Rattle.median.specs.Median.{insert, sorted, placed, lowerMiddle, upperMiddle, medianOf, atMost}
+use Rattle.median.specs.Median.{insert, sorted, placed, lowerMiddle, upperMiddle, medianOf}
+use Rattle.median.specs.Steps.{atMost, nearer, leastAbove}
 
 all : List Bool → Bool
 all [] = true
@@ -45,8 +46,10 @@ cases =
     ∷ bits (medianOf (ofBits binary64 0x3fe0_0000_0000_0001 ∷ ofBits binary64 0x3fe0_0000_0000_0002 ∷ [])) 0x3fe0_0000_0000_0002
     ∷ eqb (atMost (eighths 3) (eighths 3 ∷ eighths 8 ∷ zero- ∷ eighths 3 ∷ [])) 3
     ∷ eqb (atMost zero+ (eighths 3 ∷ eighths 8 ∷ zero- ∷ eighths 3 ∷ [])) 1
+    ∷ eq (leastAbove (eighths 3) (eighths 7 ∷ eighths 3 ∷ eighths 5 ∷ zero- ∷ [])) (eighths 5)
+    ∷ eq (leastAbove (eighths 7) (eighths 7 ∷ eighths 3 ∷ [])) (eighths 8)
     ∷ []
 
 cases-hold : T (all cases)
-unfolding cases all bits insert sorted placed lowerMiddle upperMiddle medianOf atMost plusZero halfOf lt le eq add div ofInt ofBits toBits
+unfolding cases all bits insert sorted placed lowerMiddle upperMiddle medianOf atMost nearer leastAbove plusZero halfOf lt le eq add div ofInt ofBits toBits
 cases-hold = tt

@@ -169,15 +169,19 @@ key-bits v h =
     ap (toBits binary64) (plain-plus0 _ (bits-plain v h))
     ∙ toBits-ofBits binary64 v (omega arith) (subst (λ (b : Bool). T (not b)) (sym (sym (nanBits-is binary64 v) ∙ bits-number v h)) tt)
 
+-- a number with a zero's sign cleared has the number's key
+pub plus0-good : (x : Float) → Good x → Good (plus0 x)
+plus0-good x g = record { held = plus0-fits binary64 x (g .held); from-zero = plain-nonneg (plus0 x) (plus0-plain x (g .from-zero)) }
+
 -- ---- the numbers from 0 to 1
 suc-pos : (n : ℕ) → 0 < suc n
 suc-pos n = omega arith
 
-key-one : key one64 ≡ oneBits
+pub key-one : key one64 ≡ oneBits
 unfolding key plus0 toBits
 key-one = refl
 
-one-good : Good one64
+pub one-good : Good one64
 unfolding fits
 one-good = record { held = tt; from-zero = tt }
 

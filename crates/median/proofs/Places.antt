@@ -9,11 +9,15 @@ use native.Mathlib.Omega.{arith}
 use lib.Dec.{T, ltb, leb}
 use lib.ListN.{length, getD, length-map}
 use lib.Ieee.{Float, nan, binary64, ofBits, lt, le, fits}
+use borrow.Author.Tests.{lt-ltb, le-ltb}
+use Rattle.colour.specs.Number.{plusZero}
 use Rattle.colour.specs.Colour.{colourOk, coloursOk}
+use Rattle.colour.proofs.Zero.{plus0, plus0-plus0, Alike, plus-zero-same, plus-zero-is}
 use Rattle.colour.proofs.Range.{colours-at}
-use Rattle.median.specs.Median.{insert, sorted, placed, atMost}
-use Rattle.median.proofs.Pattern.{key, Good, lt-key, le-key, oneBits, bits-good, key-bits, ok-good, ok-key}
-use Rattle.median.proofs.Rank.{insertN, sortN, countN, sort-rank}
+use Rattle.median.specs.Median.{insert, sorted, placed}
+use Rattle.median.specs.Steps.{atMost, nearer, leastAbove}
+use Rattle.median.proofs.Pattern.{key, Good, lt-key, le-key, oneBits, bits-good, key-bits, ok-good, ok-key, one-good, key-one, plus0-good, key-alike, alike-key}
+use Rattle.median.proofs.Rank.{insertN, sortN, countN, sort-rank, leastN, next-place}
 
 -- every number is a value of the format, as every f64 is
 abbrev pub Held : List Float → Type 0
@@ -75,6 +79,27 @@ count-keys : (t : Float) (l : List Float) → Good t → Goods l → atMost t l 
 unfolding Goods atMost countN
 count-keys t [] g h = refl
 count-keys t (x ∷ l) g h = rw (le-key x t (h .0) g, count-keys t l g (h .1))
+
+-- ---- the least number above another is that of their keys
+key-cond : (b : Bool) (x y : Float) → key (cond b x y) ≡ cond b (key x) (key y)
+key-cond true x y = refl
+key-cond false x y = refl
+
+cond-good : (b : Bool) (x y : Float) → Good x → Good y → Good (cond b x y)
+cond-good true x y g h = g
+cond-good false x y g h = h
+
+least-good : (t : Float) (l : List Float) → Good t → Goods l → Good (leastAbove t l)
+unfolding Goods leastAbove nearer
+least-good t [] g h = one-good
+least-good t (x ∷ l) g h = cond-good (lt t x && lt x (leastAbove t l)) x (leastAbove t l) (h .0) (least-good t l g (h .1))
+
+least-keys : (t : Float) (l : List Float) → Good t → Goods l → key (leastAbove t l) ≡ leastN oneBits (key t) (map key l)
+unfolding Goods leastAbove nearer leastN
+least-keys t [] g h = key-one
+least-keys t (x ∷ l) g h =
+    key-cond (lt t x && lt x (leastAbove t l)) x (leastAbove t l)
+    ∙ rw (lt-key t x g (h .0), lt-key x (leastAbove t l) (h .0) (least-good t l g (h .1)), least-keys t l g (h .1))
 
 -- ---- an insertion keeps length and range
 insert-length : (x : Float) (l : List Float) → length (insert x l) ≡ suc (length l)
@@ -153,3 +178,40 @@ module _ (l : List Float) (held : Held l) (ok : coloursOk l ≡ true) where
 
     pub placed-bound : key (placed l k) ≤ oneBits
     placed-bound = ok-key (placed l k) (placed-good .held) placed-ok
+
+  -- the number at the next place: lo again, where enough numbers are at or below it, else the least above it
+  module _ (k : ℕ) (h : suc k < length l) (lo : Float) (first : lo ≡ plusZero (placed l k)) where
+    before : k < length l
+    before = omega arith
+
+    place : Good (placed l k)
+    place = placed-good k before
+
+    lo-is : lo ≡ plus0 (placed l k)
+    lo-is = first ∙ plus-zero-is (placed l k) (place .held)
+
+    lo-good : Good lo
+    lo-good = rw lo-is (plus0-good (placed l k) place)
+
+    lo-alike : Alike lo (placed l k)
+    lo-alike = ap plus0 lo-is ∙ plus0-plus0 (placed l k)
+
+    next-key : key (placed l (suc k)) ≡ cond (ltb (suc k) (atMost lo l)) (key lo) (key (leastAbove lo l))
+    next-key =
+        let e : key lo ≡ getD (sortN (map key l)) k 0 = alike-key lo (placed l k) lo-alike ∙ placed-key k before in
+        let n : length (map key l) ≡ length l = length-map l key in
+        placed-key (suc k) h
+        ∙ next-place oneBits (map key l) k (subst (λ (i : ℕ). suc k < i) (sym n) h) (subst (λ (i : ℕ). i ≤ oneBits) (placed-key (suc k) h) (placed-bound (suc k) h))
+        ∙ rw (count-keys lo l lo-good goods, least-keys lo l lo-good goods, e)
+
+    pub next-same : suc k < atMost lo l → lo ≡ plusZero (placed l (suc k))
+    next-same i =
+        let e : key (placed l (suc k)) ≡ key lo = next-key ∙ rw (lt-ltb (suc k) (atMost lo l) i) in
+        first
+        ∙ sym (plus-zero-same lo (placed l k) lo-alike)
+        ∙ plus-zero-same lo (placed l (suc k)) (key-alike lo (placed l (suc k)) (lo-good .held) (placed-good (suc k) h .held) (sym e))
+
+    pub next-above : atMost lo l ≤ suc k → plusZero (leastAbove lo l) ≡ plusZero (placed l (suc k))
+    next-above i =
+        let e : key (placed l (suc k)) ≡ key (leastAbove lo l) = next-key ∙ rw (le-ltb (suc k) (atMost lo l) i) in
+        plus-zero-same (leastAbove lo l) (placed l (suc k)) (key-alike (leastAbove lo l) (placed l (suc k)) (least-good lo l lo-good goods .held) (placed-good (suc k) h .held) (sym e))

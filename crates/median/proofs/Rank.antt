@@ -1,10 +1,11 @@
 -- Natural numbers in order: the number at place k is at most t exactly when more than k of the numbers are.
 -- Assumes nothing.
 use mathlib.Core.Path.{_≡_, refl, sym, ap, _∙_, subst}
-use mathlib.Core.Bool.{Bool, true, false, cond}
+use mathlib.Core.Bool.{Bool, true, false, cond, _&&_}
+use mathlib.Core.Logic.{_⊎_, inl, inr, ⊎-elim}
 use mathlib.Core.List.{List, [], _∷_}
 use Prim.Native.Nat.{ℕ, zero, suc, _+_, _≤_, _<_}
-use native.Mathlib.Nat.{le-refl, le-trans, le-antisymm, le-of-lt, le-of-suc-le-suc, not-suc-le-zero, add-left-comm, zero-add}
+use native.Mathlib.Nat.{le-refl, le-trans, le-antisymm, lt-of-not-le, le-of-lt, le-of-suc-le-suc, not-suc-le-zero, add-left-comm, zero-add}
 use native.Mathlib.Omega.{arith}
 use lib.Dec.{ltb, leb, leb·suc-suc}
 use lib.ListN.{length, getD}
@@ -136,3 +137,77 @@ same-places l l′ e c k h =
     le-antisymm
     (leb-true a b (sym (sort-rank b l k h) ∙ ap (ltb k) (c b) ∙ sort-rank b l′ k h′ ∙ le-leb b b (le-refl b)))
     (leb-true b a (sym (sort-rank a l′ k h′) ∙ ap (ltb k) (sym (c a)) ∙ sort-rank a l k h ∙ le-leb a a (le-refl a)))
+
+-- ---- the number at the next place
+-- the least number above a; b where none lies between
+unfoldable pub leastN : ℕ → ℕ → List ℕ → ℕ
+leastN b a [] = b
+leastN b a (x ∷ l) = cond (ltb a x && ltb x (leastN b a l)) x (leastN b a l)
+
+count-mono : (s t : ℕ) (l : List ℕ) → s ≤ t → countN s l ≤ countN t l
+unfolding countN
+count-mono s t [] h = omega arith
+count-mono s t (x ∷ l) h = go (leb x s) refl (count-mono s t l h)
+  where
+    go : (i : Bool) → leb x s ≡ i → countN s l ≤ countN t l → cond i 1 0 + countN s l ≤ cond (leb x t) 1 0 + countN t l
+    go true e r = rw (le-leb x t (omega (arith, leb-true x s e))) (omega arith)
+    go false e r = omega arith
+
+module _ (b a : ℕ) where
+  -- the three ways in which the least number above a comes about
+  least-cases : (P : ℕ → Type 0) (x : ℕ) (l : List ℕ) → (a < x → x < leastN b a l → P x) → (x ≤ a → P (leastN b a l)) → (a < x → leastN b a l ≤ x → P (leastN b a l)) → P (leastN b a (x ∷ l))
+  unfolding leastN
+  least-cases P x l p q r = go (ltb a x) refl (ltb x (leastN b a l)) refl
+    where
+      go : (i : Bool) → ltb a x ≡ i → (j : Bool) → ltb x (leastN b a l) ≡ j → P (cond (i && j) x (leastN b a l))
+      go true e true d = p (ltb-true _ _ e) (ltb-true _ _ d)
+      go true e false d = r (ltb-true _ _ e) (ltb-false _ _ d)
+      go false e j d = q (ltb-false _ _ e)
+
+  -- between a and the least number above it nothing more is counted
+  gap-count : (s : ℕ) (l : List ℕ) → a ≤ s → s < leastN b a l → countN s l ≡ countN a l
+  unfolding countN
+  gap-count s [] h k = refl
+  gap-count s (x ∷ l) h k =
+      least-cases (λ (r : ℕ). s < r → cond (leb x s) 1 0 + countN s l ≡ cond (leb x a) 1 0 + countN a l) x l
+      (λ i j d. rw (lt-leb x s (omega arith), lt-leb x a (omega arith), gap-count s l h (omega arith)))
+      (λ i d. rw (le-leb x s (omega arith), le-leb x a (omega arith), gap-count s l h (omega arith)))
+      (λ i j d. rw (lt-leb x s (omega arith), lt-leb x a (omega arith), gap-count s l h (omega arith)))
+      k
+
+  -- unless it is b, one more is counted there
+  more-count : (l : List ℕ) → (leastN b a l ≡ b) ⊎ ((a < leastN b a l) × (countN a l < countN (leastN b a l) l))
+  unfolding countN
+  more-count [] = unfold leastN in inl refl
+  more-count (x ∷ l) =
+      least-cases (λ (r : ℕ). (r ≡ b) ⊎ ((a < r) × (cond (leb x a) 1 0 + countN a l < cond (leb x r) 1 0 + countN r l))) x l
+      (λ i j. inr (i, rw (lt-leb x a i, le-leb x x (le-refl x)) (let m = count-mono a x l (le-of-lt i) in omega arith)))
+      (λ i. ⊎-elim (λ e. inl e) (λ m. inr (m .0, rw (le-leb x a i, le-leb x (leastN b a l) (omega (arith, m .0))) (omega (arith, m .1)))) (more-count l))
+      (λ i j. ⊎-elim (λ e. inl e) (λ m. inr (m .0, rw (lt-leb x a i) (omega (arith, m .1)))) (more-count l))
+
+-- the number at the next place is the same again, where enough numbers are at most that, else the least number above it
+pub next-place : (b : ℕ) (l : List ℕ) (k : ℕ) → suc k < length l → getD (sortN l) (suc k) 0 ≤ b
+    → getD (sortN l) (suc k) 0 ≡ cond (ltb (suc k) (countN (getD (sortN l) k 0) l)) (getD (sortN l) k 0) (leastN b (getD (sortN l) k 0) l)
+next-place b l k h u =
+    let x = getD (sortN l) k 0 in
+    let y = getD (sortN l) (suc k) 0 in
+    let i : k < length l = omega arith in
+    let cx : k < countN x l = ltb-true _ _ (sort-rank x l k i ∙ le-leb x x (le-refl x)) in
+    let cy : suc k < countN y l = ltb-true _ _ (sort-rank y l (suc k) h ∙ le-leb y y (le-refl y)) in
+    let up : x ≤ y = leb-true _ _ (sym (sort-rank y l k i) ∙ lt-ltb k (countN y l) (omega arith)) in
+    go x y cx cy up (sort-rank x l (suc k) h) u (sort-rank (leastN b x l) l (suc k) h) (ltb (suc k) (countN x l)) refl
+  where
+    go : (x y : ℕ) → k < countN x l → suc k < countN y l → x ≤ y → ltb (suc k) (countN x l) ≡ leb y x → y ≤ b
+        → ltb (suc k) (countN (leastN b x l) l) ≡ leb y (leastN b x l)
+        → (t : Bool) → ltb (suc k) (countN x l) ≡ t → y ≡ cond t x (leastN b x l)
+    go x y cx cy up rx u rr true e = le-antisymm (leb-true _ _ (sym rx ∙ e)) up
+    go x y cx cy up rx u rr false e = le-antisymm (⊎-elim (λ z. at-b z) (λ m. above m) (more-count b x l)) under
+      where
+        at-b : leastN b x l ≡ b → y ≤ leastN b x l
+        at-b z = omega arith
+
+        above : (x < leastN b x l) × (countN x l < countN (leastN b x l) l) → y ≤ leastN b x l
+        above m = let w : suc k < countN (leastN b x l) l = omega (arith, m .1) in leb-true y (leastN b x l) (sym rr ∙ lt-ltb _ _ w)
+
+        under : leastN b x l ≤ y
+        under = le-of-suc-le-suc (lt-of-not-le (λ (g : suc y ≤ leastN b x l). absurd (let z = gap-count b x y l up g in let w : countN x l ≤ suc k = ltb-false (suc k) (countN x l) e in omega arith)))

@@ -1,1 +1,2 @@
 pub mod Median
+pub mod Steps

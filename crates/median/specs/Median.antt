@@ -3,9 +3,9 @@
 use mathlib.Core.Path.{_≡_}
 use mathlib.Core.Bool.{true, cond}
 use mathlib.Core.List.{List, [], _∷_}
-use Prim.Native.Nat.{ℕ, _+_, _-_, _/_, _≤_, _<_}
+use Prim.Native.Nat.{ℕ, _-_, _/_, _≤_}
 use lib.ListN.{length, getD}
-use lib.Ieee.{Float, nan, lt, le}
+use lib.Ieee.{Float, nan, lt}
 use Rattle.colour.specs.Number.{plusZero, halfOf}
 use Rattle.colour.specs.Colour.{coloursOk}
 
@@ -34,17 +34,7 @@ upperMiddle l = placed l (length l / 2)
 unfoldable pub medianOf : List Float → Float
 medianOf l = plusZero (halfOf (lowerMiddle l) (upperMiddle l))
 
--- how many numbers are at or below t
-unfoldable pub atMost : Float → List Float → ℕ
-atMost t [] = 0
-atMost t (x ∷ l) = cond (le x t) 1 0 + atMost t l
-
 -- at least two numbers, each from 0 to 1
 pub record Channel (l : List Float) : Type 0 where
   pub some : 2 ≤ length l
-  pub ok : coloursOk l ≡ true
-
--- numbers from 0 to 1, and a place among them
-pub record Place (l : List Float) (k : ℕ) : Type 0 where
-  pub inside : k < length l
   pub ok : coloursOk l ≡ true

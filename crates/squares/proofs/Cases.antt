@@ -1,9 +1,7 @@
 -- Cases that the prover computes from the definitions.
 -- Assumes nothing.
 use mathlib.Core.Path.{_≡_, refl}
-use mathlib.Core.Bool.{Bool, true, false}
-use mathlib.Core.List.{List, [], _∷_}
-use Prim.Native.Nat.{ℕ}
+use mathlib.Core.List.{[], _∷_}
 use Rattle.plane.specs.Search.{someBelow}
 use Rattle.plane.specs.Plane.{on, bit, onAt, apart, within, table, rowsUpto, planeOf}
 use Rattle.squares.specs.Squares.{larger, reach, inSquare, squaresPlane}

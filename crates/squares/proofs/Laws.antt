@@ -1,18 +1,17 @@
 -- Laws of squares, over the definitions alone.
 -- Assumes nothing.
 use mathlib.Core.Path.{_≡_, refl, sym, ap, _∙_}
-use mathlib.Core.Bool.{Bool, true, false, cond, _&&_}
+use mathlib.Core.Bool.{Bool, true, false, _&&_}
 use mathlib.Core.List.{List}
-use mathlib.Core.Logic.{_⊎_, inl, inr, ⊎-elim}
-use Prim.Native.Nat.{ℕ, zero, suc, _+_, _*_, _-_, _≤_, _<_}
-use native.Mathlib.Nat.{le-refl}
+use mathlib.Core.Logic.{⊎-elim}
+use Prim.Native.Nat.{ℕ, _+_, _*_, _-_, _≤_, _<_}
 use native.Mathlib.Omega.{arith}
-use lib.Dec.{leb, eqb}
+use lib.Dec.{leb}
 use lib.ListN.{length, getD}
-use borrow.Author.Tests.{leb-true, le-leb, lt-leb, eq-eqb, ne-eqb}
+use borrow.Author.Tests.{leb-true, le-leb, lt-leb, ne-eqb}
 use Rattle.plane.specs.Search.{someBelow}
-use Rattle.plane.specs.Plane.{mostSide, Sides, on, bit, onAt, apart, within, planeOf}
-use Rattle.plane.proofs.Search.{which, either, not-both, some-found, some-is, none-is}
+use Rattle.plane.specs.Plane.{on, bit, onAt, apart, within, planeOf}
+use Rattle.plane.proofs.Search.{which, either, not-both, some-found, some-is}
 use Rattle.plane.proofs.Plane.{plane-at, plane-same, plane-length}
 use Rattle.plane.proofs.Refusal.{and-true}
 use Rattle.squares.specs.Squares.{larger, reach, inSquare, squaresPlane}

@@ -1,12 +1,11 @@
 -- Laws of the two passes.
 -- Assumes nothing.
 use mathlib.Core.Path.{_≡_, refl, sym, ap, _∙_}
-use mathlib.Core.Bool.{Bool, true, false, cond, _&&_}
+use mathlib.Core.Bool.{Bool, true, false, _&&_}
 use mathlib.Core.List.{List, _++_}
 use mathlib.Core.Logic.{_⊎_, inl, inr, ⊎-elim}
 use Prim.Native.Nat.{ℕ, zero, suc, _+_, _*_, _-_, _/_, _%_, _≤_, _<_}
 use native.Mathlib.Nat.{ne-of-lt, not-suc-le-zero}
-use native.Mathlib.Numerals.{add-one}
 use native.Mathlib.Omega.{arith}
 use lib.Dec.{leb, ltb}
 use lib.ListN.{length, getD, set, take, drop, length-set, length-take, length-drop, List·getD-append}
@@ -17,7 +16,7 @@ use Rattle.plane.specs.Search.{someBelow, countBelow}
 use Rattle.plane.specs.Plane.{mostSide, on, bit, onAt, apart, within, table, planeOf}
 use Rattle.plane.proofs.Search.{which, some-same, none-is}
 use Rattle.plane.proofs.Plane.{row-in, pixel-in, row-of, column-of, index-of, plane-length, plane-at, plane-same, table-length, table-at, table-is, filled, part-at}
-use Rattle.squares.specs.Window.{windowCount, inWindow, entering, leaving, onIn, onDown, rowCount, columnCount, dilatedRow, dilatedRows, dilatedColumns, addedLine, takenLine, testedLine, radiusOf, Passed, Addable, Takable, Bits, Columns, Entered}
+use Rattle.squares.specs.Window.{inWindow, entering, leaving, onIn, onDown, columnCount, dilatedRow, dilatedRows, dilatedColumns, addedLine, takenLine, testedLine, radiusOf, Passed, Addable, Takable, Bits, Columns, Entered}
 use Rattle.squares.specs.Squares.{reach, inSquare, squaresPlane}
 use Rattle.squares.proofs.Laws.{on-bit, square-radius}
 use Rattle.squares.proofs.Count.{and-yes, and-no, count-more, slide, window-some, window-most}

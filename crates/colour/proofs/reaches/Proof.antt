@@ -1,3 +1,5 @@
+-- `colour::reaches` meets its contract.
+-- Assumes nothing.
 use native.Mathlib.Omega.{arith}
 use mir.Syntax.{w64}
 use mir.Facts.{toZ-ofZ, toZ-pos}

@@ -12,7 +12,7 @@ use lib.Seq.{drop-cons}
 use lib.Ieee.{Float, nan, le}
 use mir.Val.{boolByte}
 use borrow.Author.Needs.{needs}
-use Rattle.median.specs.Median.{atMost}
+use Rattle.median.specs.Steps.{atMost}
 use Rattle.median.proofs.at_most.Statement.{statement}
 use Rattle.median.proofs.at_most.Tie as tie
 

@@ -1,7 +1,7 @@
 -- `median::median` meets its contract.
 -- Assumes nothing.
 use mathlib.Core.Path.{_≡_, ap, _∙_}
-use Prim.Native.Nat.{_-_, _/_}
+use Prim.Native.Nat.{ℕ, _+_, _-_, _/_}
 use native.Mathlib.Omega.{arith}
 use lib.ListN.{length}
 use borrow.Author.Needs.{needs}
@@ -12,14 +12,14 @@ use Rattle.median.proofs.Laws.{signs-gone}
 use Rattle.median.proofs.median.Statement.{statement}
 use Rattle.median.proofs.median.Tie as tie
 
-sub-select : tie.Need-sub-select
-sub-select c = search needs
+sub-k : tie.Need-sub-k
+sub-k c = search needs
 
 select-requires : tie.Need-select-requires
 select-requires c κs = search needs
 
-select-requires-2 : tie.Need-select-requires-2
-select-requires-2 c κs = search needs
+next-place-requires : tie.Need-next-place-requires
+next-place-requires c κs = search needs
 
 half-requires : tie.Need-half-requires
 half-requires c κs = search needs
@@ -37,8 +37,9 @@ returns c =
     let y = placed l (length l / 2) in
     let good = placed-good l (λ i h. s .shared-slice-known .given i) (s .before .pre .ok) in
     let lower : c .before .before .before .select .result ≡ plusZero x = c .before .before .before .select .ensures in
-    let upper : c .before .before .select2 .result ≡ plusZero y = c .before .before .select2 .ensures in
-    let halved : c .before .half .result ≡ halfOf (c .before .before .before .select .result) (c .before .before .select2 .result) = c .before .half .ensures in
+    let place : length l / 2 - 1 + 1 ≡ length l / 2 = omega arith in
+    let upper : c .before .before .next-place .result ≡ plusZero y = c .before .before .next-place .ensures ∙ ap (λ (k : ℕ). plusZero (placed l k)) place in
+    let halved : c .before .half .result ≡ halfOf (c .before .before .before .select .result) (c .before .before .next-place .result) = c .before .half .ensures in
     c .plus-zero .ensures
     ∙ ap plusZero (halved ∙ rw (lower, upper))
     ∙ signs-gone x y (good (length l / 2 - 1) (omega arith) .held) (good (length l / 2) (omega arith) .held)
@@ -46,10 +47,4 @@ returns c =
 pub median-spec : {M : Type 1} → statement M
 median-spec =
     tie.close
-    (tie.spec
-    sub-select
-    select-requires
-    select-requires-2
-    half-requires
-    plus-zero-requires
-    returns)
+    (tie.spec sub-k select-requires next-place-requires half-requires plus-zero-requires returns)

@@ -9,7 +9,8 @@ use lib.Ieee.{binary64, ofBits, nanBits}
 use borrow.Author.Needs.{needs}
 use borrow.Author.Tests.{lt-ltb, le-ltb, leb-true, leb-false}
 use Rattle.colour.proofs.Zero.{plus-zero-is}
-use Rattle.median.specs.Median.{placed, atMost}
+use Rattle.median.specs.Median.{placed}
+use Rattle.median.specs.Steps.{atMost}
 use Rattle.median.proofs.Pattern.{key, key-back, bits-number, oneBits}
 use Rattle.median.proofs.Places.{placed-good, placed-bound, bits-rank}
 use Rattle.median.proofs.select.Statement.{statement}

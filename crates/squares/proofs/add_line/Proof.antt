@@ -1,6 +1,6 @@
 -- `squares::add_line` meets its contract. The loop's invariant: the numbers before x are done.
 -- Assumes nothing.
-use mathlib.Core.Path.{_≡_, ap, _∙_, sym}
+use mathlib.Core.Path.{ap, _∙_, sym}
 use Prim.Native.Nat.{ℕ, _+_, _-_, _≤_}
 use native.Mathlib.Nat.{le-refl, add-zero}
 use native.Mathlib.Omega.{arith}

@@ -1,12 +1,12 @@
 -- `squares::dilate` meets its contract.
 -- Assumes nothing.
 use mathlib.Core.Path.{_≡_, ap, _∙_}
-use mathlib.Core.List.{List, _++_}
+use mathlib.Core.List.{List}
 use Prim.Native.Nat.{ℕ, _*_, _≤_}
 use native.Mathlib.Omega.{arith}
-use lib.ListN.{length, drop}
+use lib.ListN.{drop}
 use Rattle.plane.specs.Plane.{mostSide}
-use Rattle.squares.specs.Window.{dilatedRows, dilatedColumns, radiusOf, Bits}
+use Rattle.squares.specs.Window.{dilatedColumns, radiusOf}
 use Rattle.squares.proofs.Laws.{larger-least, radius-most}
 use Rattle.squares.proofs.Passes.{between, between-bits, passes-are}
 use borrow.Author.Needs.{needs}

@@ -2,7 +2,6 @@
 -- Assumes nothing.
 use mathlib.Core.Logic.{⊎-elim}
 use native.Mathlib.Omega.{arith}
-use Rattle.squares.specs.Window.{Passed, Both}
 use Rattle.squares.proofs.Passes.{passed}
 use borrow.Author.Needs.{needs}
 use Rattle.squares.proofs.dilate_line.Statement.{statement}

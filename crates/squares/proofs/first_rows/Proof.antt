@@ -8,7 +8,7 @@ use lib.ListN.{length, getD}
 use Rattle.plane.specs.Search.{countBelow}
 use Rattle.plane.proofs.Search.{count-most}
 use Rattle.plane.proofs.Plane.{row-in}
-use Rattle.squares.specs.Window.{Columns, onDown}
+use Rattle.squares.specs.Window.{onDown}
 use Rattle.squares.proofs.Count.{first-window}
 use Rattle.squares.proofs.Passes.{addable, row-counted}
 use Rattle.squares.proofs.first_rows.Statement.{statement}

@@ -1,11 +1,9 @@
 -- `squares::leave_row` meets its contract.
 -- Assumes nothing.
-use mathlib.Core.Path.{_≡_}
-use Prim.Native.Nat.{ℕ, _+_, _*_, _-_, _≤_}
+use Prim.Native.Nat.{_+_, _*_, _-_, _≤_}
 use native.Mathlib.Omega.{arith}
 use lib.ListN.{length}
 use Rattle.plane.proofs.Plane.{row-in}
-use Rattle.squares.specs.Window.{Columns}
 use Rattle.squares.proofs.Passes.{takable, row-left, none-left}
 use borrow.Author.Needs.{needs}
 use Rattle.squares.proofs.leave_row.Statement.{statement}

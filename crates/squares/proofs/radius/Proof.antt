@@ -2,7 +2,6 @@
 -- Assumes nothing.
 use mathlib.Core.Path.{_≡_, sym, ap, _∙_}
 use mathlib.Core.Logic.{⊎-elim}
-use Prim.Native.Nat.{ℕ}
 use native.Mathlib.Omega.{arith}
 use Rattle.squares.specs.Squares.{larger, reach}
 use Rattle.squares.proofs.Laws.{larger-wide, larger-tall, reach-none, reach-some, radius-near, radius-far}

@@ -1,7 +1,7 @@
 -- `squares::sliding` meets its contract. The loop's invariant: the pixels before x are done, and n is the count of x's window.
 -- Assumes nothing.
 use mathlib.Core.Path.{_≡_, refl, sym, _∙_}
-use Prim.Native.Nat.{ℕ, _+_, _-_, _≤_, _<_}
+use Prim.Native.Nat.{_+_, _-_, _≤_, _<_}
 use native.Mathlib.Omega.{arith}
 use lib.ListN.{length, getD}
 use Rattle.plane.specs.Plane.{on, bit}

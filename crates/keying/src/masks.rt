@@ -1,0 +1,94 @@
+// Loops over whole planes: masks of a threshold, masks turned over, weights.
+ghost use mathlib.Core.Path.{_≡_};
+ghost use mathlib.Core.Bool.{Bool, not};
+ghost use Prim.Native.Nat.{ℕ};
+ghost use lib.ListN.{length, getD, replicate};
+ghost use Rattle.plane.specs.Plane.{bit, on};
+ghost use Rattle.plane.specs.Search.{someBelow};
+ghost use Rattle.labels.specs.Labels.{isOn};
+ghost use Rattle.colour.specs.Settings.{onOf};
+ghost use Rattle.outline.specs.Ground.{someOff};
+ghost use Rattle.outline.specs.Growth.{maskOf};
+ghost use Rattle.outline.specs.Cut.{weightsOf};
+ghost use Rattle.keying.specs.Steps.{weightFor};
+
+// Whether some alpha reaches the threshold.
+pub fn some_reach(alpha: &[u8], threshold: i64) -> bool
+    ensures { λ r. ⌜ r ≡ someBelow (length (now (alpha .entry))) (λ (i : ℕ). onOf (getD (now (alpha .entry)) i 0) threshold) ⌝ }
+{
+    let mut found = false;
+    let mut i = 0usize;
+    while i < alpha.len() {
+        found = found | colour::reaches(alpha[i], threshold);
+        i += 1;
+    }
+    found
+}
+
+// Whether some byte is off.
+pub fn some_off(mask: &[u8]) -> bool
+    ensures { λ r. ⌜ r ≡ someOff (now (mask .entry)) (length (now (mask .entry))) ⌝ }
+{
+    let mut found = false;
+    let mut i = 0usize;
+    while i < mask.len() {
+        found = found | (mask[i] == 0);
+        i += 1;
+    }
+    found
+}
+
+// A truth as the byte that is written.
+fn byte(t: bool) -> u8
+    ensures { λ r. ⌜ r ≡ bit t ⌝ }
+{
+    if t { 1 } else { 0 }
+}
+
+// The mask of the alpha that reaches the threshold.
+pub fn reach(alpha: &[u8], threshold: i64, mask: &mut [u8])
+    requires { ⌜ length (now mask) ≡ length (now alpha) ⌝ }
+    ensures { λ _. ⌜ now (mask .exit) ≡ maskOf (length (now (alpha .entry))) (λ (i : ℕ). onOf (getD (now (alpha .entry)) i 0) threshold) ⌝ }
+{
+    let mut i = 0usize;
+    while i < mask.len() {
+        mask[i] = byte(colour::reaches(alpha[i], threshold));
+        i += 1;
+    }
+}
+
+// The mask turned over, in place.
+pub fn turn(mask: &mut [u8])
+    ensures { λ _. ⌜ now (mask .exit) ≡ maskOf (length (now (mask .entry))) (λ (i : ℕ). not (isOn (now (mask .entry)) i)) ⌝ }
+{
+    let mut i = 0usize;
+    while i < mask.len() {
+        mask[i] = byte(mask[i] == 0);
+        i += 1;
+    }
+}
+
+// The weight of a pixel.
+fn weigh(m: u8, alpha: u8) -> f64
+    ensures { λ r. ⌜ r ≡ weightFor m alpha ⌝ }
+{
+    if m == 0 {
+        return 0.0;
+    }
+    if alpha == 0 {
+        return colour::weights::weight(1);
+    }
+    colour::weights::weight(alpha)
+}
+
+// The weights of the plane.
+pub fn weights(mask: &[u8], alpha: &[u8], out: &mut [f64])
+    requires { ⌜ (length (now mask) ≡ length (now out)) × (length (now alpha) ≡ length (now out)) ⌝ }
+    ensures { λ _. ⌜ now (out .exit) ≡ weightsOf (now (mask .entry)) (now (alpha .entry)) (length (now (out .entry))) ⌝ }
+{
+    let mut i = 0usize;
+    while i < out.len() {
+        out[i] = weigh(mask[i], alpha[i]);
+        i += 1;
+    }
+}

@@ -1,0 +1,194 @@
+-- Laws of masks: what is on, by index and by row and column, and what is within k of it.
+-- Assumes nothing.
+use mathlib.Core.Path.{_≡_, refl, sym, ap, _∙_}
+use mathlib.Core.Bool.{Bool, true, false, not, _&&_, _||_}
+use mathlib.Core.List.{List}
+use mathlib.Core.Logic.{_⊎_, inl, inr, ⊎-elim}
+use Prim.Native.Nat.{ℕ, _+_, _*_, _/_, _%_, _≤_, _<_}
+use native.Mathlib.Omega.{arith}
+use lib.Dec.{eqb}
+use lib.ListN.{length, getD}
+use borrow.Author.Tests.{eqb-true}
+use Rattle.plane.specs.Plane.{on, bit, onAt, apart, table}
+use Rattle.plane.proofs.Plane.{table-length, table-at, table-is, pixel-in, row-of, column-of, index-of}
+use Rattle.plane.proofs.Search.{which, either, not-both}
+use Rattle.plane.proofs.Refusal.{and-true}
+use Rattle.labels.specs.Labels.{isOn, beside}
+use Rattle.labels.proofs.Joined.{on-inside}
+use Rattle.labels.proofs.Steps.{row-is, column-is}
+use Rattle.squares.specs.Squares.{inSquare}
+use Rattle.squares.proofs.Laws.{same-test, Site, square-found, square-is, on-bit, apart-sum}
+use Rattle.outline.specs.Growth.{nearGround, maskOf}
+
+-- ---- tests
+
+pub not-is : (t : Bool) → t ≡ false → not t ≡ true
+not-is t e = rw e
+
+pub is-not : (t : Bool) → t ≡ true → not t ≡ false
+is-not t e = rw e
+
+pub or-left : (s t : Bool) → s ≡ true → s || t ≡ true
+or-left s t e = rw e
+
+pub or-right : (s t : Bool) → t ≡ true → s || t ≡ true
+or-right true t e = refl
+or-right false t e = e
+
+pub or-cases : (s t : Bool) → s || t ≡ true → (s ≡ true) ⊎ (t ≡ true)
+or-cases true t e = inl refl
+or-cases false t e = inr e
+
+-- what is not false is true
+pub true-if : (t : Bool) → (t ≡ false → ⊥) → t ≡ true
+true-if true h = refl
+true-if false h = absurd (h refl)
+
+-- two conjunctions are equal where the first parts are, and the second parts are wherever the first hold
+pub and-same : (s t a b : Bool) → s ≡ t → (s ≡ true → a ≡ b) → s && a ≡ t && b
+and-same s t a b e h = rw (sym e) (go s h)
+  where
+    go : (r : Bool) → (r ≡ true → a ≡ b) → r && a ≡ r && b
+    go true g = g refl
+    go false g = refl
+
+-- ---- tables and masks
+
+-- tables of equal elements are equal
+pub table-same : {A : Type 0} (f g : ℕ → A) (n : ℕ) (d : A) → ((i : ℕ) → i < n → f i ≡ g i) → table f 0 n ≡ table g 0 n
+table-same f g n d h = table-is g n (table f 0 n) d (table-length f 0 n) (λ i l. table-at f n i d l ∙ h i l)
+
+module _ (n : ℕ) (p : ℕ → Bool) where
+  pub mask-length : length (maskOf n p) ≡ n
+  unfolding maskOf
+  mask-length = table-length (λ (i : ℕ). bit (p i)) 0 n
+
+  -- a mask holds 0 and 1 only
+  pub mask-at : (i : ℕ) → i < n → getD (maskOf n p) i 0 ≡ bit (p i)
+  unfolding maskOf
+  mask-at i l = table-at (λ (k : ℕ). bit (p k)) n i 0 l
+
+  -- the pixels that are on are those of which p holds
+  pub mask-on : (i : ℕ) → i < n → isOn (maskOf n p) i ≡ p i
+  unfolding isOn
+  mask-on i l = ap on (mask-at i l) ∙ on-bit (p i)
+
+  -- and they lie in the plane
+  pub mask-inside : (i : ℕ) → isOn (maskOf n p) i ≡ true → i < n
+  mask-inside i e = omega (arith, on-inside (maskOf n p) i e, mask-length)
+
+  -- so a pixel that is on is one of which p holds
+  pub mask-holds : (i : ℕ) → isOn (maskOf n p) i ≡ true → p i ≡ true
+  mask-holds i e = sym (mask-on i (mask-inside i e)) ∙ e
+
+-- masks of equal tests are equal
+pub mask-same : (n : ℕ) (p q : ℕ → Bool) → ((i : ℕ) → i < n → p i ≡ q i) → maskOf n p ≡ maskOf n q
+unfolding maskOf
+mask-same n p q h = table-same (λ (i : ℕ). bit (p i)) (λ (i : ℕ). bit (q i)) n 0 (λ i l. ap bit (h i l))
+
+-- a mask made from a mask's pixels is that mask
+pub mask-again : (n : ℕ) (p : ℕ → Bool) → maskOf n (isOn (maskOf n p)) ≡ maskOf n p
+mask-again n p = mask-same n (isOn (maskOf n p)) p (mask-on n p)
+
+-- ---- by index, and by row and column
+
+pub index-on : (mask : List ℕ) (w i : ℕ) → onAt mask w (i / w) (i % w) ≡ isOn mask i
+unfolding onAt isOn
+index-on mask w i = rw (index-of i w)
+
+pub row-on : (mask : List ℕ) (w y x : ℕ) → onAt mask w y x ≡ isOn mask (y * w + x)
+unfolding onAt isOn
+row-on mask w y x = refl
+
+-- masks with the same pixels on, by index, have them on by row and column
+pub rows-alike : (a b : List ℕ) (h w : ℕ) → ((i : ℕ) → i < h * w → isOn a i ≡ isOn b i) → (y x : ℕ) → y < h → x < w → onAt a w y x ≡ onAt b w y x
+rows-alike a b h w e y x r c = row-on a w y x ∙ e (y * w + x) (pixel-in y x h w r c) ∙ sym (row-on b w y x)
+
+-- ---- within k of an on-pixel
+
+-- an on-pixel within k of pixel i
+pub record Within (mask : List ℕ) (h w k i : ℕ) : Type 0 where
+  pub site : ℕ
+  pub inside : site < h * w
+  pub lit : isOn mask site ≡ true
+  pub rows : apart (i / w) (site / w) ≤ k
+  pub columns : apart (i % w) (site % w) ≤ k
+
+module _ {mask : List ℕ} {h w k i : ℕ} where
+  pub near-found : nearGround mask h w k i ≡ true → Within mask h w k i
+  unfolding nearGround
+  near-found e =
+      let s : Site mask h w k (i / w) (i % w) = square-found e in
+      let c : s .column < w = s .column-in in
+      let r : (s .row * w + s .column) / w ≡ s .row = row-is (s .row) (s .column) w c in
+      let q : (s .row * w + s .column) % w ≡ s .column = column-is (s .row) (s .column) w c in
+      record {
+        site = s .row * w + s .column;
+        inside = pixel-in (s .row) (s .column) h w (s .row-in) c;
+        lit = sym (row-on mask w (s .row) (s .column)) ∙ s .lit;
+        rows = rw r (s .rows);
+        columns = rw q (s .columns);
+      }
+
+  pub near-is : 0 < w → Within mask h w k i → nearGround mask h w k i ≡ true
+  unfolding nearGround
+  near-is z s =
+      square-is (record {
+        row = s .site / w;
+        column = s .site % w;
+        row-in = row-of (s .site) h w z (s .inside);
+        column-in = column-of (s .site) w z;
+        lit = index-on mask w (s .site) ∙ s .lit;
+        rows = s .rows;
+        columns = s .columns;
+      })
+
+-- pixel j is within k of pixel i
+pub record Nigh (w k i j : ℕ) : Type 0 where
+  pub rows : apart (i / w) (j / w) ≤ k
+  pub columns : apart (i % w) (j % w) ≤ k
+
+pub nigh-self : (w i : ℕ) → Nigh w 0 i i
+unfolding apart
+nigh-self w i = record { rows = omega arith; columns = omega arith }
+
+-- one step up, down, left or right
+pub nigh-beside : (w i j : ℕ) → beside w i j ≡ true → Nigh w 1 j i
+unfolding beside apart
+nigh-beside w i j e =
+    let q = eqb-true (apart (i / w) (j / w) + apart (i % w) (j % w)) 1 e in
+    record { rows = omega arith; columns = omega arith }
+
+module _ {mask : List ℕ} {h w : ℕ} where
+  -- what is within a of a pixel that is within b of the mask is within a + b of the mask
+  pub within-sum : {a b i j : ℕ} → Nigh w a i j → Within mask h w b j → Within mask h w (a + b) i
+  within-sum {a} {b} {i} {j} n s = record {
+    site = s .site;
+    inside = s .inside;
+    lit = s .lit;
+    rows = apart-sum (i / w) (j / w) (s .site / w) a b (n .rows) (s .rows);
+    columns = apart-sum (i % w) (j % w) (s .site % w) a b (n .columns) (s .columns);
+  }
+
+  -- an on-pixel is within 0 of the mask
+  pub within-self : {i : ℕ} → i < h * w → isOn mask i ≡ true → Within mask h w 0 i
+  unfolding apart
+  within-self {i} l e = record { site = i; inside = l; lit = e; rows = omega arith; columns = omega arith }
+
+  pub within-more : {a b i : ℕ} → a ≤ b → Within mask h w a i → Within mask h w b i
+  within-more l s = record { site = s .site; inside = s .inside; lit = s .lit; rows = omega (arith, s .rows); columns = omega (arith, s .columns) }
+
+-- within k of a mask of which each pixel is within m of another: within k + m of that other
+pub within-within : {mask other : List ℕ} {h w k m i : ℕ} → ((j : ℕ) → isOn mask j ≡ true → Within other h w m j) → Within mask h w k i → Within other h w (k + m) i
+within-within f s = within-sum (record { rows = s .rows; columns = s .columns }) (f (s .site) (s .lit))
+
+-- masks with the same pixels on have the same pixels near
+pub near-same : (a b : List ℕ) (h w : ℕ) → 0 < w → ((i : ℕ) → i < h * w → isOn a i ≡ isOn b i) → (k i : ℕ) → nearGround a h w k i ≡ nearGround b h w k i
+near-same a b h w z e k i =
+    same-test (nearGround a h w k i) (nearGround b h w k i)
+    (λ t. (
+    let s : Within a h w k i = near-found t in
+    near-is z (record { site = s .site; inside = s .inside; lit = sym (e (s .site) (s .inside)) ∙ s .lit; rows = s .rows; columns = s .columns })))
+    (λ t. (
+    let s : Within b h w k i = near-found t in
+    near-is z (record { site = s .site; inside = s .inside; lit = e (s .site) (s .inside) ∙ s .lit; rows = s .rows; columns = s .columns })))
