@@ -8,15 +8,14 @@ use mathlib.Core.List.{List}
 use lib.Dec.{eqb, ltb}
 use lib.Ieee.{Float}
 use lib.ListN.{length, getD}
-use Rattle.plane.specs.Plane.{Sides, on, bit, table, planeOf}
+use Rattle.plane.specs.Plane.{Sides, bit, table}
 use Rattle.plane.specs.Search.{someBelow}
 use Rattle.labels.specs.Labels.{isOn}
-use Rattle.nearest.specs.Nearest.{nearest}
 use Rattle.colour.specs.declared.Rgb.{Rgb}
 use Rattle.colour.specs.Colour.{differenceOf}
 use Rattle.colour.specs.Join.{joinsOf}
 use Rattle.outline.specs.Border.{colourAt}
-use Rattle.outline.specs.Growth.{isEdge, isShallow, isDeep, maskOf, indexOf, bodyFrom}
+use Rattle.outline.specs.Growth.{isEdge, isShallow, isDeep, maskOf, bodyFrom}
 use Rattle.growth.specs.Window.{nearPixel}
 
 -- the mask with on and off exchanged
@@ -49,10 +48,6 @@ unfoldable pub lastMark : List Float → Rgb → List ℕ → List ℕ → ℕ �
 lastMark colours reference near marks i =
     cond (eqb (getD marks i 0) waits) (bit (joinsWith colours reference (getD near i 0) i)) (getD marks i 0)
 
--- the indices of the nearest on-pixels
-unfoldable pub indicesPlane : List ℕ → ℕ → ℕ → List ℕ
-indicesPlane mask h w = planeOf h w (λ (y x : ℕ). indexOf w (nearest mask h w y x))
-
 -- a picture with its sides
 pub record Picture (colours : List Float) (h w : ℕ) : Type 0 where
   pub sides : Sides h w
@@ -73,6 +68,14 @@ pub record Indexed (colours : List Float) (near marks : List ℕ) : Type 0 where
 -- the mark after both: the marked pixels that join
 unfoldable pub decidedMark : List Float → Rgb → List ℕ → List ℕ → ℕ → ℕ → List ℕ → ℕ → ℕ
 decidedMark colours reference deep shallow h w marks i = cond (isOn marks i) (bit (joinsWith colours reference (bodyFrom deep shallow h w i) i)) 0
+
+-- what the decision is given: a picture, its shallow plane and its deep plane, and planes of its size
+pub record Decides (colours : List Float) (h w : ℕ) (shallow deep near marks : List ℕ) : Type 0 where
+  pub picture : Picture colours h w
+  pub shallow-long : length shallow ≡ h * w
+  pub deep-long : length deep ≡ h * w
+  pub near-long : length near ≡ h * w
+  pub marks-long : length marks ≡ h * w
 
 -- planes to work in, each of the picture's size
 pub record Planes (h w : ℕ) (near first second third back : List ℕ) : Type 0 where

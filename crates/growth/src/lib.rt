@@ -1,7 +1,7 @@
 // Growth (the core of unmix_fringe): passes that move the background into the object's anti-aliased rim.
 ghost use mathlib.Core.Path.{_≡_};
 ghost use mathlib.Core.Bool.{Bool, cond, not, _&&_, _||_};
-ghost use Prim.Native.Nat.{ℕ, _+_, _*_, _<_, _≤_, _/_, _%_};
+ghost use Prim.Native.Nat.{ℕ, _+_, _*_, _-_, _<_, _≤_};
 ghost use lib.Dec.{eqb};
 ghost use lib.ListN.{length, getD};
 ghost use Rattle.plane.specs.Plane.{Sides, on, bit, table};
@@ -10,7 +10,7 @@ ghost use Rattle.labels.specs.Labels.{isOn};
 ghost use Rattle.outline.specs.Border.{colourAt};
 ghost use Rattle.outline.specs.Growth.{isShallow, isDeep, maskOf, isJoining, passOf, growthOf};
 ghost use Rattle.growth.specs.Window.{nearPixel, upOn, downOn, levelOn, Inside, Gap, Searched};
-ghost use Rattle.growth.specs.Marks.{complementOf, joinsWith, edgeMark, nearMark, waits, searchMark, lastMark, decidedMark, Picture, Searches, Indexed, Planes, Laid, Room};
+ghost use Rattle.growth.specs.Marks.{complementOf, joinsWith, edgeMark, nearMark, waits, searchMark, lastMark, decidedMark, Picture, Searches, Indexed, Decides, Planes, Laid, Room};
 
 // The mark of a pixel that waits for its nearest shallow pixel.
 const WAITS: u8 = 2;
@@ -341,4 +341,114 @@ fn tidy(back: &mut [u8])
         back[i] = byte(back[i] != 0);
         i += 1;
     }
+}
+
+// The marks of the pixels that join, from the edge pixels.
+fn decide(
+    colours: &[f64],
+    h: usize,
+    w: usize,
+    reference: colour::Rgb,
+    shallow: &[u8],
+    deep: &[u8],
+    near: &mut [u32],
+    marks: &mut [u8],
+)
+    requires { ⌜ Decides (now colours) h w (now shallow) (now deep) (now near) (now marks) ⌝ }
+    ensures { λ _. ⌜ now (marks .exit) ≡ table (decidedMark (now (colours .entry)) reference (now (deep .entry)) (now (shallow .entry)) h w (now (marks .entry))) 0 (h * w) ⌝ }
+{
+    let some = any(deep);
+    let waiting = search(colours, h, w, reference, deep, some, marks);
+    if !waiting {
+        return;
+    }
+    nearest::nearest_indices(shallow, h, w, near);
+    decide_waiting(colours, reference, near, marks);
+}
+
+// One pass; whether a pixel joined.
+fn pass(
+    colours: &[f64],
+    h: usize,
+    w: usize,
+    reference: colour::Rgb,
+    near: &mut [u32],
+    first: &mut [u8],
+    second: &mut [u8],
+    third: &mut [u8],
+    back: &mut [u8],
+) -> bool
+    requires { ⌜ Picture (now colours) h w ⌝ }
+    requires { ⌜ Planes h w (now near) (now first) (now second) (now third) (now back) ⌝ }
+    ensures { λ _. ⌜ now (back .exit) ≡ passOf (now (colours .entry)) reference (now (back .entry)) h w ⌝ }
+    ensures { λ r. ⌜ r ≡ someBelow (h * w) (isJoining (now (colours .entry)) reference (now (back .entry)) h w) ⌝ }
+{
+    lay(back, h, w, first, second, third);
+    decide(colours, h, w, reference, first, second, near, third);
+    settle(third, back)
+}
+
+// The passes that are left after a pass: none where no pixel joined.
+fn rest(joined: bool, left: u64) -> u64
+    requires { ⌜ 0 < left ⌝ }
+    ensures { λ r. ⌜ r ≡ cond joined (left - 1) 0 ⌝ }
+{
+    if joined { left - 1 } else { 0 }
+}
+
+// At most `passes` passes, in planes of the picture's size.
+fn run(
+    colours: &[f64],
+    h: usize,
+    w: usize,
+    reference: colour::Rgb,
+    passes: u64,
+    near: &mut [u32],
+    first: &mut [u8],
+    second: &mut [u8],
+    third: &mut [u8],
+    back: &mut [u8],
+)
+    requires { ⌜ Picture (now colours) h w ⌝ }
+    requires { ⌜ Planes h w (now near) (now first) (now second) (now third) (now back) ⌝ }
+    ensures { λ _. ⌜ now (back .exit) ≡ growthOf (now (colours .entry)) reference h w passes (now (back .entry)) ⌝ }
+{
+    let mut left = passes;
+    while 0 < left {
+        let joined = pass(colours, h, w, reference, near, first, second, third, back);
+        left = rest(joined, left);
+    }
+    tidy(back);
+}
+
+// Growth: the background takes in the object's rim, in at most `passes` passes; a pass without a join is the last.
+// The output is 0 and 1 whatever non-zero bytes came in; near, first, second and third are work space.
+pub fn grow(
+    colours: &[f64],
+    h: usize,
+    w: usize,
+    reference: colour::Rgb,
+    passes: u64,
+    near: &mut [u32],
+    first: &mut [u8],
+    second: &mut [u8],
+    third: &mut [u8],
+    back: &mut [u8],
+)
+    requires { ⌜ Room (now colours) h w (now near) (now first) (now second) (now third) (now back) ⌝ }
+    ensures { λ _. ⌜ now (back .exit) ≡ growthOf (now (colours .entry)) reference h w passes (now (back .entry)) ⌝ }
+{
+    let n = back.len();
+    run(
+        colours,
+        h,
+        w,
+        reference,
+        passes,
+        &mut near[0..n],
+        &mut first[0..n],
+        &mut second[0..n],
+        &mut third[0..n],
+        back,
+    );
 }

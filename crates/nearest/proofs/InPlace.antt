@@ -3,10 +3,10 @@
 use mathlib.Core.Path.{_≡_, sym, ap, _∙_, subst}
 use mathlib.Core.List.{List}
 use mathlib.Core.Logic.{⊎-elim}
-use Prim.Native.Nat.{ℕ, _+_, _*_, _≤_, _<_}
+use Prim.Native.Nat.{ℕ, _+_, _*_, _-_, _≤_, _<_}
 use native.Mathlib.Omega.{arith}
-use lib.ListN.{length, getD, set, replicate, length-replicate, getD-replicate}
-use lib.Seq.{getD-set-other}
+use lib.ListN.{length, getD, set, take, replicate, length-take, length-replicate, getD-replicate}
+use lib.Seq.{getD-set-other, getD-take}
 use Rattle.plane.specs.Plane.{table}
 use Rattle.plane.proofs.Search.{which}
 use Rattle.line.proofs.Part.{put, put-inside, put-before, put-behind}
