@@ -2,3 +2,4 @@ pub mod Bytes
 pub mod Searching
 pub mod Laying
 pub mod Marks
+pub mod Passes

@@ -127,10 +127,10 @@ module _ (colours : List Float) (reference : Rgb) (deep shallow : List ℕ) (h w
     -- where none waits all are decided
     pub decided-all : someBelow (h * w) (λ (i : ℕ). eqb (searchMark colours reference deep h w marks i) waits) ≡ false
         → table (searchMark colours reference deep h w marks) 0 (h * w) ≡ table (decidedMark colours reference deep shallow h w marks) 0 (h * w)
-    decided-all none =
+    decided-all settled =
         table-same (searchMark colours reference deep h w marks) (decidedMark colours reference deep shallow h w marks) (h * w) 0
         (λ i l.
-        let q = none-found (λ (k : ℕ). eqb (searchMark colours reference deep h w marks k) waits) (h * w) none i l in
+        let q = none-found (λ (k : ℕ). eqb (searchMark colours reference deep h w marks k) waits) (h * w) settled i l in
         let z = last-is i (searchMark colours reference deep h w marks i) (indexOf w (nearest shallow h w (i / w) (i % w))) l refl refl in
         rw q at z)
 

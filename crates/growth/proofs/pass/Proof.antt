@@ -1,47 +1,53 @@
+-- `growth::pass` meets its contract.
+-- Assumes nothing.
+use mathlib.Core.Path.{_≡_, _∙_}
+use mathlib.Core.List.{List}
+use Prim.Native.Nat.{ℕ}
+use Rattle.growth.specs.Marks.{Laid}
+use Rattle.growth.proofs.Marks.{joins-some, joins-pass}
 use borrow.Author.Needs.{needs}
 use Rattle.growth.proofs.pass.Statement.{statement}
 use Rattle.growth.proofs.pass.Tie as tie
-use Rattle.growth.proofs.pass.Reads as reads
-use Rattle.growth.proofs.pass.Lts as lts
-use Rattle.growth.proofs.decide.Reads as decide-reads
-use Rattle.growth.proofs.lay.Reads as lay-reads
-use Rattle.growth.proofs.settle.Reads as settle-reads
 
--- src/lib.rt:386:5
 lay-requires : tie.Need-lay-requires
 lay-requires c κs = search needs
 
--- src/lib.rt:387:5
 decide-requires : tie.Need-decide-requires
 decide-requires c κs = search needs
 
--- src/lib.rt:388:5
 settle-requires : tie.Need-settle-requires
 settle-requires c κs = search needs
 
--- src/lib.rt:370:1
 same-length : tie.Need-same-length
 same-length c = search needs
 
--- src/lib.rt:370:1
 same-length-2 : tie.Need-same-length-2
 same-length-2 c = search needs
 
--- src/lib.rt:370:1
 same-length-3 : tie.Need-same-length-3
 same-length-3 c = search needs
 
--- src/lib.rt:370:1
 same-length-4 : tie.Need-same-length-4
 same-length-4 c = search needs
 
--- src/lib.rt:370:1
 same-length-5 : tie.Need-same-length-5
 same-length-5 c = search needs
 
--- src/lib.rt:370:1
 returns : tie.Need-returns
-returns c = ?
+returns c =
+    let o = c .before .before .before .before .before .before .before .before .before .before .before .before .before .before .before .before .before .before .before .before .before .before .before .before .before .before .before .before .before .before .before in
+    let a = o .args in
+    let first : List ℕ = c .before .before .before .before .before .before .before .before .before .before .before .before .before .before .before .before .before .before .before .before .lay .last .1 .1 .1 .0 in
+    let second : List ℕ = c .before .before .before .before .before .before .before .before .before .before .before .before .before .before .before .before .before .before .before .before .lay .last .1 .1 .1 .1 .0 in
+    let third : List ℕ = c .before .before .before .before .before .before .before .before .before .before .before .before .before .before .before .before .before .before .before .before .lay .last .1 .1 .1 .1 .1 .0 in
+    let laid : Laid (a .back .now) (a .h) (a .w) first second third = c .before .before .before .before .before .before .before .before .before .before .before .before .before .before .before .before .before .before .before .before .lay .ensures in
+    let marks : List ℕ = c .before .before .before .before .before .before .before .before .before .decide .last .1 .1 .1 .1 .1 .1 .1 .0 in
+    let long = o .pre .1 .back-long in (
+      c .before .before .settle .ensures .0
+          ∙ joins-pass (a .colours .now) (a .reference) (a .back .now) (a .h) (a .w) first second third (laid .shallow) (laid .deep) (laid .edge) marks (c .before .before .before .before .before .before .before .before .before .decide .ensures) _ long,
+      c .before .before .settle .ensures .1
+          ∙ joins-some (a .colours .now) (a .reference) (a .back .now) (a .h) (a .w) first second third (laid .shallow) (laid .deep) (laid .edge) marks (c .before .before .before .before .before .before .before .before .before .decide .ensures) _ long,
+    )
 
 pub pass-spec : {M : Type 1} → statement M
 pass-spec =
