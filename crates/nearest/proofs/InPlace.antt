@@ -3,10 +3,10 @@
 use mathlib.Core.Path.{_≡_, sym, ap, _∙_, subst}
 use mathlib.Core.List.{List}
 use mathlib.Core.Logic.{⊎-elim}
-use Prim.Native.Nat.{ℕ, _+_, _*_, _≤_, _<_}
+use Prim.Native.Nat.{ℕ, _+_, _*_, _-_, _≤_, _<_}
 use native.Mathlib.Omega.{arith}
-use lib.ListN.{length, getD, set}
-use lib.Seq.{getD-set-other}
+use lib.ListN.{length, getD, set, take, replicate, length-take, length-replicate, getD-replicate}
+use lib.Seq.{getD-set-other, getD-take}
 use Rattle.plane.specs.Plane.{table}
 use Rattle.plane.proofs.Search.{which}
 use Rattle.line.proofs.Part.{put, put-inside, put-before, put-behind}
@@ -19,6 +19,14 @@ untouched d old l i v h k g = getD-set-other l i k v d (λ e. omega arith) ∙ h
 -- tables of equal functions are equal
 pub table-same : {A : Type 0} (f g : ℕ → A) (n : ℕ) (d : A) → ((k : ℕ) → k < n → f k ≡ g k) → table f 0 n ≡ table g 0 n
 table-same f g n d h = table-is g n (table f 0 n) d (table-length f 0 n) (λ k l. table-at f n k d l ∙ h k l)
+
+-- the front of a line that holds one number throughout
+pub cut-long : (w n v : ℕ) → w ≤ n → length (take (w - 0) (replicate n v)) ≡ w
+cut-long w n v l = simp (length-take, length-replicate) (omega arith)
+
+pub cut-is : (w n v : ℕ) → w ≤ n → take (w - 0) (replicate n v) ≡ table (λ (x : ℕ). v) 0 w
+cut-is w n v l =
+    table-is (λ (x : ℕ). v) w (take (w - 0) (replicate n v)) 0 (cut-long w n v l) (λ k g. getD-take (w - 0) (replicate n v) k 0 (omega arith) ∙ getD-replicate n k v 0 (omega arith))
 
 module _ {A : Type 0} (d : A) (h w y k : ℕ) (l row : List A) (inside : y < h) (long : length l ≡ h * w) (wide : k ≡ w) (row-long : length row ≡ w) where
   fits : y * w + k ≤ length l

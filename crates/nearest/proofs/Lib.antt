@@ -3,3 +3,4 @@ pub mod InPlace
 pub mod Sweep
 pub mod Stages
 pub mod Laws
+pub mod Indexing

@@ -8,6 +8,7 @@ ghost use lib.ListN.{length, getD};
 ghost use Rattle.plane.specs.Plane.{Sides, on, table, planeOf};
 ghost use Rattle.line.specs.Line.{mostLength, lineOf};
 ghost use Rattle.nearest.specs.Nearest.{rowsPlane, columnsPlane};
+ghost use Rattle.nearest.specs.Indices.{indicesPlane, nearerCodes, indexAt, indicesLine, indicesOf, IndexRoom, IndexLines};
 ghost use Rattle.nearest.specs.Stages.{noRow, Room, Lines, RowRoom, Low, belowAt, ownOr, codeOf, nearer, nearerLine, squareCost, costsLine, rowAt, columnAt, rowsLine, columnsLine, rowsOf, columnsOf};
 
 // Stands for the row of a column that has no on-pixel.
@@ -263,5 +264,165 @@ pub fn nearest_planes(mask: &[u8], h: usize, w: usize, rows: &mut [i32], cols: &
         &mut places[0..w],
         rows,
         cols,
+    );
+}
+
+// The line as a row of the plane of indices.
+fn keep_line(near: &[u32], out: &mut [u32])
+    requires { ⌜ length (now out) ≡ length (now near) ⌝ }
+    ensures { λ _. ⌜ now (out .exit) ≡ now (near .entry) ⌝ }
+{
+    let mut x = 0usize;
+    while x < near.len() {
+        out[x] = near[x];
+        x += 1;
+    }
+}
+
+// The first sweep, stored in the plane of indices.
+fn below_codes(mask: &[u8], h: usize, w: usize, near: &mut [u32], out: &mut [u32])
+    requires { ⌜ IndexRoom h w (now mask) (now out) ⌝ }
+    requires { ⌜ now near ≡ table (λ (x : ℕ). noRow) 0 w ⌝ }
+    ensures { λ _. ⌜ now (near .exit) ≡ table (belowAt (now (mask .entry)) h w 0) 0 w ⌝ }
+    ensures { λ _. ⌜ now (out .exit) ≡ planeOf h w (belowAt (now (mask .entry)) h w) ⌝ }
+{
+    let mut y = h;
+    while 0 < y {
+        let row = y - 1;
+        let a = row * w;
+        let e = a + w;
+        below_line(&mask[a..e], row as u32, near);
+        keep_line(near, &mut out[a..e]);
+        y = row;
+    }
+}
+
+// For each column the nearest on-row of row y, from the stored line.
+fn nearer_codes(y: u32, codes: &[u32], near: &mut [u32])
+    requires { ⌜ length (now codes) ≡ length (now near) ⌝ }
+    requires { ⌜ y < mostLength ⌝ }
+    requires { ⌜ Low (now codes) ⌝ }
+    requires { ⌜ Low (now near) ⌝ }
+    ensures { λ _. ⌜ now (near .exit) ≡ nearerCodes y (now (codes .entry)) (now (near .entry)) ⌝ }
+{
+    let mut x = 0usize;
+    while x < near.len() {
+        let b = near[x];
+        near[x] = nearer_row(y, codes[x], b);
+        x += 1;
+    }
+}
+
+// The index of column i's on-pixel; 0 where there is no such column.
+fn index_at(near: &[u32], h: u32, n: u32, i: u32) -> u32
+    requires { ⌜ Sides h n ⌝ }
+    requires { ⌜ n ≡ length (now near) ⌝ }
+    ensures { λ r. ⌜ r ≡ indexAt (now (near .entry)) h i ⌝ }
+{
+    if n <= i {
+        return 0;
+    }
+    let r = near[wide(i)];
+    if h <= r {
+        return 0;
+    }
+    r * n + i
+}
+
+// The index of the chosen column's on-pixel of each place.
+fn indices_line(near: &[u32], places: &[u32], h: u32, out: &mut [u32])
+    requires { ⌜ Sides h (length (now near)) ⌝ }
+    requires { ⌜ length (now places) ≡ length (now near) ⌝ }
+    requires { ⌜ length (now out) ≡ length (now near) ⌝ }
+    ensures { λ _. ⌜ now (out .exit) ≡ indicesLine (now (near .entry)) (now (places .entry)) h ⌝ }
+{
+    let n = near.len() as u32;
+    let mut x = 0usize;
+    while x < near.len() {
+        out[x] = index_at(near, h, n, places[x]);
+        x += 1;
+    }
+}
+
+// Row y of the plane of indices: near goes on from the row above to row y, and out holds the first on-rows at or below.
+fn index_pass(
+    y: u32,
+    h: u32,
+    near: &mut [u32],
+    costs: &mut [u64],
+    s: &mut [u32],
+    t: &mut [u32],
+    places: &mut [u32],
+    out: &mut [u32],
+)
+    requires { ⌜ IndexLines h (now near) (now costs) (now s) (now t) (now places) (now out) ⌝ }
+    requires { ⌜ y < h ⌝ }
+    requires { ⌜ Low (now near) ⌝ }
+    requires { ⌜ Low (now out) ⌝ }
+    ensures { λ _. ⌜ now (near .exit) ≡ nearerCodes y (now (out .entry)) (now (near .entry)) ⌝ }
+    ensures { λ _. ⌜ now (out .exit) ≡ indicesOf y (nearerCodes y (now (out .entry)) (now (near .entry))) h ⌝ }
+{
+    nearer_codes(y, out, near);
+    costs_line(y, near, costs);
+    line::line(costs, s, t, places);
+    indices_line(near, places, h, out);
+}
+
+// The plane of indices, in lines of w numbers to work in; near holds no row at first.
+fn indices(
+    mask: &[u8],
+    h: usize,
+    w: usize,
+    near: &mut [u32],
+    costs: &mut [u64],
+    s: &mut [u32],
+    t: &mut [u32],
+    places: &mut [u32],
+    out: &mut [u32],
+)
+    requires { ⌜ IndexRoom h w (now mask) (now out) ⌝ }
+    requires { ⌜ Lines w (now near) (now costs) (now s) (now t) (now places) ⌝ }
+    requires { ⌜ now near ≡ table (λ (x : ℕ). noRow) 0 w ⌝ }
+    ensures { λ _. ⌜ now (out .exit) ≡ indicesPlane (now (mask .entry)) h w ⌝ }
+{
+    below_codes(mask, h, w, near, out);
+    let mut y = 0usize;
+    while y < h {
+        let a = y * w;
+        let e = a + w;
+        index_pass(
+            y as u32,
+            h as u32,
+            near,
+            costs,
+            s,
+            t,
+            places,
+            &mut out[a..e],
+        );
+        y += 1;
+    }
+}
+
+// The index of the nearest on-pixel of each pixel; 0 where nothing is on.
+pub fn nearest_indices(mask: &[u8], h: usize, w: usize, out: &mut [u32])
+    requires { ⌜ IndexRoom h w (now mask) (now out) ⌝ }
+    ensures { λ _. ⌜ now (out .exit) ≡ indicesPlane (now (mask .entry)) h w ⌝ }
+{
+    let mut near = [NO_ROW; plane::MOST_SIDE];
+    let mut costs = [0u64; plane::MOST_SIDE];
+    let mut s = [0u32; plane::MOST_SIDE];
+    let mut t = [0u32; plane::MOST_SIDE];
+    let mut places = [0u32; plane::MOST_SIDE];
+    indices(
+        mask,
+        h,
+        w,
+        &mut near[0..w],
+        &mut costs[0..w],
+        &mut s[0..w],
+        &mut t[0..w],
+        &mut places[0..w],
+        out,
     );
 }

@@ -1,24 +1,11 @@
 -- `nearest::nearest_planes` meets its contract.
 -- Assumes nothing.
-use mathlib.Core.Path.{_≡_, _∙_}
-use Prim.Native.Nat.{ℕ, _-_, _≤_}
-use native.Mathlib.Omega.{arith}
-use lib.ListN.{length, take, replicate, length-take, length-replicate, getD-replicate}
-use lib.Seq.{getD-take}
-use Rattle.plane.specs.Plane.{mostSide, table}
-use Rattle.plane.proofs.Plane.{table-is}
+use Rattle.plane.specs.Plane.{mostSide}
 use Rattle.nearest.specs.Stages.{noRow}
+use Rattle.nearest.proofs.InPlace.{cut-long, cut-is}
 use borrow.Author.Needs.{needs}
 use Rattle.nearest.proofs.nearest_planes.Statement.{statement}
 use Rattle.nearest.proofs.nearest_planes.Tie as tie
-
--- the front of a line that holds one number throughout
-cut-long : (w n v : ℕ) → w ≤ n → length (take (w - 0) (replicate n v)) ≡ w
-cut-long w n v l = simp (length-take, length-replicate) (omega arith)
-
-cut-is : (w n v : ℕ) → w ≤ n → take (w - 0) (replicate n v) ≡ table (λ (x : ℕ). v) 0 w
-cut-is w n v l =
-    table-is (λ (x : ℕ). v) w (take (w - 0) (replicate n v)) 0 (cut-long w n v l) (λ k g. getD-take (w - 0) (replicate n v) k 0 (omega arith) ∙ getD-replicate n k v 0 (omega arith))
 
 sub-planes : tie.Need-sub-planes
 sub-planes c = search needs

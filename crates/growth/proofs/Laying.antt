@@ -1,0 +1,112 @@
+-- The shallow plane, the deep plane and the edge marks, from the dilations of the background.
+-- Assumes nothing.
+use mathlib.Core.Path.{_≡_, refl, sym, ap, _∙_}
+use mathlib.Core.Bool.{Bool, true, false, not, _&&_}
+use mathlib.Core.List.{List}
+use mathlib.Core.Logic.{⊎-elim}
+use Prim.Native.Nat.{ℕ, _+_, _*_, _≤_, _<_, _/_, _%_}
+use native.Mathlib.Omega.{arith}
+use lib.ListN.{length, getD}
+use Rattle.plane.specs.Plane.{on, bit, onAt, apart, table, planeOf}
+use Rattle.plane.specs.Search.{someBelow}
+use Rattle.plane.proofs.Search.{either, some-same}
+use Rattle.plane.proofs.Plane.{row-of, column-of, index-of, table-length, table-at, plane-index}
+use Rattle.labels.specs.Labels.{isOn}
+use Rattle.squares.specs.Squares.{reach, inSquare, squaresPlane}
+use Rattle.squares.proofs.Laws.{Site, reach-some, square-is, on-bit, squares-length}
+use Rattle.nearest.proofs.InPlace.{table-same}
+use Rattle.outline.specs.Growth.{nearGround, isEdge, isShallow, deepReach, isDeep, maskOf}
+use Rattle.growth.specs.Marks.{complementOf, edgeMark}
+
+-- ---- masks by a test
+
+-- equal tests give equal masks
+pub mask-same : (n : ℕ) (p q : ℕ → Bool) → ((i : ℕ) → i < n → p i ≡ q i) → maskOf n p ≡ maskOf n q
+unfolding maskOf
+mask-same n p q e = table-same (λ (i : ℕ). bit (p i)) (λ (i : ℕ). bit (q i)) n 0 (λ k l. ap bit (e k l))
+
+pub mask-length : (n : ℕ) (p : ℕ → Bool) → length (maskOf n p) ≡ n
+unfolding maskOf
+mask-length n p = table-length (λ (i : ℕ). bit (p i)) 0 n
+
+-- a pixel of it is on where the test holds
+pub mask-on : (n : ℕ) (p : ℕ → Bool) (i : ℕ) → i < n → isOn (maskOf n p) i ≡ p i
+unfolding maskOf isOn
+mask-on n p i l = ap on (table-at (λ (k : ℕ). bit (p k)) n i 0 l) ∙ on-bit (p i)
+
+-- ---- planes by dilation
+
+module _ (back : List ℕ) (h w : ℕ) (wide : 0 < w) where
+  -- the pixel of an index
+  pub at-index : (mask : List ℕ) (i : ℕ) → onAt mask w (i / w) (i % w) ≡ isOn mask i
+  unfolding onAt isOn
+  at-index mask i = ap (λ (k : ℕ). on (getD mask k 0)) (index-of i w)
+
+  -- the dilation tells what is near the background
+  dilated-on : (k i : ℕ) → 0 < k → i < h * w → isOn (squaresPlane back h w k) i ≡ nearGround back h w k i
+  unfolding isOn squaresPlane nearGround
+  dilated-on k i p l =
+      ap on (plane-index h w (λ (y x : ℕ). bit (inSquare back h w (reach h w k) y x)) i 0 wide l)
+      ∙ on-bit (inSquare back h w (reach h w k) (i / w) (i % w))
+      ∙ ap (λ (n : ℕ). inSquare back h w n (i / w) (i % w)) (reach-some h w k p)
+
+  -- what is not near it, by the dilation
+  far-from : (k : ℕ) → 0 < k → complementOf (squaresPlane back h w k) ≡ maskOf (h * w) (λ (i : ℕ). not (nearGround back h w k i))
+  unfolding complementOf
+  far-from k p =
+      ap (λ (n : ℕ). maskOf n (λ (i : ℕ). not (isOn (squaresPlane back h w k) i))) (squares-length back h w k)
+      ∙ mask-same (h * w) (λ (i : ℕ). not (isOn (squaresPlane back h w k) i)) (λ (i : ℕ). not (nearGround back h w k i)) (λ i l. ap not (dilated-on k i p l))
+
+  pub deep-laid : complementOf (squaresPlane back h w 4) ≡ maskOf (h * w) (isDeep back h w)
+  unfolding isDeep
+  deep-laid = far-from 4 (omega arith)
+
+  -- the background is near itself
+  self-near : (i : ℕ) → i < h * w → isOn back i ≡ true → nearGround back h w 1 i ≡ true
+  unfolding nearGround apart
+  self-near i l e =
+      square-is
+      (record {
+        row = i / w;
+        column = i % w;
+        row-in = row-of i h w wide l;
+        column-in = column-of i w wide;
+        lit = at-index back i ∙ e;
+        rows = omega arith;
+        columns = omega arith;
+      })
+
+  shallow-is : (i : ℕ) → i < h * w → not (nearGround back h w 1 i) ≡ isShallow back h w i
+  unfolding isShallow
+  shallow-is i l =
+      ⊎-elim {C = not (nearGround back h w 1 i) ≡ not (isOn back i) && not (nearGround back h w 1 i)}
+      (λ (e : isOn back i ≡ true). rw (e, self-near i l e))
+      (λ (e : isOn back i ≡ false). rw e)
+      (either (isOn back i))
+
+  pub shallow-laid : complementOf (squaresPlane back h w 1) ≡ maskOf (h * w) (isShallow back h w)
+  shallow-laid = far-from 1 (omega arith) ∙ mask-same (h * w) (λ (i : ℕ). not (nearGround back h w 1 i)) (isShallow back h w) shallow-is
+
+  tests : (s a b : Bool) → s && not a && not (not a && not b) ≡ s && (not a && b)
+  tests true true b = refl
+  tests true false true = refl
+  tests true false false = refl
+  tests false a b = refl
+
+  edge-test : (i : ℕ) → bit (someBelow (h * w) (isShallow back h w) && not (isOn back i) && not (isShallow back h w i)) ≡ edgeMark back h w i
+  unfolding edgeMark isEdge isShallow
+  edge-test i = ap bit (tests (someBelow (h * w) (isShallow back h w)) (isOn back i) (nearGround back h w 1 i))
+
+  -- the edge pixels are what is neither background nor shallow
+  pub edge-laid : (first : List ℕ) → first ≡ maskOf (h * w) (isShallow back h w)
+      → table (λ (i : ℕ). bit (someBelow (length first) (isOn first) && not (isOn back i) && not (isOn first i))) 0 (h * w) ≡ table (edgeMark back h w) 0 (h * w)
+  edge-laid first e =
+      let long : length first ≡ h * w = ap length e ∙ mask-length (h * w) (isShallow back h w) in
+      let same : (i : ℕ) → i < h * w → isOn first i ≡ isShallow back h w i = λ i l. ap (λ (t : List ℕ). isOn t i) e ∙ mask-on (h * w) (isShallow back h w) i l in
+      let known : someBelow (length first) (isOn first) ≡ someBelow (h * w) (isShallow back h w) =
+      ap (λ (n : ℕ). someBelow n (isOn first)) long ∙ some-same (isOn first) (isShallow back h w) (h * w) same in
+      table-same (λ (i : ℕ). bit (someBelow (length first) (isOn first) && not (isOn back i) && not (isOn first i))) (edgeMark back h w) (h * w) 0
+      (λ i l.
+      ap (λ (t : Bool). bit (t && not (isOn back i) && not (isOn first i))) known
+      ∙ ap (λ (t : Bool). bit (someBelow (h * w) (isShallow back h w) && not (isOn back i) && not t)) (same i l)
+      ∙ edge-test i)

@@ -1,0 +1,5 @@
+pub mod Bytes
+pub mod Searching
+pub mod Laying
+pub mod Marks
+pub mod Passes

@@ -1,0 +1,48 @@
+-- Passes one after the other.
+-- Assumes nothing.
+use mathlib.Core.Path.{_≡_, refl, sym, ap, _∙_}
+use mathlib.Core.Bool.{Bool, true, false, cond, _||_}
+use mathlib.Core.List.{List}
+use Prim.Native.Nat.{ℕ, zero, suc, _*_, _-_, _<_}
+use native.Mathlib.Omega.{arith}
+use lib.Ieee.{Float}
+use Rattle.plane.specs.Search.{someBelow}
+use Rattle.plane.proofs.Search.{none-found}
+use Rattle.labels.specs.Labels.{isOn}
+use Rattle.colour.specs.declared.Rgb.{Rgb}
+use Rattle.outline.specs.Growth.{maskOf, isJoining, passOf, growthOf}
+use Rattle.growth.proofs.Laying.{mask-same, mask-on}
+
+or-no : (t : Bool) → t || false ≡ t
+or-no true = refl
+or-no false = refl
+
+-- fewer are left after a pass
+pub rest-less : (t : Bool) (n : ℕ) → 0 < n → cond t (n - 1) 0 < n
+rest-less true n l = omega arith
+rest-less false n l = l
+
+module _ (colours : List Float) (reference : Rgb) (h w : ℕ) (back : List ℕ) where
+  -- a pass without a join leaves the background as it is
+  stays : someBelow (h * w) (isJoining colours reference back h w) ≡ false → maskOf (h * w) (isOn back) ≡ maskOf (h * w) (isOn (passOf colours reference back h w))
+  unfolding passOf
+  stays e =
+      mask-same (h * w) (isOn back) (isOn (passOf colours reference back h w))
+      (λ i l.
+      sym
+      (mask-on (h * w) (λ (k : ℕ). isOn back k || isJoining colours reference back h w k) i l
+      ∙ ap (λ (t : Bool). isOn back i || t) (none-found (isJoining colours reference back h w) (h * w) e i l)
+      ∙ or-no (isOn back i)))
+
+  -- one pass, and those that are left
+  pub growth-step : (p : ℕ) (joined : Bool) (new : List ℕ) → 0 < p → joined ≡ someBelow (h * w) (isJoining colours reference back h w) → new ≡ passOf colours reference back h w
+      → growthOf colours reference h w p back ≡ growthOf colours reference h w (cond joined (p - 1) 0) new
+  unfolding growthOf
+  growth-step zero joined new l e f = absurd (omega arith)
+  growth-step (suc p) true new l e f = let q : suc p - 1 ≡ p = omega arith in rw (sym e, q, f)
+  growth-step (suc p) false new l e f = rw (sym e, f) (stays (sym e))
+
+  -- none is left
+  pub growth-done : (p n : ℕ) → p ≡ 0 → n ≡ h * w → maskOf n (isOn back) ≡ growthOf colours reference h w p back
+  unfolding growthOf
+  growth-done p n e f = rw (e, f)

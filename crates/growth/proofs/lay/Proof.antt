@@ -1,0 +1,83 @@
+-- `growth::lay` meets its contract.
+-- Assumes nothing.
+use mathlib.Core.Path.{_≡_, ap, _∙_}
+use mathlib.Core.Bool.{Bool, not, _&&_}
+use mathlib.Core.List.{List}
+use lib.ListN.{length}
+use Rattle.plane.specs.Plane.{bit, table}
+use Rattle.plane.specs.Search.{someBelow}
+use Rattle.labels.specs.Labels.{isOn}
+use Prim.Native.Nat.{ℕ, _*_}
+use native.Mathlib.Omega.{arith}
+use Rattle.outline.specs.Growth.{isShallow, isDeep, maskOf}
+use Rattle.growth.specs.Marks.{complementOf}
+use Rattle.growth.proofs.Laying.{deep-laid, shallow-laid, edge-laid}
+use borrow.Author.Needs.{needs}
+use Rattle.growth.proofs.lay.Statement.{statement}
+use Rattle.growth.proofs.lay.Tie as tie
+
+dilate-requires : tie.Need-dilate-requires
+dilate-requires c κs = search needs
+
+complement-requires : tie.Need-complement-requires
+complement-requires c κs = search needs
+
+dilate-requires-2 : tie.Need-dilate-requires-2
+dilate-requires-2 c κs = search needs
+
+complement-requires-2 : tie.Need-complement-requires-2
+complement-requires-2 c κs = search needs
+
+any-requires : tie.Need-any-requires
+any-requires c κs = search needs
+
+edges-requires : tie.Need-edges-requires
+edges-requires c κs =
+    let o = c .before .before .before .before .before .before .before .before .before .before .before .before .before .before .before .before .before .before .before .before .before .before .before .before .before .before .before .before .before .before in
+    let k = c .before .before .before .before .before .before .complement2 .kept .0 in
+    let d = c .before .before .before .before .before .before .before .before .before .before .before .before .dilate2 .kept in
+    let e = c .before .before .before .before .before .before .before .before .before .before .before .before .before .before .before .before .before .before .before .before .before .before .before .dilate .kept in
+    let p = o .pre .1 in
+    (omega (arith, k, d .1 .1 .1 .1 .1 .0, p .0, p .1 .0), omega (arith, d .1 .1 .1 .1 .0, e .1 .1 .1 .1 .0, p .0, p .1 .1 .1))
+
+same-length : tie.Need-same-length
+same-length c = search needs
+
+same-length-2 : tie.Need-same-length-2
+same-length-2 c = search needs
+
+same-length-3 : tie.Need-same-length-3
+same-length-3 c = search needs
+
+returns : tie.Need-returns
+returns c =
+    let o = c .before .before .before .before .before .before .before .before .before .before .before .before .before .before .before .before .before .before .before .before .before .before .before .before .before .before .before .before .before .before .before .before .before in
+    let a = o .args in
+    let back = a .back .now in
+    let n = a .h * a .w in
+    let first : List ℕ = c .before .before .before .before .before .before .before .before .before .complement2 .last .0 in
+    let first-is : first ≡ maskOf n (isShallow back (a .h) (a .w)) = c .before .before .before .before .before .before .before .before .before .complement2 .ensures ∙ ap complementOf (c .before .before .before .before .before .before .before .before .before .before .before .before .before .before .before .dilate2 .ensures .0) ∙ shallow-laid back (a .h) (a .w) (o .pre .0 .some-columns) in
+    record {
+      shallow = first-is;
+      deep = c .before .before .before .before .before .before .before .before .before .before .before .before .before .before .before .before .before .before .before .before .complement .ensures ∙ ap complementOf (c .before .before .before .before .before .before .before .before .before .before .before .before .before .before .before .before .before .before .before .before .before .before .before .before .before .before .dilate .ensures .0) ∙ deep-laid back (a .h) (a .w) (o .pre .0 .some-columns);
+      edge =
+          c .before .before .edges .ensures
+          ∙ ap (λ (t : Bool). table (λ (i : ℕ). bit (t && not (isOn back i) && not (isOn first i))) 0 (length back)) (c .before .before .before .before .before .any .ensures)
+          ∙ ap (table (λ (i : ℕ). bit (someBelow (length first) (isOn first) && not (isOn back i) && not (isOn first i))) 0) (o .pre .1 .0)
+          ∙ edge-laid back (a .h) (a .w) (o .pre .0 .some-columns) first first-is;
+    }
+
+pub lay-spec : {M : Type 1} → statement M
+lay-spec =
+    tie.close
+    (tie.spec
+    dilate-requires
+    complement-requires
+    dilate-requires-2
+    complement-requires-2
+    any-requires
+    edges-requires
+    same-length
+    same-length-2
+    same-length-3
+    returns)
