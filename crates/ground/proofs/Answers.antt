@@ -1,10 +1,10 @@
 -- The three ends of the search, by the outline's definitions.
 -- Assumes nothing.
-use mathlib.Core.Path.{_≡_, refl, sym, ap, _∙_}
-use mathlib.Core.Bool.{Bool, true, false, cond, _&&_}
+use mathlib.Core.Path.{_≡_, refl, ap, _∙_}
+use mathlib.Core.Bool.{Bool, true, false, _&&_}
 use mathlib.Core.Logic.{⊎-elim}
 use mathlib.Core.List.{List}
-use Prim.Native.Nat.{ℕ, _+_, _*_, _≤_, _<_}
+use Prim.Native.Nat.{ℕ, _*_, _≤_, _<_}
 use native.Mathlib.Omega.{arith}
 use lib.Dec.{leb}
 use lib.ListN.{length, getD, List·getD-eq-default}
@@ -15,7 +15,6 @@ use Rattle.plane.proofs.Search.{which}
 use Rattle.colour.specs.declared.Rgb.{Rgb}
 use Rattle.outline.specs.Border.{borderList, referenceOf}
 use Rattle.outline.specs.Ground.{isClose, closePlane, groundFrom, groundOf, countOn, someOff, foundFrom, isFound}
-use Rattle.ground.specs.declared.Flat.{Flat}
 use Rattle.ground.specs.declared.Flat.the-variants.{Found, Absent}
 use Rattle.ground.specs.Flood.{marked, Closed}
 use Rattle.ground.specs.Answer.{closeAt, flatOf, flatPlane}

@@ -3,15 +3,15 @@
 use mathlib.Core.Path.{_≡_, refl, sym, ap, _∙_}
 use mathlib.Core.Bool.{Bool, true, false}
 use mathlib.Core.Logic.{_⊎_, inl, inr, ⊎-elim}
-use mathlib.Core.List.{List, [], _∷_}
-use Prim.Native.Nat.{ℕ, _+_, _*_, _-_, _%_, _≤_, _<_}
+use mathlib.Core.List.{List}
+use Prim.Native.Nat.{ℕ, _+_, _-_, _%_, _≤_, _<_}
 use native.Mathlib.Omega.{arith}
 use lib.Dec.{eqb, ltb, leb}
 use lib.ListN.{length, getD, set, length-set, List·getD-eq-default}
 use lib.Seq.{getD-set-same, getD-set-other}
 use borrow.Author.Tests.{ltb-true, leb-true, eqb-true, eqb-false, lt-ltb, le-leb}
 use Rattle.plane.proofs.Search.{which, either, not-both}
-use Rattle.labels.specs.Labels.{isOn, beside, Joined, same, onward}
+use Rattle.labels.specs.Labels.{isOn, beside, Joined, onward}
 use Rattle.labels.proofs.Joined.{on-inside, end-on}
 use Rattle.labels.proofs.Steps.{beside-above, beside-below, beside-left, beside-right, beside-sides}
 use Rattle.outline.specs.Border.{onBorder}

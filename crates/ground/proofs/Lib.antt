@@ -1,6 +1,6 @@
 pub mod Tables
 pub mod Room
-pub mod Lists
+pub mod Border
 pub mod Values
 pub mod Flooding
 pub mod Reached

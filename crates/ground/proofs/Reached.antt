@@ -13,7 +13,7 @@ use Rattle.plane.specs.Plane.{on, bit, table}
 use Rattle.plane.specs.Search.{someBelow}
 use Rattle.plane.proofs.Search.{which, either, not-both, some-found, some-is}
 use Rattle.plane.proofs.Refusal.{and-true}
-use Rattle.labels.specs.Labels.{isOn, beside, Joined, same, firstPixel}
+use Rattle.labels.specs.Labels.{isOn, beside, same, firstPixel}
 use Rattle.labels.proofs.Joined.{on-inside, start-on, end-on, spreads}
 use Rattle.labels.proofs.Firsts.{first-same, same-first}
 use Rattle.labels.proofs.Steps.{next-in}
@@ -21,7 +21,7 @@ use Rattle.outline.specs.Border.{borderList, listed, onBorder}
 use Rattle.outline.specs.Ground.{isGround, groundFrom}
 use Rattle.ground.specs.Flood.{State, state, visited, visitIf, seeded, spreadFrom, marked, Spreads, Closed}
 use Rattle.ground.proofs.Tables.{table-same}
-use Rattle.ground.proofs.Room.{Kept, first-room}
+use Rattle.ground.proofs.Room.{first-room}
 use Rattle.ground.proofs.Flooding.{at, FromBorder, Flooding, visits, not-past, popped-floods, spread-floods}
 
 number-on : (l : List ℕ) (k v : ℕ) → getD l k 0 ≡ v → 0 < v → isOn l k ≡ true

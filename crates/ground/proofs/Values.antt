@@ -1,7 +1,7 @@
 -- The border's values of one channel, gathered line by line.
 -- Assumes nothing.
 use mathlib.Core.Path.{_≡_, refl, sym, ap, _∙_}
-use mathlib.Core.Bool.{Bool, true, false, _&&_}
+use mathlib.Core.Bool.{Bool, true, _&&_}
 use mathlib.Core.List.{List, [], _∷_, _++_, map}
 use Prim.Native.Nat.{ℕ, zero, suc, _+_, _*_, _-_, _≤_, _<_}
 use native.Mathlib.Nat.{add-zero, not-suc-le-zero, le-of-suc-le-suc}
@@ -9,7 +9,7 @@ use native.Mathlib.Omega.{arith}
 use lib.Dec.{T}
 use lib.ListN.{length, getD, take, length-map}
 use lib.Ieee.{Float, nan, binary64, fits}
-use Rattle.plane.specs.Plane.{mostSide, Sides, table}
+use Rattle.plane.specs.Plane.{table}
 use Rattle.plane.proofs.Plane.{area-most}
 use Rattle.plane.proofs.Refusal.{and-true}
 use Rattle.colour.specs.Colour.{colourOk, coloursOk}
@@ -18,7 +18,7 @@ use Rattle.median.specs.Median.{Channel}
 use Rattle.median.proofs.Places.{Held}
 use Rattle.outline.specs.Border.{borderList, channelAt}
 use Rattle.ground.specs.Lines.{linePixels, Gathers, Picture}
-use Rattle.ground.proofs.Lists.{border-is, border-length, first-in, last-in, left-in, right-in}
+use Rattle.ground.proofs.Border.{border-is, border-length, first-in, last-in, left-in, right-in}
 
 map-append : {A B : Type 0} (f : A → B) (s t : List A) → map f (s ++ t) ≡ map f s ++ map f t
 map-append f [] t = refl

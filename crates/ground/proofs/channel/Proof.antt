@@ -1,18 +1,16 @@
 -- `ground::channel` meets its contract.
 -- Assumes nothing.
-use mathlib.Core.Path.{_≡_, refl, sym, ap, _∙_}
-use mathlib.Core.Bool.{true}
+use mathlib.Core.Path.{_≡_, ap, _∙_}
 use mathlib.Core.List.{List, map}
-use Prim.Native.Nat.{ℕ, _+_, _*_, _-_}
+use Prim.Native.Nat.{ℕ, _+_, _-_}
 use native.Mathlib.Omega.{arith}
-use lib.ListN.{length, take, drop, length-map}
+use lib.ListN.{length, take, drop}
 use lib.Ieee.{Float}
 use Rattle.plane.proofs.Plane.{area-most}
-use Rattle.colour.specs.Colour.{colourOk}
-use Rattle.median.specs.Median.{medianOf, Channel}
+use Rattle.median.specs.Median.{medianOf}
 use Rattle.median.proofs.Laws.{median-ok}
 use Rattle.outline.specs.Border.{borderList, channelAt, referenceChannel}
-use Rattle.ground.proofs.Lists.{last-in}
+use Rattle.ground.proofs.Border.{last-in}
 use Rattle.ground.proofs.Values.{gathered, border-channel, held-map, first-gathers, last-gathers, left-gathers, right-gathers}
 use borrow.Author.Needs.{needs}
 use Rattle.ground.proofs.channel.Statement.{statement}

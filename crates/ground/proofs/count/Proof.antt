@@ -7,7 +7,7 @@ use Prim.Native.Nat.{ℕ, _+_, _*_, _-_, _≤_, _<_}
 use native.Mathlib.Nat.{add-assoc, add-zero, zero-add}
 use native.Mathlib.Omega.{arith}
 use lib.Dec.{eqb}
-use lib.ListN.{length, getD}
+use lib.ListN.{getD}
 use mir.Val.{boolByte}
 use Rattle.plane.specs.Plane.{on, table}
 use Rattle.labels.specs.Labels.{isOn}

@@ -1,14 +1,13 @@
 -- `ground::gather` meets its contract.
 -- Assumes nothing.
 use mathlib.Core.Path.{_≡_, refl, sym, ap, _∙_}
-use mathlib.Core.List.{List, [], _∷_, _++_, map, append-nil}
+use mathlib.Core.List.{List, _++_, map, append-nil}
 use Prim.Native.Nat.{ℕ, suc, _+_, _*_, _-_, _≤_, _<_}
-use native.Mathlib.Nat.{add-assoc, add-zero}
-use native.Mathlib.Numerals.{add-one}
+use native.Mathlib.Nat.{add-zero}
 use native.Mathlib.Omega.{arith}
-use lib.ListN.{length, getD, take, set, length-set}
+use lib.ListN.{length, take, set, length-set}
 use lib.Seq.{take-suc-set, append-snoc}
-use lib.Ieee.{Float, nan}
+use lib.Ieee.{Float}
 use Rattle.plane.specs.Plane.{table}
 use Rattle.outline.specs.Border.{channelAt}
 use Rattle.ground.specs.Lines.{linePixels}

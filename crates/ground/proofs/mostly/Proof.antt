@@ -1,15 +1,15 @@
 -- `ground::mostly` meets its contract.
 -- Assumes nothing.
-use mathlib.Core.Path.{_≡_, refl, sym, ap, _∙_}
-use Prim.Native.Nat.{ℕ, _+_, _*_, _-_, _≤_}
+use mathlib.Core.Path.{_≡_, ap, _∙_}
+use Prim.Native.Nat.{ℕ, _+_, _*_, _-_}
 use native.Mathlib.Omega.{arith}
 use lib.Dec.{leb}
 use lib.ListN.{length}
-use Rattle.plane.proofs.Plane.{row-in, area-most}
+use Rattle.plane.proofs.Plane.{area-most}
 use Rattle.outline.specs.Border.{borderList}
 use Rattle.outline.specs.Ground.{countOn}
 use Rattle.ground.specs.Lines.{linePixels}
-use Rattle.ground.proofs.Lists.{border-length, first-on, last-on, left-on, right-on, counts-are, line-most, last-in}
+use Rattle.ground.proofs.Border.{border-length, first-on, last-on, left-on, right-on, counts-are, line-most, last-in}
 use borrow.Author.Needs.{needs}
 use Rattle.ground.proofs.mostly.Statement.{statement}
 use Rattle.ground.proofs.mostly.Tie as tie

@@ -1,9 +1,9 @@
 -- `ground::reference` meets its contract.
 -- Assumes nothing.
-use mathlib.Core.Path.{_≡_, refl, sym, ap, _∙_}
+use mathlib.Core.Path.{_≡_}
 use mathlib.Core.Bool.{Bool, true, _&&_}
 use Rattle.colour.specs.Colour.{rgbOk}
-use Rattle.outline.specs.Border.{referenceChannel, referenceOf}
+use Rattle.outline.specs.Border.{referenceOf}
 use borrow.Author.Needs.{needs}
 use Rattle.ground.proofs.reference.Statement.{statement}
 use Rattle.ground.proofs.reference.Tie as tie

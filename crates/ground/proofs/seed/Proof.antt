@@ -6,7 +6,7 @@ use Prim.Native.Nat.{ℕ, _+_, _*_, _-_, _≤_, _<_}
 use native.Mathlib.Omega.{arith}
 use lib.ListN.{length}
 use Rattle.plane.specs.Plane.{table}
-use Rattle.ground.specs.Flood.{State, state, visited, seeded, Seeds}
+use Rattle.ground.specs.Flood.{State, state, visited, seeded}
 use Rattle.ground.specs.Lines.{linePixels}
 use Rattle.ground.proofs.Room.{Kept, visited-kept}
 use Rattle.ground.proofs.Tables.{table-whole, table-step, table-end}

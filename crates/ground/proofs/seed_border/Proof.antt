@@ -1,13 +1,13 @@
 -- `ground::seed_border` meets its contract.
 -- Assumes nothing.
-use mathlib.Core.Path.{_≡_, refl, sym, ap, _∙_}
-use Prim.Native.Nat.{ℕ, _+_, _*_, _-_, _≤_}
+use mathlib.Core.Path.{_≡_, sym}
+use Prim.Native.Nat.{_+_, _*_, _-_}
 use native.Mathlib.Omega.{arith}
 use Rattle.plane.proofs.Plane.{area-most}
 use Rattle.ground.specs.Flood.{state, seeded}
 use Rattle.ground.specs.Lines.{linePixels}
 use Rattle.ground.proofs.Room.{Kept, first-room}
-use Rattle.ground.proofs.Lists.{last-in, first-seeds, last-seeds, left-seeds, right-seeds, first-kept, last-kept, left-kept, seeds-are}
+use Rattle.ground.proofs.Border.{last-in, first-seeds, last-seeds, left-seeds, right-seeds, first-kept, last-kept, left-kept, seeds-are}
 use borrow.Author.Needs.{needs}
 use Rattle.ground.proofs.seed_border.Statement.{statement}
 use Rattle.ground.proofs.seed_border.Tie as tie

@@ -1,18 +1,17 @@
 -- `ground::settle` meets its contract.
 -- Assumes nothing.
-use mathlib.Core.Path.{_≡_, refl, sym, ap, _∙_}
+use mathlib.Core.Path.{_≡_, refl, ap, _∙_}
 use mathlib.Core.Bool.{Bool, true, false, not, _||_}
 use mathlib.Core.List.{List}
-use Prim.Native.Nat.{ℕ, suc, _+_, _-_, _≤_, _<_}
-use native.Mathlib.Nat.{ne-of-gt}
+use Prim.Native.Nat.{ℕ, _+_, _-_, _≤_, _<_}
 use native.Mathlib.Numerals.{add-one}
 use native.Mathlib.Omega.{arith}
 use lib.Dec.{eqb}
-use lib.ListN.{length, getD, set, length-set}
+use lib.ListN.{length, getD, length-set}
 use lib.Seq.{getD-set-other}
 use mir.Val.{boolByte}
 use borrow.Author.Count.{below-none}
-use Rattle.plane.specs.Plane.{on, bit, table}
+use Rattle.plane.specs.Plane.{on, bit}
 use Rattle.plane.specs.Search.{someBelow}
 use Rattle.plane.proofs.Plane.{filled, table-is, table-at}
 use Rattle.labels.specs.Labels.{isOn}

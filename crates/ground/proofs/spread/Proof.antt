@@ -8,7 +8,7 @@ use borrow.Author.Needs.{needs}
 use lib.Dec.{ltb, leb}
 use lib.ListN.{getD}
 use Rattle.ground.specs.Flood.{state, visitIf, spreadFrom}
-use Rattle.ground.proofs.Room.{Kept, kept-first, kept-above, kept-below, kept-left}
+use Rattle.ground.proofs.Room.{kept-first, kept-above, kept-below, kept-left}
 use Rattle.ground.proofs.spread.Statement.{statement}
 use Rattle.ground.proofs.spread.Tie as tie
 
