@@ -422,3 +422,43 @@ pub fn close_entries(colours: &[f64], h: usize, w: usize, tolerance: f64) -> (us
         .filter(|&&i| is_close(colours, i, reference, tolerance));
     (close.count(), list.len())
 }
+
+/// A badge on a white card with noise within the stand's tolerance: a textured disc with a hole, and
+/// a ring around it, each with an anti-aliased rim of two pixels. With `dust`, one pixel of about
+/// four thousand is a speck.
+pub fn badge(random: &mut Random, h: usize, w: usize, dust: bool) -> Vec<f64> {
+    let side = h.min(w) as f64;
+    let (cy, cx) = (h as f64 / 2.0, w as f64 / 2.0);
+    let mut colours = Vec::with_capacity(3 * h * w);
+    for i in 0..h * w {
+        let (y, x) = ((i / w) as f64, (i % w) as f64);
+        let middle = (y - cy).hypot(x - cx);
+        let hole = (y - cy + side / 8.0).hypot(x - cx - side / 10.0) - side * 0.06;
+        let disc = (side * 0.33 - middle).min(hole);
+        let ring = (side * 0.43 - middle).min(middle - side * 0.39);
+        let cover = (disc.max(ring) / 2.0 + 0.5).clamp(0.0, 1.0);
+        let noise = (random.next() >> 40) as f64 / (1u64 << 24) as f64;
+        let card = [1.0 - noise / 50.0; 3];
+        let body = [0.55, 0.2, 0.15].map(|c| c + noise / 8.0);
+        let speck = dust && random.below(4096) == 0;
+        colours.extend(if speck {
+            [0.4; 3]
+        } else {
+            mix(card, body, cover)
+        });
+    }
+    colours
+}
+
+/// A white card in which about `per_mille` of a thousand pixels off the border have any colour.
+pub fn noise(random: &mut Random, h: usize, w: usize, per_mille: usize) -> Vec<f64> {
+    let border = onto_border(h, w);
+    let mut colours = vec![1.0; 3 * h * w];
+    for i in (0..h * w).filter(|&i| !border[i]) {
+        if random.below(1000) < per_mille {
+            let any = [0; 3].map(|_: u8| unit(random));
+            put(&mut colours, i, any);
+        }
+    }
+    colours
+}

@@ -5,10 +5,10 @@
 //! ```
 //!
 //! CUTS pictures of at most MOST pixels go to `subject`, GROWTHS lines and strips to `unmix_fringe`
-//! (300, 100, 20 and 1 by default). The text on standard output is a module for
-//! crates/outline/proofs: a list of tests, each that the definitions of crates/outline give mask,
-//! weights by bits, keyed flag and crop box of mask.rs, or the refusal; and one check that the prover
-//! computes. Its cost grows with about the fifth power of the number of pixels: 25 take about a second.
+//! (300, 100, 25 and 1 by default). The text on standard output is a module for
+//! crates/outline/proofs: test after test, each that the definitions of crates/outline give mask,
+//! weights by bits, keyed flag and crop box of mask.rs, or the refusal. The prover computes each of
+//! them; one declaration for all would be more than it computes at once.
 
 include!(concat!(env!("OUT_DIR"), "/the_rust.rs"));
 
@@ -67,10 +67,6 @@ use Rattle.outline.specs.Growth.{nearGround, isEdge, isShallow, isDeep, 
 use Rattle.outline.specs.Cut.{alphaMask, isSought, isKeyed, grownGround, cutMask, weightAt, weightsOf, firstBelow, lastBelow, rowHas, columnHas, lesserOf, boxOf, cropOf}
 use Rattle.outline.specs.Refusal.{firstOf, colourNumber, toleranceNumber, cutNumber}
 
-all : List Bool → Bool
-all [] = true
-all (t ∷ l) = t && all l
-
 same : List ℕ → List ℕ → Bool
 same [] [] = true
 same [] (n ∷ m) = false
@@ -107,16 +103,9 @@ cutIs colours alpha h w s mask weights keyed box =
 growthIs : List Float → Rgb → ℕ → ℕ → ℕ → List ℕ → List ℕ → Bool
 growthIs colours reference h w p back grown = same (growthOf colours reference h w p back) grown
 
-tests : List Bool
-tests =
 ";
 
-    const TAIL: &str = "    []
-
-tests-hold : T (all tests)
-unfolding tests all same f64 bits settings rgb numbered cutIs growthIs on bit onAt apart within table rowsUpto planeOf someBelow countBelow numberFor lower valueOf walk upto grid plus rowCost nearest away distanceTo inSquare isOn beside lesser renamed merge joinTwo joinWith joinUpto firstPixel absOf larger plusZero halfOf differenceOf closeTo colourOk coloursOk rgbOk joinsOf passesOf onOf weightOf insert sorted placed lowerMiddle upperMiddle medianOf rowPixels innerColumn borderList listed onBorder channelAt colourAt referenceChannel referenceOf isClose closePlane isGround groundFrom groundOf countOn someOff foundFrom isFound nearGround isEdge isShallow isDeep maskOf indexOf isReach bodyFrom joinsFrom isJoining passOf growthOf alphaMask isSought isKeyed grownGround cutMask weightAt weightsOf firstBelow lastBelow rowHas columnHas lesserOf boxOf cropOf firstOf colourNumber toleranceNumber cutNumber finite lt le eq add sub mul div neg ofInt ofBits toBits
-tests-hold = tt
-";
+    const UNFOLDING: &str = "unfolding same f64 bits settings rgb numbered cutIs growthIs on bit onAt apart within table rowsUpto planeOf someBelow countBelow numberFor lower valueOf walk upto grid plus rowCost nearest away distanceTo inSquare isOn beside lesser renamed merge joinTwo joinWith joinUpto firstPixel absOf larger plusZero halfOf differenceOf closeTo colourOk coloursOk rgbOk joinsOf passesOf onOf weightOf insert sorted placed lowerMiddle upperMiddle medianOf rowPixels innerColumn borderList listed onBorder channelAt colourAt referenceChannel referenceOf isClose closePlane isGround groundFrom groundOf countOn someOff foundFrom isFound nearGround isEdge isShallow isDeep maskOf indexOf isReach bodyFrom joinsFrom isJoining passOf growthOf alphaMask isSought isKeyed grownGround cutMask weightAt weightsOf firstBelow lastBelow rowHas columnHas lesserOf boxOf cropOf firstOf colourNumber toleranceNumber cutNumber finite lt le eq add sub mul div neg ofInt ofBits toBits";
 
     fn list<T: std::fmt::Display>(of: impl IntoIterator<Item = T>) -> String {
         let mut text = String::from("(");
@@ -156,15 +145,43 @@ tests-hold = tt
         beyond: u32,
     }
 
+    /// An object of few colours on a card, opaque for the most part.
+    fn few_colours(random: &mut Random, drawn: &mut pictures::Drawn) {
+        let card = [1.0, 0.0, -0.0, 0.5][random.below(4)];
+        let far = if card == 1.0 { -1.0 } else { 0.5 };
+        let border = pictures::onto_border(drawn.h, drawn.w);
+        let odd = random.below(drawn.h * drawn.w);
+        for (i, pixel) in drawn.colours.chunks_mut(3).enumerate() {
+            let part = match border[i] {
+                true if i != odd => 0.0,
+                _ => [0.0, 0.125, 0.25, 0.375, 0.5, 1.0, 1.0, 1.0][random.below(8)],
+            };
+            let grey = if part == 0.0 { card } else { card + far * part };
+            pixel.fill(grey);
+            pixel[random.below(3)] = card;
+        }
+        if random.below(4) > 0 {
+            drawn.alpha.fill(255);
+            drawn.settings.alpha_threshold = 128;
+        }
+        drawn.settings.key_bg_tolerance = [0.0, -0.0, 0.03125, 0.0625][random.below(4)];
+    }
+
     /// Settings with small numbers of passes; any of the others.
     fn cut(random: &mut Random, most: usize, count: &mut Count) -> String {
+        let object = random.below(2) == 0;
         let (h, w) = loop {
-            let (h, w) = (1 + random.below(8), 1 + random.below(8));
-            if h * w <= most && (h * w >= most / 3 || random.below(4) == 0) {
+            let least = if object { 4 } else { 1 };
+            let side = |random: &mut Random| least + random.below(9 - least);
+            let (h, w) = (side(random), side(random));
+            if h * w <= most.max(16) {
                 break (h, w);
             }
         };
         let mut drawn = pictures::draw(random, h, w);
+        if object {
+            few_colours(random, &mut drawn);
+        }
         let settings = &mut drawn.settings;
         settings.key_bg_fringe = [-1, 0, 1, 1, 2, 3][random.below(6)];
         settings.alpha_threshold = settings.alpha_threshold.clamp(-5, 256);
@@ -265,17 +282,17 @@ tests-hold = tt
         let words = std::env::args().skip(1);
         let numbers: Vec<usize> = words.map(|word| word.parse().expect("a number")).collect();
         let or = |at: usize, otherwise| numbers.get(at).copied().unwrap_or(otherwise);
-        let (cuts, growths, most) = (or(0, 300), or(1, 100), or(2, 20));
+        let (cuts, growths, most) = (or(0, 300), or(1, 100), or(2, 25));
         let mut random = Random(or(3, 1) as u64);
         let mut count = Count::default();
         print!("{HEAD}");
-        for _ in 0..cuts {
-            println!("    {} ∷", cut(&mut random, most, &mut count));
+        for i in 0..cuts + growths {
+            let test = match i < cuts {
+                true => cut(&mut random, most, &mut count),
+                false => growth(&mut random, &mut count),
+            };
+            println!("\nt{i} : T ({test})\n{UNFOLDING}\nt{i} = tt");
         }
-        for _ in 0..growths {
-            println!("    {} ∷", growth(&mut random, &mut count));
-        }
-        print!("{TAIL}");
         eprintln!(
             "{cuts} pictures of at most {most} pixels: {} refused for alpha, {} of partial alpha, {} \
              keyed, of which {} grown, {} full; {} growths: {} with a join, {} with deep pixels, {} \
