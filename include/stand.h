@@ -1,5 +1,6 @@
-/* Plane geometry for the copy stand: nearest pixels, labels, squares, square
- * distance and filling of transparent pixels.
+/* Plane geometry and the cut for the copy stand: nearest pixels, labels, squares,
+ * square distance, filling of transparent pixels, ground, growth, and the cut that
+ * turns a picture and five settings into mask, weights and crop box.
  *
  * Link with libstand.a, which `rt staticlib stand` writes to target/staticlib/:
  *
@@ -7,7 +8,11 @@
  *
  * Planes. A plane has h rows and w columns, each from 1 to STAND_MOST_SIDE.
  * Pixel (y, x) is element y * w + x. In a mask a byte 0 is off and any other
- * byte is on; the masks written here hold 0 and 1 only.
+ * byte is on; the masks written here hold 0 and 1 only. "Within k" means at most
+ * k rows and at most k columns away.
+ *
+ * Colours. A colour is three double, each from 0 to 1; -0 counts as 0. Channel c
+ * of pixel i is element 3 * i + c.
  *
  * Buffers. The caller lends every buffer as a pointer and its length, counted in
  * elements and not in bytes. There are three kinds:
@@ -32,6 +37,7 @@
 #ifndef STAND_H
 #define STAND_H
 
+#include <stdbool.h>
 #include <stddef.h>
 #include <stdint.h>
 
@@ -51,6 +57,12 @@ extern "C" {
 /* The length of an output is not that of its plane, or a work buffer holds fewer
  * than stand_work_len(h, w) elements. */
 #define STAND_ROOM 3
+/* A colour, or the reference that is given, is below 0, above 1 or no number. */
+#define STAND_COLOUR 4
+/* The tolerance is infinite or no number. */
+#define STAND_TOLERANCE 5
+/* No alpha reaches the threshold: the mask would be empty. */
+#define STAND_ALPHA 6
 
 /* How many elements a work buffer needs, for sides from 1 to STAND_MOST_SIDE. */
 static inline size_t stand_work_len(size_t h, size_t w)
@@ -127,8 +139,8 @@ uint32_t stand_distance(
 
 /* Fill: each pixel takes the colour of its nearest on-pixel, bit for bit; an
  * on-pixel keeps its own. Where no pixel is on, every pixel takes the colour of
- * the first pixel of the last row. A colour is three 64-bit patterns (of double,
- * say; any bits are taken); channel c of pixel i is element 3 * i + c.
+ * the first pixel of the last row. A colour here is three 64-bit patterns (of
+ * double, say): any bits are taken, and only moved.
  *
  *   colours  input, 3 * h * w
  *   mask     input, h * w bytes
@@ -143,6 +155,119 @@ uint32_t stand_fill(
     int32_t *rows, size_t rows_len,
     int32_t *cols, size_t cols_len,
     uint64_t *out, size_t out_len);
+
+/* A colour. */
+typedef struct {
+    double r, g, b;
+} StandRgb;
+
+/* What stand_ground answers. */
+typedef struct {
+    uint32_t number;    /* STAND_ACCEPTED or the number of the refusal */
+    bool found;         /* whether the ground was found; false when refused */
+    StandRgb reference; /* the border's colour, a zero as +0; all +0 when not found */
+} StandGround;
+
+/* Ground: the plain card around the object.
+ *
+ * The border list is row 0, row h - 1, then column 0 and then column w - 1 of rows
+ * 1 to h - 2, repeats included. The reference is, for each channel, half the sum
+ * of the two middle values of the list. The difference of two colours is the
+ * largest of the three absolute differences of their channels; a pixel is close
+ * when its difference from the reference is at most the tolerance. The ground is
+ * the close pixels that are joined to a close pixel of the border by steps up,
+ * down, left or right over close pixels. It is found when at least nine tenths of
+ * the border list are close and some pixel is not ground. Where it is not found,
+ * the output is all 0. A negative tolerance is accepted: nothing is close then.
+ *
+ *   colours  input, 3 * h * w
+ *   stack    work buffer
+ *   out      output, h * w bytes, 1 on the ground and 0 elsewhere
+ */
+StandGround stand_ground(
+    const double *colours, size_t colours_len,
+    size_t h, size_t w,
+    double tolerance,
+    uint32_t *stack, size_t stack_len,
+    uint8_t *out, size_t out_len);
+
+/* Growth: passes that take the anti-aliased rim of the object into the background.
+ *
+ * A pass works on the background that it starts with. Edge is what is not
+ * background and within 1 of it; shallow is neither background nor edge; deep is
+ * not within 4 of the background. Where there is no edge or no shallow pixel,
+ * growth ends. An edge pixel's body colour is that of its nearest deep pixel, if
+ * there is one and its dy * dy + dx * dx is at most 36, else that of its nearest
+ * shallow pixel; nearest is as stand_nearest gives it. With full the difference of
+ * body colour and reference, and mixed that of the pixel itself, the pixel joins
+ * the background when full > 1e-6 and 2 * mixed < full. All joins of a pass take
+ * effect together; a pass without a join ends growth. At most `passes` passes run,
+ * none where the number is negative.
+ *
+ *   colours               input, 3 * h * w
+ *   background            input, h * w bytes
+ *   near                  work buffer
+ *   first, second, third  work buffers
+ *   out                   output, h * w bytes, 1 on the background and 0 elsewhere
+ */
+uint32_t stand_growth(
+    const double *colours, size_t colours_len,
+    const uint8_t *background, size_t background_len,
+    size_t h, size_t w,
+    StandRgb reference,
+    int64_t passes,
+    uint32_t *near, size_t near_len,
+    uint8_t *first, size_t first_len,
+    uint8_t *second, size_t second_len,
+    uint8_t *third, size_t third_len,
+    uint8_t *out, size_t out_len);
+
+/* The five settings of a cut. The stand's own are 128, true, 1, 0.03125, true. */
+typedef struct {
+    int64_t alpha_threshold; /* the mask is on where alpha is at least this */
+    bool key_bg;             /* whether a ground is sought where that mask is full */
+    int64_t key_bg_fringe;   /* the most passes of growth; a negative number is 0 */
+    double key_bg_tolerance; /* how far from the reference the ground may be */
+    bool crop_to_alpha;      /* whether the crop box is the mask's */
+} StandSettings;
+
+/* What stand_cut answers. */
+typedef struct {
+    uint32_t number;       /* STAND_ACCEPTED or the number of the refusal */
+    bool keyed;            /* whether a ground was sought and found */
+    size_t y0, y1, x0, x1; /* the crop box, ends excluded; all 0 when refused */
+} StandCut;
+
+/* Cut: the outline that is filed.
+ *
+ * The mask is on where alpha is at least the threshold. If it is on everywhere and
+ * key_bg asks for it, the ground is sought, and where it is found it grows and the
+ * mask becomes what it leaves; where it is not found, the mask stays full. The
+ * weight of a pixel is max(alpha, 1) / 255 on the mask and 0 elsewhere. The crop box
+ * is the mask's box with one pixel added on each side, clamped to the picture; it
+ * is the whole picture where crop_to_alpha is off or the mask is full. A mask is
+ * never empty.
+ *
+ * Refusals 1 to 6 are tested in this order, whatever the settings.
+ *
+ *   colours               input, 3 * h * w
+ *   alpha                 input, h * w bytes
+ *   near                  work buffer
+ *   first, second, third  work buffers
+ *   mask                  output, h * w bytes, each 0 or 1
+ *   weights               output, h * w
+ */
+StandCut stand_cut(
+    const double *colours, size_t colours_len,
+    const uint8_t *alpha, size_t alpha_len,
+    size_t h, size_t w,
+    StandSettings settings,
+    uint32_t *near, size_t near_len,
+    uint8_t *first, size_t first_len,
+    uint8_t *second, size_t second_len,
+    uint8_t *third, size_t third_len,
+    uint8_t *mask, size_t mask_len,
+    double *weights, size_t weights_len);
 
 #ifdef __cplusplus
 }

@@ -1,13 +1,31 @@
-//! Plane geometry for the copy stand: nearest pixels, labels, squares, square distance and the
-//! filling of transparent pixels, over the proved static library `libstand.a`.
+//! The cut for the copy stand, and the plane geometry under it, over the proved static library
+//! `libstand.a`.
+//!
+//! [`cut`] makes the outline that is filed: from a picture and five settings the mask, the weights,
+//! the keyed flag and the crop box. [`ground`] and [`growth`] are its two steps. Beside them stand
+//! [`nearest`], [`labels`], [`squares`], [`square_distance`] and [`fill_transparent`].
 //!
 //! A plane has `h` rows and `w` columns, each from 1 to [`MOST_SIDE`], and lies row after row in
 //! one slice: pixel (y, x) is element `y * w + x`. In a mask a byte 0 is off and any other byte is
-//! on.
+//! on. A colour is three `f64` from 0 to 1 (−0 counts as 0), channel c of pixel i at `3 * i + c`.
 //!
 //! The functions here make the planes and the work buffers, and return what the library wrote or
 //! its [`Refusal`]. Whoever cuts one picture after the other and wants to keep the buffers calls
 //! [`raw`] instead, with buffers of [`work_len`] numbers.
+//!
+//! ```
+//! use stand::{Picture, Settings};
+//!
+//! // A white card of 5 by 5 pixels with a black pixel in its middle.
+//! let mut colours = [1.0; 75];
+//! colours[36..39].fill(0.0);
+//! let picture = Picture { colours: &colours, alpha: &[255; 25], h: 5, w: 5 };
+//! let cut = stand::cut(&picture, &Settings::default())?;
+//! assert!(cut.keyed);
+//! assert_eq!(cut.mask.iter().filter(|&&m| m == 1).count(), 1);
+//! assert_eq!((cut.crop.rows, cut.crop.cols), (1..4, 1..4));
+//! # Ok::<(), stand::Refusal>(())
+//! ```
 //!
 //! ```
 //! let mask = [
@@ -23,6 +41,7 @@
 #![warn(missing_docs)]
 
 use std::fmt;
+use std::ops::Range;
 
 #[allow(unsafe_code)]
 pub mod raw;
@@ -42,6 +61,12 @@ pub enum Refusal {
     /// Number 3: the length of an output is not that of its plane, or a work buffer is too small.
     /// The functions at the root of this crate make fitting buffers and never answer this.
     Room,
+    /// Number 4: a colour, or the reference that is given, is below 0, above 1 or no number.
+    Colour,
+    /// Number 5: the tolerance is infinite or no number.
+    Tolerance,
+    /// Number 6: no alpha reaches the threshold, so that the mask would be empty.
+    Alpha,
     /// A number that this crate does not know: it and the library are not of one version.
     Unknown(u32),
 }
@@ -60,6 +85,9 @@ impl Refusal {
             1 => Err(Refusal::Side),
             2 => Err(Refusal::InputLength),
             3 => Err(Refusal::Room),
+            4 => Err(Refusal::Colour),
+            5 => Err(Refusal::Tolerance),
+            6 => Err(Refusal::Alpha),
             other => Err(Refusal::Unknown(other)),
         }
     }
@@ -74,6 +102,9 @@ impl Refusal {
             Refusal::Side => 1,
             Refusal::InputLength => 2,
             Refusal::Room => 3,
+            Refusal::Colour => 4,
+            Refusal::Tolerance => 5,
+            Refusal::Alpha => 6,
             Refusal::Unknown(other) => other,
         }
     }
@@ -89,13 +120,24 @@ impl fmt::Display for Refusal {
                  1 to {MOST_SIDE} columns"
             ),
             Refusal::InputLength => f.write_str(
-                "an input does not have the length of its plane; give a mask of h × w bytes and \
-                 colours of 3 × h × w numbers",
+                "an input does not have the length of its plane; give a mask, a background or an \
+                 alpha of h × w bytes and colours of 3 × h × w numbers",
             ),
             Refusal::Room => f.write_str(
                 "an output does not have the length of its plane, or a work buffer is too small; \
                  lend outputs of h × w numbers (colours: 3 × h × w) and work buffers of at least \
                  2 × h × w + 2 × (h + w) + 16 numbers",
+            ),
+            Refusal::Colour => f.write_str(
+                "a colour is below 0, above 1 or no number; scale the picture's colours, and the \
+                 reference where you give one, to 0 to 1",
+            ),
+            Refusal::Tolerance => f.write_str(
+                "the tolerance is infinite or no number; use a finite one, such as 0.03125",
+            ),
+            Refusal::Alpha => f.write_str(
+                "no pixel's alpha reaches the threshold; lower the threshold, or give a picture \
+                 that is not wholly transparent",
             ),
             Refusal::Unknown(_) => f.write_str(
                 "the number is not known here; build this crate and libstand.a from one version",
@@ -256,4 +298,264 @@ pub fn fill_transparent(
         colours, mask, h, w, &mut rows, &mut cols, &mut out,
     ))?;
     Ok(out)
+}
+
+/// A colour: three numbers from 0 to 1. It crosses the C interface as it is.
+#[repr(C)]
+#[derive(Clone, Copy, Debug, Default, PartialEq)]
+pub struct Rgb {
+    /// Red.
+    pub r: f64,
+    /// Green.
+    pub g: f64,
+    /// Blue.
+    pub b: f64,
+}
+
+/// The plain card around an object: see [`ground`].
+#[derive(Clone, Debug, PartialEq)]
+pub struct Ground {
+    /// 1 on the ground, 0 elsewhere.
+    pub plane: Vec<u8>,
+    /// The colour of the border: of each channel half the sum of its two middle values, a zero as
+    /// +0.
+    pub reference: Rgb,
+}
+
+/// The ground of a picture, or `None` where it has none.
+///
+/// The border list is row 0, row h − 1, then column 0 and column w − 1 of the rows between, repeats
+/// included; the reference is its median, channel by channel. A pixel is close when none of its
+/// channels is farther than `tolerance` from the reference. The ground is the close pixels joined to
+/// a close border pixel by steps up, down, left or right over close pixels. It is found when at
+/// least nine tenths of the border list are close and some pixel is not ground. A negative tolerance
+/// is accepted, and finds nothing.
+///
+/// ```
+/// let mut colours = [1.0; 36]; // 3 rows, 4 columns, white
+/// colours[..3].fill(0.0); // (0, 0) black: 9 of 10 are close
+/// let ground = stand::ground(&colours, 3, 4, 0.0)?.expect("a ground");
+/// assert_eq!(ground.plane, [0, 1, 1, 1, 1, 1, 1, 1, 1, 1, 1, 1]);
+/// assert_eq!(ground.reference, stand::Rgb { r: 1.0, g: 1.0, b: 1.0 });
+///
+/// colours[3..6].fill(0.0); // (0, 1) black too: 8 of 10
+/// assert_eq!(stand::ground(&colours, 3, 4, 0.0)?, None);
+/// # Ok::<(), stand::Refusal>(())
+/// ```
+pub fn ground(
+    colours: &[f64],
+    h: usize,
+    w: usize,
+    tolerance: f64,
+) -> Result<Option<Ground>, Refusal> {
+    let mut stack = zeros(work_len(h, w));
+    let mut plane = zeros(plane_len(h, w));
+    let answer = raw::ground(colours, h, w, tolerance, &mut stack, &mut plane);
+    Refusal::check(answer.number)?;
+    Ok(answer.found.then_some(Ground {
+        plane,
+        reference: answer.reference,
+    }))
+}
+
+/// The work buffers of growth and cut.
+struct Buffers {
+    near: Vec<u32>,
+    first: Vec<u8>,
+    second: Vec<u8>,
+    third: Vec<u8>,
+}
+
+impl Buffers {
+    fn new(h: usize, w: usize) -> Buffers {
+        let len = work_len(h, w);
+        Buffers {
+            near: zeros(len),
+            first: zeros(len),
+            second: zeros(len),
+            third: zeros(len),
+        }
+    }
+
+    fn lend(&mut self) -> raw::Work<'_> {
+        raw::Work {
+            near: &mut self.near,
+            first: &mut self.first,
+            second: &mut self.second,
+            third: &mut self.third,
+        }
+    }
+}
+
+/// The background after at most `passes` passes, none for a negative number; each takes pixels of
+/// the object's anti-aliased rim into it.
+///
+/// An edge pixel, not background but within one row and one column of it, joins when it is less than
+/// half as far from `reference` as its body colour is: the colour of the nearest pixel that is more
+/// than 4 rows or columns away from the background, if dy² + dx² is at most 36, else of the nearest
+/// pixel that is neither background nor edge. All joins of a pass take effect together, and a pass
+/// without a join ends growth. Any non-zero byte of `background` is on; the result holds 0 and 1.
+///
+/// ```
+/// // 27 white pixels, a light one, two black ones.
+/// let mut colours = [1.0; 90];
+/// colours[81..84].fill(0.75);
+/// colours[84..].fill(0.0);
+/// let white = stand::Rgb { r: 1.0, g: 1.0, b: 1.0 };
+/// let mut background = [1; 30];
+/// background[27..].fill(0);
+/// let grown = stand::growth(&colours, &background, 1, 30, white, 1)?;
+/// assert_eq!(grown[26..], [1, 1, 0, 0]);
+///
+/// colours[81..84].fill(0.5); // half as far as black
+/// let grown = stand::growth(&colours, &background, 1, 30, white, 1)?;
+/// assert_eq!(grown[26..], [1, 0, 0, 0]);
+/// # Ok::<(), stand::Refusal>(())
+/// ```
+pub fn growth(
+    colours: &[f64],
+    background: &[u8],
+    h: usize,
+    w: usize,
+    reference: Rgb,
+    passes: i64,
+) -> Result<Vec<u8>, Refusal> {
+    let mut buffers = Buffers::new(h, w);
+    let mut out = zeros(plane_len(h, w));
+    Refusal::check(raw::growth(
+        colours,
+        background,
+        h,
+        w,
+        reference,
+        passes,
+        &mut buffers.lend(),
+        &mut out,
+    ))?;
+    Ok(out)
+}
+
+/// A picture: `h` rows of `w` pixels.
+#[derive(Clone, Copy, Debug, PartialEq)]
+pub struct Picture<'a> {
+    /// 3 × h × w numbers from 0 to 1, channel c of pixel i at `3 * i + c`.
+    pub colours: &'a [f64],
+    /// h × w bytes, 0 for transparent and 255 for opaque.
+    pub alpha: &'a [u8],
+    /// How many rows, 1 to [`MOST_SIDE`].
+    pub h: usize,
+    /// How many columns, 1 to [`MOST_SIDE`].
+    pub w: usize,
+}
+
+/// The five settings of a cut. They cross the C interface as they are.
+///
+/// ```
+/// use stand::Settings;
+/// let wider = Settings { key_bg_fringe: 3, ..Settings::default() };
+/// assert_eq!(wider.alpha_threshold, 128);
+/// ```
+#[repr(C)]
+#[derive(Clone, Copy, Debug, PartialEq)]
+pub struct Settings {
+    /// The mask is on where alpha is at least this.
+    pub alpha_threshold: i64,
+    /// Whether a ground is sought where that mask is full.
+    pub key_bg: bool,
+    /// The most passes of growth; a negative number counts as 0.
+    pub key_bg_fringe: i64,
+    /// How far from the reference the ground may be.
+    pub key_bg_tolerance: f64,
+    /// Whether the crop box is the mask's, and not the whole picture.
+    pub crop_to_alpha: bool,
+}
+
+impl Default for Settings {
+    /// Threshold 128, keying on, one pass of growth, tolerance 0.03125, cropping on.
+    fn default() -> Settings {
+        Settings {
+            alpha_threshold: 128,
+            key_bg: true,
+            key_bg_fringe: 1,
+            key_bg_tolerance: 0.03125,
+            crop_to_alpha: true,
+        }
+    }
+}
+
+/// A crop box.
+#[derive(Clone, Debug, PartialEq, Eq)]
+pub struct Crop {
+    /// Its rows.
+    pub rows: Range<usize>,
+    /// Its columns.
+    pub cols: Range<usize>,
+}
+
+/// The outline of a picture: see [`cut`].
+#[derive(Clone, Debug, PartialEq)]
+pub struct Cut {
+    /// 1 on the object, 0 elsewhere; it is never empty.
+    pub mask: Vec<u8>,
+    /// max(alpha, 1) / 255 on the mask, 0 elsewhere.
+    pub weights: Vec<f64>,
+    /// Whether a ground was sought and found.
+    pub keyed: bool,
+    /// The mask's box with one pixel added on each side, clamped to the picture; the whole picture
+    /// where `crop_to_alpha` is off or the mask is full.
+    pub crop: Crop,
+}
+
+/// The outline of a picture.
+///
+/// The mask is on where alpha is at least the threshold. If it is on everywhere and `key_bg` asks for
+/// it, the [`ground`] is sought and grown by [`growth`], and the mask becomes what it leaves; where
+/// no ground is found, the mask stays full. What is wrong with the picture or the settings is refused
+/// whether or not the settings make use of it.
+///
+/// ```
+/// use stand::{Picture, Refusal, Settings};
+///
+/// // Three pixels, the first opaque, the second nearly, the third transparent.
+/// let picture = Picture { colours: &[0.5; 9], alpha: &[255, 200, 0], h: 1, w: 3 };
+/// let cut = stand::cut(&picture, &Settings::default())?;
+/// assert_eq!(cut.mask, [1, 1, 0]);
+/// assert_eq!(cut.weights, [1.0, 200.0 / 255.0, 0.0]);
+/// assert!(!cut.keyed);
+/// assert_eq!((cut.crop.rows, cut.crop.cols), (0..1, 0..3));
+///
+/// let settings = Settings { alpha_threshold: 256, ..Settings::default() };
+/// assert_eq!(stand::cut(&picture, &settings), Err(Refusal::Alpha));
+/// # Ok::<(), stand::Refusal>(())
+/// ```
+pub fn cut(picture: &Picture<'_>, settings: &Settings) -> Result<Cut, Refusal> {
+    let Picture {
+        colours,
+        alpha,
+        h,
+        w,
+    } = *picture;
+    let mut buffers = Buffers::new(h, w);
+    let mut mask = zeros(plane_len(h, w));
+    let mut weights = zeros(plane_len(h, w));
+    let answer = raw::cut(
+        colours,
+        alpha,
+        h,
+        w,
+        *settings,
+        &mut buffers.lend(),
+        &mut mask,
+        &mut weights,
+    );
+    Refusal::check(answer.number)?;
+    Ok(Cut {
+        mask,
+        weights,
+        keyed: answer.keyed,
+        crop: Crop {
+            rows: answer.y0..answer.y1,
+            cols: answer.x0..answer.x1,
+        },
+    })
 }

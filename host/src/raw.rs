@@ -9,6 +9,8 @@
 //! that is aligned and not null, with that many elements behind it; `&mut` slices overlap nothing;
 //! the library keeps no pointer, asks nothing else of its caller, and is proved to stay inside.
 
+use crate::{Rgb, Settings};
+
 /// What [`labels`] answers.
 #[repr(C)]
 #[derive(Clone, Copy, Debug, PartialEq, Eq)]
@@ -17,6 +19,58 @@ pub struct StandLabels {
     pub number: u32,
     /// How many parts the mask has; 0 when refused.
     pub parts: u32,
+}
+
+/// What [`ground`] answers.
+#[repr(C)]
+#[derive(Clone, Copy, Debug, PartialEq)]
+pub struct StandGround {
+    /// 0, or the number of the refusal.
+    pub number: u32,
+    /// Whether the ground was found; false when refused.
+    pub found: bool,
+    /// The border's colour, a zero as +0; all +0 when not found.
+    pub reference: Rgb,
+}
+
+/// What [`cut`] answers.
+#[repr(C)]
+#[derive(Clone, Copy, Debug, PartialEq, Eq)]
+pub struct StandCut {
+    /// 0, or the number of the refusal.
+    pub number: u32,
+    /// Whether a ground was sought and found; false when refused.
+    pub keyed: bool,
+    /// The first row of the crop box; with the next three, 0 when refused.
+    pub y0: usize,
+    /// The row after its last.
+    pub y1: usize,
+    /// Its first column.
+    pub x0: usize,
+    /// The column after its last.
+    pub x1: usize,
+}
+
+// The layout that the library was built for.
+#[cfg(target_pointer_width = "64")]
+const _: () = {
+    assert!(size_of::<Settings>() == 40);
+    assert!(size_of::<StandCut>() == 40);
+    assert!(size_of::<StandGround>() == 32);
+};
+
+/// The work buffers of [`growth`] and [`cut`], each of at least [`crate::work_len`] numbers: 14
+/// bytes a pixel in all.
+#[derive(Debug)]
+pub struct Work<'a> {
+    /// Pixels still to be looked at, later indices of pixels.
+    pub near: &'a mut [u32],
+    /// A plane of bytes.
+    pub first: &'a mut [u8],
+    /// A plane of bytes.
+    pub second: &'a mut [u8],
+    /// A plane of bytes.
+    pub third: &'a mut [u8],
 }
 
 extern "C" {
@@ -77,6 +131,58 @@ extern "C" {
         out: *mut u64,
         out_len: usize,
     ) -> u32;
+    fn stand_ground(
+        colours: *const f64,
+        colours_len: usize,
+        h: usize,
+        w: usize,
+        tolerance: f64,
+        stack: *mut u32,
+        stack_len: usize,
+        out: *mut u8,
+        out_len: usize,
+    ) -> StandGround;
+    fn stand_growth(
+        colours: *const f64,
+        colours_len: usize,
+        background: *const u8,
+        background_len: usize,
+        h: usize,
+        w: usize,
+        reference: Rgb,
+        passes: i64,
+        near: *mut u32,
+        near_len: usize,
+        first: *mut u8,
+        first_len: usize,
+        second: *mut u8,
+        second_len: usize,
+        third: *mut u8,
+        third_len: usize,
+        out: *mut u8,
+        out_len: usize,
+    ) -> u32;
+    fn stand_cut(
+        colours: *const f64,
+        colours_len: usize,
+        alpha: *const u8,
+        alpha_len: usize,
+        h: usize,
+        w: usize,
+        settings: Settings,
+        near: *mut u32,
+        near_len: usize,
+        first: *mut u8,
+        first_len: usize,
+        second: *mut u8,
+        second_len: usize,
+        third: *mut u8,
+        third_len: usize,
+        mask: *mut u8,
+        mask_len: usize,
+        weights: *mut f64,
+        weights_len: usize,
+    ) -> StandCut;
 }
 
 /// `stand_nearest`: `rows` and `cols` are outputs of h × w numbers.
@@ -194,6 +300,103 @@ pub fn fill(
             cols.len(),
             out.as_mut_ptr().cast(),
             out.len(),
+        )
+    }
+}
+
+/// `stand_ground`: `stack` is a work buffer, `out` an output of h × w bytes.
+pub fn ground(
+    colours: &[f64],
+    h: usize,
+    w: usize,
+    tolerance: f64,
+    stack: &mut [u32],
+    out: &mut [u8],
+) -> StandGround {
+    unsafe {
+        stand_ground(
+            colours.as_ptr(),
+            colours.len(),
+            h,
+            w,
+            tolerance,
+            stack.as_mut_ptr(),
+            stack.len(),
+            out.as_mut_ptr(),
+            out.len(),
+        )
+    }
+}
+
+/// `stand_growth`: `out` is an output of h × w bytes.
+#[allow(clippy::too_many_arguments)]
+pub fn growth(
+    colours: &[f64],
+    background: &[u8],
+    h: usize,
+    w: usize,
+    reference: Rgb,
+    passes: i64,
+    work: &mut Work<'_>,
+    out: &mut [u8],
+) -> u32 {
+    unsafe {
+        stand_growth(
+            colours.as_ptr(),
+            colours.len(),
+            background.as_ptr(),
+            background.len(),
+            h,
+            w,
+            reference,
+            passes,
+            work.near.as_mut_ptr(),
+            work.near.len(),
+            work.first.as_mut_ptr(),
+            work.first.len(),
+            work.second.as_mut_ptr(),
+            work.second.len(),
+            work.third.as_mut_ptr(),
+            work.third.len(),
+            out.as_mut_ptr(),
+            out.len(),
+        )
+    }
+}
+
+/// `stand_cut`: `mask` is an output of h × w bytes, `weights` one of h × w numbers.
+#[allow(clippy::too_many_arguments)]
+pub fn cut(
+    colours: &[f64],
+    alpha: &[u8],
+    h: usize,
+    w: usize,
+    settings: Settings,
+    work: &mut Work<'_>,
+    mask: &mut [u8],
+    weights: &mut [f64],
+) -> StandCut {
+    unsafe {
+        stand_cut(
+            colours.as_ptr(),
+            colours.len(),
+            alpha.as_ptr(),
+            alpha.len(),
+            h,
+            w,
+            settings,
+            work.near.as_mut_ptr(),
+            work.near.len(),
+            work.first.as_mut_ptr(),
+            work.first.len(),
+            work.second.as_mut_ptr(),
+            work.second.len(),
+            work.third.as_mut_ptr(),
+            work.third.len(),
+            mask.as_mut_ptr(),
+            mask.len(),
+            weights.as_mut_ptr(),
+            weights.len(),
         )
     }
 }

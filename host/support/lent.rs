@@ -2,7 +2,8 @@
 //! show in a later one.
 #![allow(dead_code)]
 
-use stand::raw;
+use stand::raw::{self, StandCut, StandGround, Work};
+use stand::{Rgb, Settings};
 
 /// Outputs and work buffers for planes of up to `n` pixels.
 pub struct Lent {
@@ -79,5 +80,85 @@ impl Lent {
         );
         assert_eq!(answer, 0, "fill {h} × {w}");
         out
+    }
+}
+
+/// Outputs and work buffers of ground, growth and cut.
+pub struct CutLent {
+    pub near: Vec<u32>,
+    pub first: Vec<u8>,
+    pub second: Vec<u8>,
+    pub third: Vec<u8>,
+    pub mask: Vec<u8>,
+    pub weights: Vec<f64>,
+}
+
+impl CutLent {
+    /// Buffers for pictures of sides `h` and `w` at most, filled with a pattern.
+    pub fn new(h: usize, w: usize) -> CutLent {
+        let n = h * w;
+        let work = stand::work_len(h, w).expect("sides from 1 to 4096");
+        CutLent {
+            near: vec![7; work],
+            first: vec![7; work],
+            second: vec![7; work],
+            third: vec![7; work],
+            mask: vec![7; n],
+            weights: vec![7.5; n],
+        }
+    }
+
+    pub fn ground(
+        &mut self,
+        colours: &[f64],
+        h: usize,
+        w: usize,
+        tolerance: f64,
+    ) -> (StandGround, &[u8]) {
+        let out = &mut self.mask[..h * w];
+        let answer = raw::ground(colours, h, w, tolerance, &mut self.near, out);
+        assert_eq!(answer.number, 0, "ground {h} × {w}");
+        (answer, out)
+    }
+
+    pub fn growth(
+        &mut self,
+        colours: &[f64],
+        background: &[u8],
+        h: usize,
+        w: usize,
+        reference: Rgb,
+        passes: i64,
+    ) -> &[u8] {
+        let out = &mut self.mask[..h * w];
+        let mut work = Work {
+            near: &mut self.near,
+            first: &mut self.first,
+            second: &mut self.second,
+            third: &mut self.third,
+        };
+        let answer = raw::growth(colours, background, h, w, reference, passes, &mut work, out);
+        assert_eq!(answer, 0, "growth {h} × {w}");
+        out
+    }
+
+    /// The answer, refused or not, with mask and weights.
+    pub fn cut(
+        &mut self,
+        colours: &[f64],
+        alpha: &[u8],
+        h: usize,
+        w: usize,
+        settings: Settings,
+    ) -> (StandCut, &[u8], &[f64]) {
+        let (mask, weights) = (&mut self.mask[..h * w], &mut self.weights[..h * w]);
+        let mut work = Work {
+            near: &mut self.near,
+            first: &mut self.first,
+            second: &mut self.second,
+            third: &mut self.third,
+        };
+        let answer = raw::cut(colours, alpha, h, w, settings, &mut work, mask, weights);
+        (answer, mask, weights)
     }
 }

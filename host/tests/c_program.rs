@@ -51,6 +51,9 @@ fn five_lines_of_c() {
     if let Some(text) = run("cc", &["-std=c99"], "nearest.c") {
         assert_eq!(text, "0: 0,0\n");
     }
+    if let Some(text) = run("cc", &["-std=c99"], "cut.c") {
+        assert_eq!(text, "0: 100, columns 0 to 2\n");
+    }
 }
 
 const EVERY_CALL: &str = "\
@@ -60,6 +63,10 @@ squares 0: 1 1 1 1
 distance 0: 1 0 0 1
 fill 0: 7 8 9 4 5 6 7 8 9 7 8 9
 refused 1 2 3, 1 0 1 2 3
+ground 0 1, 1 1 1: 24
+growth 0: 24
+cut 0, keyed 1, crop 1 4 1 4: 1, weight 1
+refused 4 5 6, 6 5 4
 ";
 
 #[test]

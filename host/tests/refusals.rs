@@ -4,46 +4,15 @@
 //! call and compared after it: after a refusal nothing has changed, after an accepted call no input
 //! and nothing beside the lent part.
 
+#[path = "../support/buffer.rs"]
+mod buffer;
 #[path = "../support/masks.rs"]
 mod masks;
 
+use buffer::Buffer;
 use masks::Random;
 use stand::raw;
 use std::io::Write;
-
-/// Elements before and after the lent part.
-const BESIDE: usize = 24;
-
-/// A buffer that knows what it held.
-struct Buffer<T> {
-    all: Vec<T>,
-    before: Vec<T>,
-}
-
-impl<T: Copy + PartialEq> Buffer<T> {
-    fn new(len: usize, pattern: impl FnMut() -> T) -> Buffer<T> {
-        let mut pattern = pattern;
-        let before: Vec<T> = (0..len + 2 * BESIDE).map(|_| pattern()).collect();
-        Buffer {
-            all: before.clone(),
-            before,
-        }
-    }
-
-    fn lent(&mut self) -> &mut [T] {
-        let end = self.all.len() - BESIDE;
-        &mut self.all[BESIDE..end]
-    }
-
-    fn unchanged(&self) -> bool {
-        self.all == self.before
-    }
-
-    fn unchanged_beside(&self) -> bool {
-        let end = self.all.len() - BESIDE;
-        self.all[..BESIDE] == self.before[..BESIDE] && self.all[end..] == self.before[end..]
-    }
-}
 
 /// What a slice is to its call, with the numbers a pixel of its plane.
 #[derive(Clone, Copy, Debug, PartialEq)]

@@ -1,13 +1,15 @@
-//! Ours and mask.rs side by side, in one process, on the same masks.
+//! Ours and mask.rs side by side, in one process, on the same masks and pictures.
 //!
 //! ```text
-//! cargo run --release --manifest-path host/Cargo.toml --bin benchmark [-- [wall] [RUNS] [SIDE..]]
+//! cargo run --release --manifest-path host/Cargo.toml --bin benchmark \
+//!     [-- [wall] [planes | cut] [RUNS] [SIDE..]]
 //! ```
 //!
 //! The clock counts the processor time of this thread, the system's work for it included, where the
 //! system tells it (/proc/thread-self/schedstat): on an idle machine that is the time that passes,
 //! and on a busy one it leaves out the time of others. `wall` takes the time that passes.
 //! RUNS is how often each is timed (at least 5, which is the default), in turn; the median counts.
+//! `planes` leaves out ground, growth and cut, `cut` leaves out the rest.
 //! SIDE is the side of the square planes: 1024 2048 4096 by default. Ours writes into buffers that
 //! were made and touched before the clock starts; mask.rs allocates its planes, as it always does,
 //! and gives them back after the clock has stopped. Both are built for release.
@@ -21,9 +23,12 @@ include!(concat!(env!("OUT_DIR"), "/the_rust.rs"));
 mod lent;
 #[path = "../../support/masks.rs"]
 mod masks;
+#[path = "../../support/pictures.rs"]
+mod pictures;
 
-use lent::Lent;
+use lent::{CutLent, Lent};
 use masks::Random;
+use stand::{Rgb, Settings};
 use std::fs;
 use std::hint::black_box;
 use std::mem::size_of_val;
@@ -86,6 +91,9 @@ enum Call {
     Squares(u64),
     Distance,
     Fill,
+    Ground,
+    Growth(i64),
+    Cut(i64),
 }
 
 impl Call {
@@ -96,12 +104,16 @@ impl Call {
             Call::Squares(k) => format!("squares, k {k}"),
             Call::Distance => "square distance".into(),
             Call::Fill => "fill".into(),
+            Call::Ground => "ground".into(),
+            Call::Growth(p) => format!("growth, p {p}"),
+            Call::Cut(p) => format!("cut, p {p}"),
         }
     }
 
     /// Seconds that one call of ours takes.
-    fn ours(self, clock: Clock, lent: &mut Lent, p: &Plane) -> f64 {
+    fn ours(self, clock: Clock, lents: &mut Lents, p: &Plane) -> f64 {
         let (h, w, mask) = (p.side, p.side, black_box(&p.mask[..]));
+        let Lents { planes: lent, cut } = lents;
         match self {
             Call::Nearest => clock.time(|| _ = black_box(lent.nearest(mask, h, w))).1,
             Call::Labels => clock.time(|| _ = black_box(lent.labels(mask, h, w))).1,
@@ -110,6 +122,23 @@ impl Call {
             Call::Fill => {
                 clock
                     .time(|| _ = black_box(lent.fill(p.colours, mask, h, w)))
+                    .1
+            }
+            Call::Ground => {
+                let tolerance = Settings::default().key_bg_tolerance;
+                clock
+                    .time(|| _ = black_box(cut.ground(p.colours, h, w, tolerance)))
+                    .1
+            }
+            Call::Growth(passes) => {
+                clock
+                    .time(|| _ = black_box(cut.growth(p.colours, mask, h, w, p.reference, passes)))
+                    .1
+            }
+            Call::Cut(passes) => {
+                let settings = settings(passes);
+                clock
+                    .time(|| _ = black_box(cut.cut(p.colours, p.alpha, h, w, settings)))
                     .1
             }
         }
@@ -133,6 +162,31 @@ impl Call {
                     .time(|| mask::fill_transparent(p.colours, mask, h, w))
                     .1
             }
+            Call::Ground => {
+                let tolerance = Settings::default().key_bg_tolerance;
+                clock
+                    .time(|| mask::flat_background(p.colours, h, w, tolerance, 0))
+                    .1
+            }
+            Call::Growth(passes) => {
+                let Rgb { r, g, b } = p.reference;
+                clock
+                    .time(|| mask::unmix_fringe(p.colours, mask, h, w, &[r, g, b], passes as usize))
+                    .1
+            }
+            Call::Cut(passes) => {
+                let settings = settings(passes);
+                let config = config::Config {
+                    alpha_threshold: settings.alpha_threshold,
+                    key_bg: settings.key_bg,
+                    key_bg_fringe: settings.key_bg_fringe,
+                    key_bg_tolerance: settings.key_bg_tolerance,
+                    crop_to_alpha: settings.crop_to_alpha,
+                };
+                clock
+                    .time(|| mask::subject(p.colours, p.alpha, h, w, &config))
+                    .1
+            }
         })
     }
 
@@ -142,6 +196,21 @@ impl Call {
     }
 }
 
+/// The stand's own settings, with this number of passes.
+fn settings(passes: i64) -> Settings {
+    Settings {
+        key_bg_fringe: passes,
+        ..Settings::default()
+    }
+}
+
+/// Buffers for a side.
+struct Lents {
+    planes: Lent,
+    cut: CutLent,
+}
+
+/// A mask with any colours; or a picture with its ground as the mask, its alpha and reference.
 struct Plane<'a> {
     side: usize,
     name: &'static str,
@@ -149,6 +218,33 @@ struct Plane<'a> {
     #[cfg_attr(not(mask_rs), allow(dead_code))]
     bools: Vec<bool>,
     colours: &'a [f64],
+    alpha: &'a [u8],
+    reference: Rgb,
+}
+
+impl<'a> Plane<'a> {
+    fn mask(side: usize, name: &'static str, mask: Vec<u8>, colours: &'a [f64]) -> Plane<'a> {
+        Plane {
+            side,
+            name,
+            bools: masks::bools(&mask),
+            mask,
+            colours,
+            alpha: &[],
+            reference: Rgb::default(),
+        }
+    }
+
+    fn picture(side: usize, name: &'static str, colours: &'a [f64], alpha: &'a [u8]) -> Plane<'a> {
+        let tolerance = Settings::default().key_bg_tolerance;
+        let ground = stand::ground(colours, side, side, tolerance);
+        let ground = ground.expect("accepted").expect("a ground");
+        Plane {
+            alpha,
+            reference: ground.reference,
+            ..Plane::mask(side, name, ground.plane, colours)
+        }
+    }
 }
 
 fn median(mut times: Vec<f64>) -> f64 {
@@ -178,7 +274,7 @@ impl Line {
     }
 }
 
-fn measure(call: Call, plane: &Plane, lent: &mut Lent, how: How) -> Line {
+fn measure(call: Call, plane: &Plane, lent: &mut Lents, how: How) -> Line {
     let pixels = (plane.side * plane.side) as f64;
     let (mut ours, mut theirs) = (Vec::new(), Vec::new());
     call.ours(how.clock, lent, plane);
@@ -210,11 +306,12 @@ fn number(value: Option<f64>, digits: usize) -> String {
     value.map_or("-".into(), |value| format!("{value:.digits$}"))
 }
 
-/// For each group of calls and masks the least ratio from 2048 on, and how the time per pixel grows
-/// from 1024 to 4096 at most.
+/// For each group of calls and masks the least ratio at 1024 and from 2048 on, and how the time per
+/// pixel grows from 1024 to 4096 at most.
 fn summary(lines: &[Line]) {
     type Group = (&'static str, fn(&Line) -> bool);
-    let groups: [Group; 7] = [
+    const BADGES: [&str; 2] = ["badge", "badge with dust"];
+    let groups: [Group; 14] = [
         ("nearest, object and complement", |l| {
             l.call == Call::Nearest && ["object", "complement"].contains(&l.mask)
         }),
@@ -234,21 +331,49 @@ fn summary(lines: &[Line]) {
         ("square distance and fill", |l| {
             [Call::Distance, Call::Fill].contains(&l.call)
         }),
+        ("ground", |l| l.call == Call::Ground),
+        ("growth, badge", |l| {
+            matches!(l.call, Call::Growth(_)) && BADGES.contains(&l.mask)
+        }),
+        ("growth, noise", |l| {
+            matches!(l.call, Call::Growth(_)) && !BADGES.contains(&l.mask)
+        }),
+        ("cut p 0, badge", |l| {
+            l.call == Call::Cut(0) && BADGES.contains(&l.mask)
+        }),
+        ("cut p 1, badge", |l| {
+            l.call == Call::Cut(1) && BADGES.contains(&l.mask)
+        }),
+        ("cut p 3, badge", |l| {
+            l.call == Call::Cut(3) && BADGES.contains(&l.mask)
+        }),
+        ("cut, noise", |l| {
+            matches!(l.call, Call::Cut(_)) && !BADGES.contains(&l.mask)
+        }),
     ];
-    println!("\n| | least ratio from 2048 on | most growth of ns per pixel, 1024 to 4096 |");
-    println!("|---|---:|---:|");
+    println!(
+        "\n| | least ratio at 1024 | from 2048 on | most growth of ns per pixel, 1024 to 4096 |"
+    );
+    println!("|---|---:|---:|---:|");
     for (name, of) in groups {
         let group: Vec<&Line> = lines.iter().filter(|l| of(l)).collect();
-        let ratios = group
-            .iter()
-            .filter(|l| l.side >= 2048)
-            .filter_map(|l| l.ratio());
+        if group.is_empty() {
+            continue;
+        }
+        let least = |sides: fn(usize) -> bool| {
+            let some = group.iter().filter(|l| sides(l.side));
+            number(some.filter_map(|l| l.ratio()).reduce(f64::min), 1)
+        };
         let growths = group.iter().filter(|l| l.side == 4096).filter_map(|l| {
             let small = |s: &&&Line| s.call == l.call && s.mask == l.mask && s.side == 1024;
             Some(l.ours / group.iter().find(small)?.ours)
         });
-        let (least, most) = (ratios.reduce(f64::min), growths.reduce(f64::max));
-        println!("| {name} | {} | {} |", number(least, 1), number(most, 2));
+        println!(
+            "| {name} | {} | {} | {} |",
+            least(|side| side == 1024),
+            least(|side| side >= 2048),
+            number(growths.reduce(f64::max), 2)
+        );
     }
 }
 
@@ -287,38 +412,119 @@ fn head(how: How) {
     println!();
 }
 
-/// What a caller lends beside inputs: bytes per pixel.
-fn memory(side: usize, lent: &Lent) {
+/// What a caller lends beside inputs: bytes per pixel, and the work buffers in MiB.
+fn memory(side: usize, lents: &Lents) {
+    let Lents { planes: lent, cut } = lents;
     let bytes = |n: usize| format!("{:.2}", n as f64 / (side * side) as f64);
     println!("\nMemory lent by the caller at {side} × {side}, bytes per pixel (nothing else is");
-    println!("allocated):\n");
-    println!("| call | work buffers | outputs |\n|---|---:|---:|");
+    println!("allocated, so this is the most at any time):\n");
+    println!("| call | work buffers | in MiB | outputs |\n|---|---:|---:|---:|");
     let planes = size_of_val(&lent.rows[..]) + size_of_val(&lent.cols[..]);
     let pair = size_of_val(&lent.row_work[..]) + size_of_val(&lent.col_work[..]);
-    let of = |name, work, out| println!("| {name} | {} | {} |", bytes(work), bytes(out));
+    let near = size_of_val(&cut.near[..]);
+    let three = cut.first.len() + cut.second.len() + cut.third.len();
+    let of = |name, work, out| {
+        let mib = work as f64 / (1 << 20) as f64;
+        println!("| {name} | {} | {mib:.1} | {} |", bytes(work), bytes(out));
+    };
     of("nearest", 0, planes);
     of(
         "labels",
         size_of_val(&lent.stack[..]),
         size_of_val(&lent.labels[..]),
     );
-    of(
-        "squares",
-        size_of_val(&lent.work[..]),
-        size_of_val(&lent.out[..]),
-    );
+    of("squares", lent.work.len(), lent.out.len());
     of("square distance", pair, size_of_val(&lent.distance[..]));
     of("fill", pair, size_of_val(&lent.filled[..]));
+    of("ground", near, cut.mask.len());
+    of("growth", near + three, cut.mask.len());
+    of(
+        "cut",
+        near + three,
+        cut.mask.len() + size_of_val(&cut.weights[..]),
+    );
+}
+
+/// Nearest, squares, labels, square distance and fill.
+fn planes(side: usize, random: &mut Random, lents: &mut Lents, how: How, lines: &mut Vec<Line>) {
+    let colours: Vec<f64> = (0..3 * side * side)
+        .map(|_| (random.next() >> 11) as f64 / 9e15)
+        .collect();
+    let object = masks::object(side, side);
+    let complement = masks::complement(&object);
+    let planes = [
+        ("object", object),
+        ("complement", complement),
+        ("random half", random.mask(side * side, 500)),
+        ("single pixel", masks::single(side, side)),
+        ("sparse 0.1 %", random.mask(side * side, 1)),
+        ("full", masks::full(side, side)),
+        ("empty", masks::empty(side, side)),
+        ("spiral", masks::spiral(side, side)),
+        ("checkerboard", masks::checkerboard(side, side)),
+    ]
+    .map(|(name, mask)| Plane::mask(side, name, mask, &colours));
+    for plane in &planes[..7] {
+        lines.push(measure(Call::Nearest, plane, lents, how));
+    }
+    for plane in [&planes[0], &planes[2]] {
+        for k in [1, 4, 64, 4096] {
+            lines.push(measure(Call::Squares(k), plane, lents, how));
+        }
+    }
+    for plane in &planes {
+        lines.push(measure(Call::Labels, plane, lents, how));
+    }
+    for call in [Call::Distance, Call::Fill] {
+        for plane in [&planes[0], &planes[2]] {
+            lines.push(measure(call, plane, lents, how));
+        }
+    }
+}
+
+/// Ground, growth and cut, picture by picture; and growth on a background of single pixels.
+fn cuts(side: usize, random: &mut Random, lents: &mut Lents, how: How, lines: &mut Vec<Line>) {
+    let alpha = vec![255; side * side];
+    for name in ["badge", "badge with dust", "half noise"] {
+        let colours = match name {
+            "badge" => pictures::badge(random, side, side, false),
+            "badge with dust" => pictures::badge(random, side, side, true),
+            _ => pictures::noise(random, side, side, 500),
+        };
+        let picture = Plane::picture(side, name, &colours, &alpha);
+        for call in [
+            Call::Ground,
+            Call::Growth(1),
+            Call::Growth(3),
+            Call::Cut(0),
+            Call::Cut(1),
+            Call::Cut(3),
+        ] {
+            lines.push(measure(call, &picture, lents, how));
+        }
+    }
+    let colours = pictures::noise(random, side, side, 970);
+    let background = random.mask(side * side, 30);
+    let picture = Plane::mask(side, "3 % noise", background, &colours);
+    for call in [Call::Growth(1), Call::Growth(3)] {
+        lines.push(measure(call, &picture, lents, how));
+    }
 }
 
 fn main() {
     let mut words: Vec<String> = std::env::args().skip(1).collect();
-    let wall = words.first().is_some_and(|word| word == "wall");
-    if wall {
-        words.remove(0);
-    }
+    let mut taken = |word: &str| {
+        let is = words.first().is_some_and(|first| first == word);
+        if is {
+            words.remove(0);
+        }
+        is
+    };
+    let wall = taken("wall");
+    let (only_planes, only_cut) = (taken("planes"), taken("cut"));
     let numbers: Option<Vec<usize>> = words.iter().map(|word| word.parse().ok()).collect();
-    let usage = "usage: benchmark [wall] [RUNS] [SIDE..]\nRUNS is at least 5, a SIDE 16 to 4096";
+    let usage = "usage: benchmark [wall] [planes | cut] [RUNS] [SIDE..]\n\
+                 RUNS is at least 5, a SIDE 16 to 4096";
     let (runs, sides) = match numbers.as_deref() {
         Some([]) => (5, vec![1024, 2048, 4096]),
         Some([runs]) if *runs >= 5 => (*runs, vec![1024, 2048, 4096]),
@@ -333,53 +539,23 @@ fn main() {
     let clock = Clock::of(wall);
     let how = How { clock, runs };
     head(how);
-    println!("| call | mask | side | mask.rs | ours | ratio |\n|---|---|---:|---:|---:|---:|");
+    println!("| call | on | side | mask.rs | ours | ratio |\n|---|---|---:|---:|---:|---:|");
     let mut lines = Vec::new();
     for &side in &sides {
         let mut random = Random(side as u64);
-        let mut lent = Lent::new(side, side);
-        let colours: Vec<f64> = (0..3 * side * side)
-            .map(|_| (random.next() >> 11) as f64 / 9e15)
-            .collect();
-        let object = masks::object(side, side);
-        let complement = masks::complement(&object);
-        let planes = [
-            ("object", object),
-            ("complement", complement),
-            ("random half", random.mask(side * side, 500)),
-            ("single pixel", masks::single(side, side)),
-            ("sparse 0.1 %", random.mask(side * side, 1)),
-            ("full", masks::full(side, side)),
-            ("empty", masks::empty(side, side)),
-            ("spiral", masks::spiral(side, side)),
-            ("checkerboard", masks::checkerboard(side, side)),
-        ]
-        .map(|(name, mask)| Plane {
-            side,
-            name,
-            bools: masks::bools(&mask),
-            mask,
-            colours: &colours,
-        });
-        for plane in &planes[..7] {
-            lines.push(measure(Call::Nearest, plane, &mut lent, how));
+        let mut lents = Lents {
+            planes: Lent::new(side, side),
+            cut: CutLent::new(side, side),
+        };
+        if !only_cut {
+            planes(side, &mut random, &mut lents, how, &mut lines);
         }
-        for plane in [&planes[0], &planes[2]] {
-            for k in [1, 4, 64, 4096] {
-                lines.push(measure(Call::Squares(k), plane, &mut lent, how));
-            }
-        }
-        for plane in &planes {
-            lines.push(measure(Call::Labels, plane, &mut lent, how));
-        }
-        for call in [Call::Distance, Call::Fill] {
-            for plane in [&planes[0], &planes[2]] {
-                lines.push(measure(call, plane, &mut lent, how));
-            }
+        if !only_planes {
+            cuts(side, &mut random, &mut lents, how, &mut lines);
         }
         if side == *sides.last().unwrap() {
             summary(&lines);
-            memory(side, &lent);
+            memory(side, &lents);
         }
     }
 }

@@ -6,6 +6,59 @@
 #define W 2
 #define N (H * W)
 #define WORK (2 * N + 2 * (H + W) + 16)
+#define SIDE 5
+#define PIXELS (SIDE * SIDE)
+#define ROOM (2 * PIXELS + 2 * (SIDE + SIDE) + 16)
+
+/* Ground, growth and cut on a white card with one black pixel in its middle. */
+static void picture(void)
+{
+    double colours[3 * PIXELS], weights[PIXELS];
+    uint8_t alpha[PIXELS], background[PIXELS], mask[PIXELS];
+    uint32_t near[ROOM];
+    uint8_t first[ROOM], second[ROOM], third[ROOM];
+    StandSettings settings = {128, true, 1, 0.03125, true};
+    size_t room = stand_work_len(SIDE, SIDE);
+    StandGround ground;
+    StandCut cut;
+    unsigned answer;
+    int i, on = 0;
+
+    for (i = 0; i < 3 * PIXELS; i++) colours[i] = i / 3 == 12 ? 0.0 : 1.0;
+    for (i = 0; i < PIXELS; i++) alpha[i] = 255;
+
+    ground = stand_ground(colours, 3 * PIXELS, SIDE, SIDE, 0.03125, near, room, background, PIXELS);
+    for (i = 0; i < PIXELS; i++) on += background[i];
+    printf("ground %u %d, %g %g %g: %d\n", (unsigned)ground.number, (int)ground.found,
+           ground.reference.r, ground.reference.g, ground.reference.b, on);
+
+    answer = stand_growth(colours, 3 * PIXELS, background, PIXELS, SIDE, SIDE, ground.reference, 1,
+                          near, room, first, room, second, room, third, room, mask, PIXELS);
+    for (on = 0, i = 0; i < PIXELS; i++) on += mask[i];
+    printf("growth %u: %d\n", answer, on);
+
+    cut = stand_cut(colours, 3 * PIXELS, alpha, PIXELS, SIDE, SIDE, settings,
+                    near, room, first, room, second, room, third, room, mask, PIXELS,
+                    weights, PIXELS);
+    for (on = 0, i = 0; i < PIXELS; i++) on += mask[i];
+    printf("cut %u, keyed %d, crop %u %u %u %u: %d, weight %g\n", (unsigned)cut.number,
+           (int)cut.keyed, (unsigned)cut.y0, (unsigned)cut.y1, (unsigned)cut.x0, (unsigned)cut.x1,
+           on, weights[12]);
+
+    printf("refused %d %d %d,", STAND_COLOUR, STAND_TOLERANCE, STAND_ALPHA);
+    settings.alpha_threshold = 256;
+    cut = stand_cut(colours, 3 * PIXELS, alpha, PIXELS, SIDE, SIDE, settings,
+                    near, room, first, room, second, room, third, room, mask, PIXELS,
+                    weights, PIXELS);
+    printf(" %u", (unsigned)cut.number);
+    ground = stand_ground(colours, 3 * PIXELS, SIDE, SIDE, 1e308 * 10, near, room, background,
+                          PIXELS);
+    printf(" %u", (unsigned)ground.number);
+    ground.reference.g = 1.5;
+    printf(" %u\n", (unsigned)stand_growth(colours, 3 * PIXELS, background, PIXELS, SIDE, SIDE,
+                                           ground.reference, 1, near, room, first, room, second,
+                                           room, third, room, mask, PIXELS));
+}
 
 int main(void)
 {
@@ -46,5 +99,7 @@ int main(void)
     printf(" %u", (unsigned)stand_nearest(mask, N, 0, W, rows, N, cols, N));
     printf(" %u", (unsigned)stand_squares(mask, N - 1, H, W, 1, work, room, out, N));
     printf(" %u\n", (unsigned)stand_squares(mask, N, H, W, 1, work, room - 1, out, N));
+
+    picture();
     return STAND_ACCEPTED;
 }

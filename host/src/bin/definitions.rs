@@ -1,0 +1,311 @@
+//! Writes small pictures, with what mask.rs says of them, as tests of the definitions.
+//!
+//! ```text
+//! cargo run --release --manifest-path host/Cargo.toml --bin definitions -- [CUTS] [GROWTHS] [MOST] [SEED]
+//! ```
+//!
+//! CUTS pictures of at most MOST pixels go to `subject`, GROWTHS lines and strips to `unmix_fringe`
+//! (300, 100, 25 and 1 by default). The text on standard output is a module for
+//! crates/outline/proofs: test after test, each that the definitions of crates/outline give mask,
+//! weights by bits, keyed flag and crop box of mask.rs, or the refusal. The prover computes each of
+//! them; one declaration for all would be more than it computes at once.
+
+include!(concat!(env!("OUT_DIR"), "/the_rust.rs"));
+
+#[path = "../../support/masks.rs"]
+mod masks;
+#[path = "../../support/pictures.rs"]
+mod pictures;
+
+#[cfg(not(mask_rs))]
+fn main() {
+    eprintln!("mask.rs is not at hand: PIXELFORGE_MASK_RS names its place");
+    std::process::exit(1);
+}
+
+#[cfg(mask_rs)]
+fn main() {
+    with::main();
+}
+
+#[cfg(mask_rs)]
+mod with {
+    use crate::config::Config;
+    use crate::mask;
+    use crate::masks::{bools, Random};
+    use crate::pictures;
+
+    const HEAD: &str = "\
+-- Small pictures, and what mask.rs says of them: the definitions say the same.
+-- Assumes nothing.
+use mathlib.Core.Bool.{Bool, true, false, cond, not, _&&_}
+use mathlib.Core.List.{List, [], _∷_, map}
+use Prim.Native.Nat.{ℕ, _*_}
+use lib.IntN.{ℤ, pos, negsuc}
+use lib.Dec.{T, eqb}
+use lib.Ieee.{Float, binary64, lt, le, eq, add, sub, mul, div, neg, ofInt, ofBits, toBits}
+use lib.Ieee.Scale.{finite}
+use Rattle.plane.specs.Plane.{on, bit, onAt, apart, within, table, rowsUpto, planeOf}
+use Rattle.plane.specs.Search.{someBelow, countBelow}
+use Rattle.plane.specs.Refusal.{roomFor, numberFor}
+use Rattle.line.specs.Walk.{lower}
+use Rattle.line.specs.Grid.{valueOf, walk, upto, grid, plus}
+use Rattle.nearest.specs.Nearest.{rowCost, nearest, away, distanceTo}
+use Rattle.squares.specs.Squares.{inSquare}
+use Rattle.labels.specs.Labels.{isOn, beside, lesser, renamed, merge, joinTwo, joinWith, joinUpto, firstPixel}
+use Rattle.colour.specs.declared.Rgb.{Rgb}
+use Rattle.colour.specs.declared.Settings.{Settings}
+use Rattle.colour.specs.Number.{absOf, larger, plusZero, halfOf}
+use Rattle.colour.specs.Colour.{differenceOf, closeTo, colourOk, coloursOk, rgbOk}
+use Rattle.colour.specs.Join.{joinsOf}
+use Rattle.colour.specs.Settings.{passesOf, onOf}
+use Rattle.colour.specs.Weight.{weightOf}
+use Rattle.median.specs.Median.{insert, sorted, placed, lowerMiddle, upperMiddle, medianOf}
+use Rattle.outline.specs.Border.{rowPixels, innerColumn, borderList, listed, onBorder, channelAt, colourAt, referenceChannel, referenceOf}
+use Rattle.outline.specs.Ground.{isClose, closePlane, isGround, groundFrom, groundOf, countOn, someOff, foundFrom, isFound}
+use Rattle.outline.specs.Growth.{nearGround, isEdge, isShallow, isDeep, maskOf, indexOf, isReach, bodyFrom, joinsFrom, isJoining, passOf, growthOf}
+use Rattle.outline.specs.Cut.{alphaMask, isSought, isKeyed, grownGround, cutMask, weightAt, weightsOf, firstBelow, lastBelow, rowHas, columnHas, lesserOf, boxOf, cropOf}
+use Rattle.outline.specs.Refusal.{firstOf, colourNumber, toleranceNumber, cutNumber}
+
+same : List ℕ → List ℕ → Bool
+same [] [] = true
+same [] (n ∷ m) = false
+same (k ∷ l) [] = false
+same (k ∷ l) (n ∷ m) = eqb k n && same l m
+
+f64 : ℕ → Float
+f64 n = ofBits binary64 n
+
+bits : Float → ℕ
+bits x = toBits binary64 x
+
+settings : ℤ → Bool → ℤ → ℕ → Bool → Settings
+settings threshold key p tolerance crop = record { «alpha_threshold» = threshold; «key_bg» = key; «key_bg_fringe» = p; «key_bg_tolerance» = f64 tolerance; «crop_to_alpha» = crop }
+
+rgb : ℕ → ℕ → ℕ → Rgb
+rgb r g b = record { r = f64 r; g = f64 g; b = f64 b }
+
+-- the number, with buffers that fit
+numbered : List Float → List ℕ → ℕ → ℕ → Settings → ℕ → Bool
+numbered colours alpha h w s number =
+    eqb (cutNumber colours alpha h w s (h * w) (h * w) (roomFor h w) (roomFor h w) (roomFor h w) (roomFor h w)) number
+
+-- accepted, with this mask, these weights, this flag and this box
+cutIs : List Float → List ℕ → ℕ → ℕ → Settings → List ℕ → List ℕ → Bool → List ℕ → Bool
+cutIs colours alpha h w s mask weights keyed box =
+    let crop = cropOf mask h w s in
+    numbered colours alpha h w s 0
+    && same (cutMask colours alpha h w s) mask
+    && same (map bits (weightsOf mask alpha (h * w))) weights
+    && cond keyed (isKeyed colours alpha h w s) (not (isKeyed colours alpha h w s))
+    && same (crop .y0 ∷ crop .y1 ∷ crop .x0 ∷ crop .x1 ∷ []) box
+
+growthIs : List Float → Rgb → ℕ → ℕ → ℕ → List ℕ → List ℕ → Bool
+growthIs colours reference h w p back grown = same (growthOf colours reference h w p back) grown
+
+";
+
+    const UNFOLDING: &str = "unfolding same f64 bits settings rgb numbered cutIs growthIs on bit onAt apart within table rowsUpto planeOf someBelow countBelow numberFor lower valueOf walk upto grid plus rowCost nearest away distanceTo inSquare isOn beside lesser renamed merge joinTwo joinWith joinUpto firstPixel absOf larger plusZero halfOf differenceOf closeTo colourOk coloursOk rgbOk joinsOf passesOf onOf weightOf insert sorted placed lowerMiddle upperMiddle medianOf rowPixels innerColumn borderList listed onBorder channelAt colourAt referenceChannel referenceOf isClose closePlane isGround groundFrom groundOf countOn someOff foundFrom isFound nearGround isEdge isShallow isDeep maskOf indexOf isReach bodyFrom joinsFrom isJoining passOf growthOf alphaMask isSought isKeyed grownGround cutMask weightAt weightsOf firstBelow lastBelow rowHas columnHas lesserOf boxOf cropOf firstOf colourNumber toleranceNumber cutNumber finite lt le eq add sub mul div neg ofInt ofBits toBits";
+
+    fn list<T: std::fmt::Display>(of: impl IntoIterator<Item = T>) -> String {
+        let mut text = String::from("(");
+        for element in of {
+            text += &format!("{element} ∷ ");
+        }
+        text + "[])"
+    }
+
+    fn integer(n: i64) -> String {
+        match u64::try_from(n) {
+            Ok(n) => format!("(pos {n})"),
+            Err(_) => format!("(negsuc {})", -(n + 1)),
+        }
+    }
+
+    /// Colours as bits, read by `f64`.
+    fn floats(colours: &[f64]) -> String {
+        format!("(map f64 {})", list(colours.iter().map(|c| c.to_bits())))
+    }
+
+    fn masked(mask: &[bool]) -> String {
+        list(mask.iter().map(|&m| m as u8))
+    }
+
+    /// How many were written, and what they were.
+    #[derive(Default)]
+    struct Count {
+        refused: u32,
+        keyed: u32,
+        grown: u32,
+        full: u32,
+        partial: u32,
+        growths: u32,
+        joined: u32,
+        deep: u32,
+        beyond: u32,
+    }
+
+    /// An object of few colours on a card, opaque for the most part.
+    fn few_colours(random: &mut Random, drawn: &mut pictures::Drawn) {
+        let card = [1.0, 0.0, -0.0, 0.5][random.below(4)];
+        let far = if card == 1.0 { -1.0 } else { 0.5 };
+        let border = pictures::onto_border(drawn.h, drawn.w);
+        let odd = random.below(drawn.h * drawn.w);
+        for (i, pixel) in drawn.colours.chunks_mut(3).enumerate() {
+            let part = match border[i] {
+                true if i != odd => 0.0,
+                _ => [0.0, 0.125, 0.25, 0.375, 0.5, 1.0, 1.0, 1.0][random.below(8)],
+            };
+            let grey = if part == 0.0 { card } else { card + far * part };
+            pixel.fill(grey);
+            pixel[random.below(3)] = card;
+        }
+        if random.below(4) > 0 {
+            drawn.alpha.fill(255);
+            drawn.settings.alpha_threshold = 128;
+        }
+        drawn.settings.key_bg_tolerance = [0.0, -0.0, 0.03125, 0.0625][random.below(4)];
+    }
+
+    /// Settings with small numbers of passes; any of the others.
+    fn cut(random: &mut Random, most: usize, count: &mut Count) -> String {
+        let object = random.below(2) == 0;
+        let (h, w) = loop {
+            let least = if object { 4 } else { 1 };
+            let side = |random: &mut Random| least + random.below(9 - least);
+            let (h, w) = (side(random), side(random));
+            if h * w <= most.max(16) {
+                break (h, w);
+            }
+        };
+        let mut drawn = pictures::draw(random, h, w);
+        if object {
+            few_colours(random, &mut drawn);
+        }
+        let settings = &mut drawn.settings;
+        settings.key_bg_fringe = [-1, 0, 1, 1, 2, 3][random.below(6)];
+        settings.alpha_threshold = settings.alpha_threshold.clamp(-5, 256);
+        if random.below(2) == 0 && !settings.key_bg_tolerance.is_finite() {
+            settings.key_bg_tolerance = 0.03125;
+        }
+        let config = Config {
+            alpha_threshold: settings.alpha_threshold,
+            key_bg: settings.key_bg,
+            key_bg_fringe: settings.key_bg_fringe,
+            key_bg_tolerance: settings.key_bg_tolerance,
+            crop_to_alpha: settings.crop_to_alpha,
+        };
+        let given = format!(
+            "{} {} {h} {w} (settings {} {} {} {} {})",
+            floats(&drawn.colours),
+            list(&drawn.alpha),
+            integer(config.alpha_threshold),
+            config.key_bg,
+            integer(config.key_bg_fringe),
+            config.key_bg_tolerance.to_bits(),
+            config.crop_to_alpha
+        );
+        match mask::subject(&drawn.colours, &drawn.alpha, h, w, &config) {
+            Err(_) => {
+                count.refused += 1;
+                format!("numbered {given} 6")
+            }
+            Ok(theirs) => {
+                let ground = pictures::ground(&drawn.colours, h, w, config.key_bg_tolerance);
+                let grown = (0..h * w).any(|i| !theirs.mask[i] && ground[i] == 0);
+                count.keyed += theirs.background_keyed as u32;
+                count.grown += (theirs.background_keyed && grown) as u32;
+                count.full += theirs.mask.iter().all(|&m| m) as u32;
+                count.partial += drawn
+                    .alpha
+                    .iter()
+                    .any(|&a| (a as i64) < config.alpha_threshold)
+                    as u32;
+                let (y0, y1, x0, x1) = theirs.crop;
+                format!(
+                    "cutIs {given} {} {} {} {}",
+                    masked(&theirs.mask),
+                    list(theirs.weight.iter().map(|w| w.to_bits())),
+                    theirs.background_keyed,
+                    list([y0, y1, x0, x1])
+                )
+            }
+        }
+    }
+
+    /// A line or a strip that has room for deep pixels, with the background at its left end and
+    /// here and there.
+    fn growth(random: &mut Random, count: &mut Count) -> String {
+        let (h, w) = [(1, 12), (1, 16), (12, 1), (16, 1), (2, 9), (2, 12)][random.below(6)];
+        let n = h * w;
+        let colours: Vec<f64> = (0..n)
+            .flat_map(|i| {
+                let far = (i % w + i / w) as f64 / (h + w) as f64;
+                let grey = [0.0, 0.25, 1.0, far, far * far, far][random.below(6)];
+                [grey, grey, [grey, grey, -0.0][random.below(3)]]
+            })
+            .collect();
+        let ends = 1 + random.below(3);
+        let holes = [0, 0, 60, 200][random.below(4)];
+        let also = random.mask(n, holes);
+        let back: Vec<u8> = (0..n)
+            .map(|i| (i % w + i / w < ends || also[i] == 1) as u8)
+            .collect();
+        let back = random.any_bytes(&back);
+        let p = random.below(4);
+        let reference = [-0.0, 0.0, 0.0];
+        let grown = mask::unmix_fringe(&colours, &bools(&back), h, w, &reference, p);
+        let deep = mask::binary_dilation8(&bools(&back), h, w, 4);
+        let deep: Vec<bool> = deep.iter().map(|&d| !d).collect();
+        count.growths += 1;
+        count.joined += (grown != bools(&back)) as u32;
+        if p > 0 && deep.contains(&true) {
+            count.deep += 1;
+            let (rows, cols) = mask::feature_transform(&deep, h, w);
+            let near = mask::binary_dilation8(&bools(&back), h, w, 1);
+            count.beyond += (0..n).any(|i| {
+                let dy = rows[i] as i64 - (i / w) as i64;
+                let dx = cols[i] as i64 - (i % w) as i64;
+                back[i] == 0 && near[i] && dy * dy + dx * dx > 36
+            }) as u32;
+        }
+        let [r, g, b] = reference.map(f64::to_bits);
+        format!(
+            "growthIs {} (rgb {r} {g} {b}) {h} {w} {p} {} {}",
+            floats(&colours),
+            list(&back),
+            masked(&grown)
+        )
+    }
+
+    pub fn main() {
+        let words = std::env::args().skip(1);
+        let numbers: Vec<usize> = words.map(|word| word.parse().expect("a number")).collect();
+        let or = |at: usize, otherwise| numbers.get(at).copied().unwrap_or(otherwise);
+        let (cuts, growths, most) = (or(0, 300), or(1, 100), or(2, 25));
+        let mut random = Random(or(3, 1) as u64);
+        let mut count = Count::default();
+        print!("{HEAD}");
+        for i in 0..cuts + growths {
+            let test = match i < cuts {
+                true => cut(&mut random, most, &mut count),
+                false => growth(&mut random, &mut count),
+            };
+            println!("\nt{i} : T ({test})\n{UNFOLDING}\nt{i} = tt");
+        }
+        eprintln!(
+            "{cuts} pictures of at most {most} pixels: {} refused for alpha, {} of partial alpha, {} \
+             keyed, of which {} grown, {} full; {} growths: {} with a join, {} with deep pixels, {} \
+             with an edge pixel beyond 36 of them",
+            count.refused,
+            count.partial,
+            count.keyed,
+            count.grown,
+            count.full,
+            count.growths,
+            count.joined,
+            count.deep,
+            count.beyond
+        );
+    }
+}
