@@ -1,7 +1,7 @@
 -- The three ends of the search, by the outline's definitions.
 -- Assumes nothing.
-use mathlib.Core.Path.{_≡_, refl, ap, _∙_}
-use mathlib.Core.Bool.{Bool, true, false, _&&_}
+use mathlib.Core.Path.{_≡_, ap, _∙_}
+use mathlib.Core.Bool.{Bool, true, false}
 use mathlib.Core.Logic.{⊎-elim}
 use mathlib.Core.List.{List}
 use Prim.Native.Nat.{ℕ, _*_, _≤_, _<_}
@@ -17,16 +17,8 @@ use Rattle.outline.specs.Border.{borderList, referenceOf}
 use Rattle.outline.specs.Ground.{isClose, closePlane, groundFrom, groundOf, countOn, someOff, foundFrom, isFound}
 use Rattle.ground.specs.declared.Flat.the-variants.{Found, Absent}
 use Rattle.ground.specs.Flood.{marked, Closed}
+use Rattle.ground.proofs.Bits.{bit-most, and-false}
 use Rattle.ground.specs.Answer.{closeAt, flatOf, flatPlane}
-
-bit-most : (b : Bool) → bit b ≤ 1
-unfolding bit
-bit-most true = omega arith
-bit-most false = omega arith
-
-and-false : (s t : Bool) → t ≡ false → s && t ≡ false
-and-false true t e = e
-and-false false t e = refl
 
 module _ (colours : List Float) (h w : ℕ) (tolerance : Float) where
   -- the close pixels of the picture

@@ -1,7 +1,6 @@
 -- The border list as four lines: two rows and two columns.
 -- Assumes nothing.
 use mathlib.Core.Path.{_≡_, refl, sym, ap, _∙_}
-use mathlib.Core.Bool.{Bool, true, false, cond}
 use mathlib.Core.List.{List, [], _∷_, _++_}
 use Prim.Native.Nat.{ℕ, zero, suc, _+_, _*_, _-_, _≤_, _<_}
 use native.Mathlib.Nat.{add-mul, one-mul, zero-add, add-zero, add-assoc, zero-mul}
@@ -9,13 +8,12 @@ use native.Mathlib.Omega.{arith}
 use lib.ListN.{length, length-append}
 use Rattle.plane.specs.Plane.{mostSide, Sides, table}
 use Rattle.plane.proofs.Plane.{table-length, pixel-in, area-most}
-use Rattle.labels.specs.Labels.{isOn}
 use Rattle.outline.specs.Border.{rowPixels, innerColumn, borderList}
 use Rattle.outline.specs.Ground.{countOn}
 use Rattle.ground.specs.Flood.{State, visited, seeded, Seeds, Closed}
 use Rattle.ground.specs.Lines.{linePixels, OnPlane}
 use Rattle.ground.proofs.Room.{Kept, visited-kept}
-use Rattle.ground.proofs.Tables.{table-same}
+use Rattle.ground.proofs.Tables.{suc-pos, suc-less, table-same}
 
 -- ---- the four lines
 first-row : (w : ℕ) → rowPixels w 0 ≡ linePixels 0 1 w
@@ -92,21 +90,6 @@ unfolding seeded
 seeded-append [] m s = refl
 seeded-append (q ∷ l) m s = seeded-append l m (visited q s)
 
-one-or-none : (b : Bool) (n m : ℕ) → n ≤ m → cond b 1 0 + n ≤ suc m
-one-or-none true n m l = omega arith
-one-or-none false n m l = omega arith
-
-suc-pos : (n : ℕ) → 0 < suc n
-suc-pos n = omega arith
-
-suc-less : (i n : ℕ) → i < n → suc i < suc n
-suc-less i n l = omega arith
-
-pub count-most : (plane l : List ℕ) → countOn plane l ≤ length l
-unfolding countOn
-count-most plane [] = omega arith
-count-most plane (i ∷ l) = one-or-none (isOn plane i) (countOn plane l) (length l) (count-most plane l)
-
 -- ---- what each line's functions are given
 module _ {plane : List ℕ} {h w : ℕ} (g : Closed plane h w) where
   line-on : (start stride n : ℕ) → n ≤ mostSide → ((k : ℕ) → k < n → start + k * stride < h * w) → OnPlane plane start stride n
@@ -140,10 +123,6 @@ module _ {plane : List ℕ} {h w : ℕ} (g : Closed plane h w) where
       let s' : d ≡ countOn plane D = rw e at s in
       omega (arith, count-append plane (A ++ B ++ C) D, count-append plane (A ++ B) C, count-append plane A B)
       ∙ ap (countOn plane) (sym (border-is h w))
-
--- a count is at most its line's length
-pub line-most : (plane : List ℕ) (start stride n a : ℕ) → a ≡ countOn plane (linePixels start stride n) → a ≤ n
-line-most plane start stride n a e = omega (arith, count-most plane (linePixels start stride n), line-length start stride n)
 
 -- ---- visits to a line keep the room of the plane
 table-kept : (area : ℕ) (f : ℕ → ℕ) (k n : ℕ) (s : State) → ((i : ℕ) → i < n → f (k + i) < area) → Kept area s → Kept area (seeded (table f k n) s)

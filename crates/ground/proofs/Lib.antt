@@ -1,3 +1,4 @@
+pub mod Bits
 pub mod Tables
 pub mod Room
 pub mod Border

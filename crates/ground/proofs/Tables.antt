@@ -8,6 +8,12 @@ use native.Mathlib.Numerals.{add-one}
 use native.Mathlib.Omega.{arith}
 use Rattle.plane.specs.Plane.{table}
 
+pub suc-pos : (n : ℕ) → 0 < suc n
+suc-pos n = omega arith
+
+pub suc-less : (i n : ℕ) → i < n → suc i < suc n
+suc-less i n l = omega arith
+
 -- what is left of n elements from k on begins with that of k
 pub table-step : {A : Type 0} (f : ℕ → A) (k n : ℕ) → k < n → table f k (n - k) ≡ f k ∷ table f (k + 1) (n - (k + 1))
 unfolding table

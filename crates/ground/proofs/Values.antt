@@ -1,7 +1,7 @@
 -- The border's values of one channel, gathered line by line.
 -- Assumes nothing.
 use mathlib.Core.Path.{_≡_, refl, sym, ap, _∙_}
-use mathlib.Core.Bool.{Bool, true, _&&_}
+use mathlib.Core.Bool.{true}
 use mathlib.Core.List.{List, [], _∷_, _++_, map}
 use Prim.Native.Nat.{ℕ, zero, suc, _+_, _*_, _-_, _≤_, _<_}
 use native.Mathlib.Nat.{add-zero, not-suc-le-zero, le-of-suc-le-suc}
@@ -18,6 +18,8 @@ use Rattle.median.specs.Median.{Channel}
 use Rattle.median.proofs.Places.{Held}
 use Rattle.outline.specs.Border.{borderList, channelAt}
 use Rattle.ground.specs.Lines.{linePixels, Gathers, Picture}
+use Rattle.ground.proofs.Bits.{two}
+use Rattle.ground.proofs.Tables.{suc-pos, suc-less}
 use Rattle.ground.proofs.Border.{border-is, border-length, first-in, last-in, left-in, right-in}
 
 map-append : {A B : Type 0} (f : A → B) (s t : List A) → map f (s ++ t) ≡ map f s ++ map f t
@@ -45,21 +47,12 @@ gathered g h w m v0 v1 v2 v3 v4 q e1 e2 e3 e4 =
     ∙ ap (map g) (sym (border-is h w))
 
 -- ---- they are in range
-two : (s t : Bool) → s ≡ true → t ≡ true → s && t ≡ true
-two s t a b = rw (a, b)
-
 ok-append : (s t : List Float) → coloursOk s ≡ true → coloursOk t ≡ true → coloursOk (s ++ t) ≡ true
 unfolding coloursOk
 ok-append [] t a b = b
 ok-append (x ∷ s) t a b =
     let z = and-true (colourOk x) (coloursOk s) a in
     two (colourOk x) (coloursOk (s ++ t)) (z .0) (ok-append s t (z .1) b)
-
-suc-pos : (n : ℕ) → 0 < suc n
-suc-pos n = omega arith
-
-suc-less : (i n : ℕ) → i < n → suc i < suc n
-suc-less i n l = omega arith
 
 table-ok : (g : ℕ → Float) (f : ℕ → ℕ) (k n : ℕ) → ((i : ℕ) → i < n → colourOk (g (f (k + i))) ≡ true) → coloursOk (map g (table f k n)) ≡ true
 unfolding table coloursOk

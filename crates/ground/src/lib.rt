@@ -96,6 +96,7 @@ fn close_plane(colours: &[f64], reference: Rgb, tolerance: f64, out: &mut [u8])
 fn count(plane: &[u8], start: usize, stride: usize, n: usize) -> usize
     requires { ⌜ OnPlane (now plane) start stride n ⌝ }
     ensures { λ r. ⌜ r ≡ countOn (now (plane .entry)) (linePixels start stride n) ⌝ }
+    ensures { λ r. ⌜ r ≤ n ⌝ }
 {
     let mut count = 0usize;
     for k in 0..n {

@@ -1,7 +1,7 @@
 -- `ground::close_plane` meets its contract.
 -- Assumes nothing.
 use mathlib.Core.Path.{_≡_, refl, ap, _∙_}
-use mathlib.Core.Bool.{Bool, true, false, _&&_}
+use mathlib.Core.Bool.{Bool, true}
 use mathlib.Core.List.{List}
 use Prim.Native.Nat.{ℕ, _+_, _*_, _-_, _≤_, _<_}
 use native.Mathlib.Omega.{arith}
@@ -18,6 +18,7 @@ use Rattle.outline.specs.Border.{channelAt, colourAt}
 use Rattle.outline.specs.Ground.{isClose}
 use Rattle.ground.specs.Answer.{closeAt, Closes}
 use borrow.Author.Needs.{needs}
+use Rattle.ground.proofs.Bits.{byte, three}
 use Rattle.ground.proofs.close_plane.Statement.{statement}
 use Rattle.ground.proofs.close_plane.Tie as tie
 
@@ -31,9 +32,6 @@ unfolding colourAt channelAt
 pixel-is colours i = let e : 3 * i + 0 ≡ 3 * i = omega arith in rw e
 
 -- and in range
-three : (s t u : Bool) → s ≡ true → t ≡ true → u ≡ true → s && t && u ≡ true
-three s t u a b d = rw (a, b, d)
-
 pixel-ok : (colours : List Float) (reference : Rgb) (out : List ℕ) (i : ℕ) → Closes colours reference out → i < length out → rgbOk (pixel colours i) ≡ true
 unfolding rgbOk
 pixel-ok colours reference out i g l =
@@ -41,11 +39,6 @@ pixel-ok colours reference out i g l =
     (colours-at colours (g .range) (3 * i) (omega (arith, g .input)))
     (colours-at colours (g .range) (3 * i + 1) (omega (arith, g .input)))
     (colours-at colours (g .range) (3 * i + 2) (omega (arith, g .input)))
-
-byte : (b : Bool) → boolByte b ≡ bit b
-unfolding bit
-byte true = refl
-byte false = refl
 
 close-byte : (colours : List Float) (reference : Rgb) (tolerance : Float) (i : ℕ) (b : Bool) → b ≡ closeTo tolerance reference (pixel colours i) → boolByte b ≡ closeAt colours reference tolerance i
 unfolding closeAt isClose

@@ -1,7 +1,7 @@
 -- `ground::count` meets its contract.
 -- Assumes nothing.
-use mathlib.Core.Path.{_≡_, refl, sym, ap, _∙_}
-use mathlib.Core.Bool.{Bool, true, false, cond, not}
+use mathlib.Core.Path.{_≡_, sym, ap, _∙_}
+use mathlib.Core.Bool.{not}
 use mathlib.Core.List.{List}
 use Prim.Native.Nat.{ℕ, _+_, _*_, _-_, _≤_, _<_}
 use native.Mathlib.Nat.{add-assoc, add-zero, zero-add}
@@ -9,23 +9,15 @@ use native.Mathlib.Omega.{arith}
 use lib.Dec.{eqb}
 use lib.ListN.{getD}
 use mir.Val.{boolByte}
-use Rattle.plane.specs.Plane.{on, table}
+use Rattle.plane.specs.Plane.{on, bit, table}
 use Rattle.labels.specs.Labels.{isOn}
 use Rattle.outline.specs.Ground.{countOn}
 use Rattle.ground.specs.Lines.{linePixels}
+use Rattle.ground.proofs.Bits.{byte, byte-le}
 use Rattle.ground.proofs.Tables.{table-whole, table-step, table-end}
 use borrow.Author.Needs.{needs}
 use Rattle.ground.proofs.count.Statement.{statement}
 use Rattle.ground.proofs.count.Tie as tie
-
--- a test as a number
-byte : (b : Bool) → boolByte b ≡ cond b 1 0
-byte true = refl
-byte false = refl
-
-byte-le : (b : Bool) → boolByte b ≤ 1
-byte-le true = omega arith
-byte-le false = omega arith
 
 begins : (plane : List ℕ) (start stride n : ℕ) → countOn plane (linePixels start stride n) ≡ 0 + countOn plane (table (λ (j : ℕ). start + j * stride) 0 (n - 0))
 unfolding linePixels
@@ -34,7 +26,7 @@ begins plane start stride n = ap (countOn plane) (table-whole (λ (j : ℕ). sta
 -- the rest begins with pixel k of the line
 rest : (plane : List ℕ) (f : ℕ → ℕ) (k n : ℕ) → k < n
     → countOn plane (table f k (n - k)) ≡ boolByte (not (eqb (getD plane (f k) 0) 0)) + countOn plane (table f (k + 1) (n - (k + 1)))
-unfolding countOn isOn on
+unfolding countOn isOn on bit
 rest plane f k n l =
     ap (countOn plane) (table-step f k n l) ∙ ap (λ (m : ℕ). m + countOn plane (table f (k + 1) (n - (k + 1)))) (sym (byte (not (eqb (getD plane (f k) 0) 0))))
 
@@ -95,8 +87,10 @@ returns : tie.Need-returns Inv-loop μ-loop
 unfolding countOn
 returns c =
     let l = c .before .loop in
-    let a = c .before .before .args in
-    sym (l .inv .2 ∙ ap (λ (r : List ℕ). l .count + countOn (a .plane .now) r) (table-end (λ (j : ℕ). a .start + j * a .stride) (l .k) (a .n) (omega arith)) ∙ add-zero (l .count))
+    let a = c .before .before .args in (
+      sym (l .inv .2 ∙ ap (λ (r : List ℕ). l .count + countOn (a .plane .now) r) (table-end (λ (j : ℕ). a .start + j * a .stride) (l .k) (a .n) (omega arith)) ∙ add-zero (l .count)),
+      omega arith,
+    )
 
 pub count-spec : {M : Type 1} → statement M
 count-spec =

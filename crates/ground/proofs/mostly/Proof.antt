@@ -9,7 +9,7 @@ use Rattle.plane.proofs.Plane.{area-most}
 use Rattle.outline.specs.Border.{borderList}
 use Rattle.outline.specs.Ground.{countOn}
 use Rattle.ground.specs.Lines.{linePixels}
-use Rattle.ground.proofs.Border.{border-length, first-on, last-on, left-on, right-on, counts-are, line-most, last-in}
+use Rattle.ground.proofs.Border.{border-length, first-on, last-on, left-on, right-on, counts-are, last-in}
 use borrow.Author.Needs.{needs}
 use Rattle.ground.proofs.mostly.Statement.{statement}
 use Rattle.ground.proofs.mostly.Tie as tie
@@ -56,88 +56,16 @@ mul-result : tie.Need-mul-result
 mul-result c = search needs
 
 add-result-4 : tie.Need-add-result-4
-add-result-4 c =
-    let o = c .before .before .before .before .before .before in
-    let a = o .args in
-    let p = a .plane .now in
-    let n = c .before .before .before .before .between .result in
-    let m : n ≡ a .h - 2 = c .before .before .before .before .between .ensures in
-    let e1 : c .before .before .before .count .result ≡ countOn p (linePixels 0 1 (a .w)) = c .before .before .before .count .ensures in
-    let e2 : c .before .before .count2 .result ≡ countOn p (linePixels ((a .h - 1) * a .w) 1 (a .w)) = c .before .before .count2 .ensures in
-    let e3 : c .before .count3 .result ≡ countOn p (linePixels (a .w) (a .w) n) = c .before .count3 .ensures in
-    let e4 : c .count4 .result ≡ countOn p (linePixels (a .w + (a .w - 1)) (a .w) n) = c .count4 .ensures in
-    omega (
-      arith,
-      line-most p 0 1 (a .w) _ e1,
-      line-most p ((a .h - 1) * a .w) 1 (a .w) _ e2,
-      line-most p (a .w) (a .w) n _ e3,
-      line-most p (a .w + (a .w - 1)) (a .w) n _ e4,
-      o .pre .sides .tall,
-      o .pre .sides .wide,
-    )
+add-result-4 c = search needs
 
 add-result-5 : tie.Need-add-result-5
-add-result-5 c =
-    let o = c .before .before .before .before .before .before in
-    let a = o .args in
-    let p = a .plane .now in
-    let n = c .before .before .before .before .between .result in
-    let m : n ≡ a .h - 2 = c .before .before .before .before .between .ensures in
-    let e1 : c .before .before .before .count .result ≡ countOn p (linePixels 0 1 (a .w)) = c .before .before .before .count .ensures in
-    let e2 : c .before .before .count2 .result ≡ countOn p (linePixels ((a .h - 1) * a .w) 1 (a .w)) = c .before .before .count2 .ensures in
-    let e3 : c .before .count3 .result ≡ countOn p (linePixels (a .w) (a .w) n) = c .before .count3 .ensures in
-    let e4 : c .count4 .result ≡ countOn p (linePixels (a .w + (a .w - 1)) (a .w) n) = c .count4 .ensures in
-    omega (
-      arith,
-      line-most p 0 1 (a .w) _ e1,
-      line-most p ((a .h - 1) * a .w) 1 (a .w) _ e2,
-      line-most p (a .w) (a .w) n _ e3,
-      line-most p (a .w + (a .w - 1)) (a .w) n _ e4,
-      o .pre .sides .tall,
-      o .pre .sides .wide,
-    )
+add-result-5 c = search needs
 
 add-result-6 : tie.Need-add-result-6
-add-result-6 c =
-    let o = c .before .before .before .before .before .before in
-    let a = o .args in
-    let p = a .plane .now in
-    let n = c .before .before .before .before .between .result in
-    let m : n ≡ a .h - 2 = c .before .before .before .before .between .ensures in
-    let e1 : c .before .before .before .count .result ≡ countOn p (linePixels 0 1 (a .w)) = c .before .before .before .count .ensures in
-    let e2 : c .before .before .count2 .result ≡ countOn p (linePixels ((a .h - 1) * a .w) 1 (a .w)) = c .before .before .count2 .ensures in
-    let e3 : c .before .count3 .result ≡ countOn p (linePixels (a .w) (a .w) n) = c .before .count3 .ensures in
-    let e4 : c .count4 .result ≡ countOn p (linePixels (a .w + (a .w - 1)) (a .w) n) = c .count4 .ensures in
-    omega (
-      arith,
-      line-most p 0 1 (a .w) _ e1,
-      line-most p ((a .h - 1) * a .w) 1 (a .w) _ e2,
-      line-most p (a .w) (a .w) n _ e3,
-      line-most p (a .w + (a .w - 1)) (a .w) n _ e4,
-      o .pre .sides .tall,
-      o .pre .sides .wide,
-    )
+add-result-6 c = search needs
 
 mul-result-2 : tie.Need-mul-result-2
-mul-result-2 c =
-    let o = c .before .before .before .before .before .before in
-    let a = o .args in
-    let p = a .plane .now in
-    let n = c .before .before .before .before .between .result in
-    let m : n ≡ a .h - 2 = c .before .before .before .before .between .ensures in
-    let e1 : c .before .before .before .count .result ≡ countOn p (linePixels 0 1 (a .w)) = c .before .before .before .count .ensures in
-    let e2 : c .before .before .count2 .result ≡ countOn p (linePixels ((a .h - 1) * a .w) 1 (a .w)) = c .before .before .count2 .ensures in
-    let e3 : c .before .count3 .result ≡ countOn p (linePixels (a .w) (a .w) n) = c .before .count3 .ensures in
-    let e4 : c .count4 .result ≡ countOn p (linePixels (a .w + (a .w - 1)) (a .w) n) = c .count4 .ensures in
-    omega (
-      arith,
-      line-most p 0 1 (a .w) _ e1,
-      line-most p ((a .h - 1) * a .w) 1 (a .w) _ e2,
-      line-most p (a .w) (a .w) n _ e3,
-      line-most p (a .w + (a .w - 1)) (a .w) n _ e4,
-      o .pre .sides .tall,
-      o .pre .sides .wide,
-    )
+mul-result-2 c = search needs
 
 returns : tie.Need-returns
 returns c =
@@ -146,10 +74,10 @@ returns c =
     let p = a .plane .now in
     let n = c .before .before .before .before .between .result in
     let m : n ≡ a .h - 2 = c .before .before .before .before .between .ensures in
-    let e1 : c .before .before .before .count .result ≡ countOn p (linePixels 0 1 (a .w)) = c .before .before .before .count .ensures in
-    let e2 : c .before .before .count2 .result ≡ countOn p (linePixels ((a .h - 1) * a .w) 1 (a .w)) = c .before .before .count2 .ensures in
-    let e3 : c .before .count3 .result ≡ countOn p (linePixels (a .w) (a .w) n) = c .before .count3 .ensures in
-    let e4 : c .count4 .result ≡ countOn p (linePixels (a .w + (a .w - 1)) (a .w) n) = c .count4 .ensures in
+    let e1 : c .before .before .before .count .result ≡ countOn p (linePixels 0 1 (a .w)) = c .before .before .before .count .ensures .0 in
+    let e2 : c .before .before .count2 .result ≡ countOn p (linePixels ((a .h - 1) * a .w) 1 (a .w)) = c .before .before .count2 .ensures .0 in
+    let e3 : c .before .count3 .result ≡ countOn p (linePixels (a .w) (a .w) n) = c .before .count3 .ensures .0 in
+    let e4 : c .count4 .result ≡ countOn p (linePixels (a .w + (a .w - 1)) (a .w) n) = c .count4 .ensures .0 in
     let e : a .w + a .w + n + n ≡ length (borderList (a .h) (a .w)) = omega (arith, border-length (a .h) (a .w)) in
     let k = c .before .before .before .count .result + c .before .before .count2 .result + c .before .count3 .result + c .count4 .result in
     ap (λ (i : ℕ). leb (9 * i) (10 * k)) e ∙ ap (λ (i : ℕ). leb (9 * length (borderList (a .h) (a .w))) (10 * i)) (counts-are (o .pre) n _ _ _ _ m e1 e2 e3 e4)

@@ -1,15 +1,11 @@
 -- `ground::reference` meets its contract.
 -- Assumes nothing.
-use mathlib.Core.Path.{_≡_}
-use mathlib.Core.Bool.{Bool, true, _&&_}
 use Rattle.colour.specs.Colour.{rgbOk}
 use Rattle.outline.specs.Border.{referenceOf}
 use borrow.Author.Needs.{needs}
+use Rattle.ground.proofs.Bits.{three}
 use Rattle.ground.proofs.reference.Statement.{statement}
 use Rattle.ground.proofs.reference.Tie as tie
-
-three : (s t u : Bool) → s ≡ true → t ≡ true → u ≡ true → s && t && u ≡ true
-three s t u a b d = rw (a, b, d)
 
 slice-aggregate-channel : tie.Need-slice-aggregate-channel
 slice-aggregate-channel c = search needs

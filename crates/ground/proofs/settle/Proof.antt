@@ -1,7 +1,7 @@
 -- `ground::settle` meets its contract.
 -- Assumes nothing.
 use mathlib.Core.Path.{_≡_, refl, ap, _∙_}
-use mathlib.Core.Bool.{Bool, true, false, not, _||_}
+use mathlib.Core.Bool.{Bool, false, not, _||_}
 use mathlib.Core.List.{List}
 use Prim.Native.Nat.{ℕ, _+_, _-_, _≤_, _<_}
 use native.Mathlib.Numerals.{add-one}
@@ -11,29 +11,20 @@ use lib.ListN.{length, getD, length-set}
 use lib.Seq.{getD-set-other}
 use mir.Val.{boolByte}
 use borrow.Author.Count.{below-none}
-use Rattle.plane.specs.Plane.{on, bit}
+use Rattle.plane.specs.Plane.{bit}
 use Rattle.plane.specs.Search.{someBelow}
 use Rattle.plane.proofs.Plane.{filled, table-is, table-at}
 use Rattle.labels.specs.Labels.{isOn}
 use Rattle.outline.specs.Ground.{someOff}
 use Rattle.ground.specs.Flood.{marked}
 use borrow.Author.Needs.{needs}
+use Rattle.ground.proofs.Bits.{on-bit, byte}
 use Rattle.ground.proofs.settle.Statement.{statement}
 use Rattle.ground.proofs.settle.Tie as tie
 
 -- what is written for pixel k
 abbrev mark : List ℕ → ℕ → ℕ
 mark plane k = bit (eqb (getD plane k 0) 2)
-
-byte : (b : Bool) → boolByte b ≡ bit b
-unfolding bit
-byte true = refl
-byte false = refl
-
-on-bit : (b : Bool) → on (bit b) ≡ b
-unfolding on bit
-on-bit true = refl
-on-bit false = refl
 
 none-off : (mask : List ℕ) → false ≡ someOff mask 0
 unfolding someOff someBelow
