@@ -5,7 +5,7 @@ ghost use Prim.Native.Nat.{ℕ, _+_, _*_, _-_, _≤_, _<_};
 ghost use lib.Dec.{eqb};
 ghost use lib.IntN.{ℤ, pos};
 ghost use lib.ListN.{length, getD, take};
-ghost use Rattle.plane.specs.Plane.{mostSide, Sides};
+ghost use Rattle.plane.specs.Plane.{mostSide, Sides, apart};
 ghost use Rattle.geometry.specs.Read.{lifted, squareTo, sourceAt, Planes, Line, squaresLine, squaresTo, coloursFrom};
 
 // One more than the number, 0 for a negative one.
@@ -18,13 +18,24 @@ fn lift(v: i32) -> usize
     v as usize + 1
 }
 
+// How far apart two numbers are.
+fn gap(a: usize, b: usize) -> u64
+    ensures { λ r. ⌜ r ≡ apart a b ⌝ }
+{
+    if a < b {
+        (b - a) as u64
+    } else {
+        (a - b) as u64
+    }
+}
+
 // dy² + dx² from (y, x) to a lifted row and column.
 fn square_to(y: usize, x: usize, row: usize, column: usize) -> u32
     requires { ⌜ (y < mostSide) × (x < mostSide) × (row ≤ mostSide) × (column ≤ mostSide) ⌝ }
     ensures { λ r. ⌜ r ≡ squareTo y x row column ⌝ }
 {
-    let dy = line::gap(y + 1, row);
-    let dx = line::gap(x + 1, column);
+    let dy = gap(y + 1, row);
+    let dx = gap(x + 1, column);
     (dy * dy + dx * dx) as u32
 }
 

@@ -1,15 +1,22 @@
 -- The answers of the public calls, with document 01's number and values for every case.
 -- Assumes nothing.
-use Prim.Native.Nat.{ℕ}
-use mathlib.Core.Bool.{Bool, cond}
+use Prim.Native.Nat.{ℕ, _*_}
+use mathlib.Core.Bool.{Bool, true, false, not, cond}
 use mathlib.Core.List.{List}
 use lib.Dec.{eqb}
 use lib.Ieee.{Float}
 use Rattle.colour.specs.declared.Rgb.{Rgb}
 use Rattle.outline.specs.Border.{referenceOf}
-use Rattle.outline.specs.Ground.{isFound}
+use Rattle.colour.specs.declared.Settings.{Settings}
+use Rattle.labels.specs.Labels.{isOn}
+use Rattle.outline.specs.Ground.{groundOf, isFound}
+use Rattle.outline.specs.Growth.{maskOf, growthOf}
+use Rattle.outline.specs.Cut.{Box, isKeyed, cutMask, cropOf}
 use Rattle.keying.specs.declared.Ground.{Ground}
 use Rattle.keying.specs.declared.Ground.the-variants as ground
+use Rattle.keying.specs.declared.crop.Crop.{Crop}
+use Rattle.keying.specs.declared.Subject.{Subject}
+use Rattle.keying.specs.declared.Subject.the-variants as subject
 
 -- the number of an answer of ground: 0 for an accepted call, else the number by which it was declined
 abbrev pub groundNumberOf : Ground → ℕ
@@ -20,3 +27,32 @@ groundNumberOf (ground.Refused n) = n
 -- the answer of ground with this number: accepted, the reference where the ground is found
 unfoldable pub groundFor : ℕ → List Float → ℕ → ℕ → Float → Ground
 groundFor n colours h w tolerance = cond (eqb n 0) (cond (isFound colours h w tolerance) (ground.Found (referenceOf colours h w)) ground.Absent) (ground.Refused n)
+
+-- a box as the record that is handed out
+unfoldable pub cropAs : Box → Crop
+cropAs b = record { y0 = b .y0; y1 = b .y1; x0 = b .x0; x1 = b .x1 }
+
+-- the number of an answer of the cut: 0 for an accepted call, else the number by which it was declined
+abbrev pub subjectNumber : Subject → ℕ
+subjectNumber (subject.Cut keyed crop) = 0
+subjectNumber (subject.Refused n) = n
+
+-- whether an answer of the cut says that a ground was sought and found
+abbrev pub subjectKeyed : Subject → Bool
+subjectKeyed (subject.Cut keyed crop) = keyed
+subjectKeyed (subject.Refused n) = false
+
+-- the crop box of an answer of the cut; all 0 where it was declined
+abbrev pub subjectCrop : Subject → Crop
+subjectCrop (subject.Cut keyed crop) = crop
+subjectCrop (subject.Refused n) = record { y0 = 0; y1 = 0; x0 = 0; x1 = 0 }
+
+-- the answer of the cut with this number: accepted, the keyed flag and the crop box
+unfoldable pub subjectFor : ℕ → List Float → List ℕ → ℕ → ℕ → Settings → Subject
+subjectFor n colours alpha h w s =
+    cond (eqb n 0) (subject.Cut (isKeyed colours alpha h w s) (cropAs (cropOf (cutMask colours alpha h w s) h w s))) (subject.Refused n)
+
+-- a full mask with the grown ground taken out where it is found
+unfoldable pub keyedPlane : List Float → ℕ → ℕ → Float → ℕ → List ℕ
+keyedPlane colours h w tolerance passes =
+    cond (isFound colours h w tolerance) (maskOf (h * w) (λ (i : ℕ). not (isOn (growthOf colours (referenceOf colours h w) h w passes (groundOf colours h w tolerance)) i))) (maskOf (h * w) (λ (i : ℕ). true))

@@ -1,17 +1,23 @@
 // Keying: the public calls of the upper layer. Each declines by document 01's numbers, and a call that declines writes
 // nothing.
-mod crop;
+pub mod crop;
 mod masks;
 mod number;
 
 ghost use mathlib.Core.Path.{_≡_};
-ghost use Prim.Native.Nat.{ℕ};
+ghost use Prim.Native.Nat.{ℕ, _*_};
 ghost use lib.ListN.{length};
 ghost use Rattle.plane.specs.Refusal.{after};
 ghost use Rattle.ground.specs.Answer.{flatPlane};
-ghost use Rattle.outline.specs.Refusal.{groundNumber};
-ghost use Rattle.keying.specs.Answer.{groundFor};
+ghost use Rattle.growth.specs.Marks.{Room};
+ghost use Rattle.outline.specs.Ground.{isFound};
+ghost use Rattle.outline.specs.Cut.{isKeyed, cutMask, weightsOf, cropOf};
+ghost use Rattle.outline.specs.Refusal.{groundNumber, cutNumber};
+ghost use Rattle.keying.specs.Answer.{groundFor, cropAs, subjectFor, keyedPlane};
+ghost use Rattle.keying.specs.Survey.{Masked};
 use colour::Rgb;
+use colour::Settings;
+use crop::Crop;
 
 // What the search of the ground answers: the reference colour where it is found, or the number by which it declines.
 pub enum Ground {
@@ -42,4 +48,145 @@ pub fn flat_background(
         return Ground::Absent;
     };
     Ground::Found(reference)
+}
+
+// The ground of a picture taken out of a full mask: turned over where it is found and grown, else the mask stays full.
+fn key(
+    colours: &[f64],
+    h: usize,
+    w: usize,
+    tolerance: f64,
+    passes: u64,
+    near: &mut [u32],
+    first: &mut [u8],
+    second: &mut [u8],
+    third: &mut [u8],
+    mask: &mut [u8],
+) -> bool
+    requires { ⌜ Room (now colours) h w (now near) (now first) (now second) (now third) (now mask) ⌝ }
+    ensures { λ r. ⌜ r ≡ isFound (now (colours .entry)) h w tolerance ⌝ }
+    ensures { λ r. ⌜ now (mask .exit) ≡ keyedPlane (now (colours .entry)) h w tolerance passes ⌝ }
+{
+    let answer = ground::flat_ground(colours, h, w, tolerance, near, mask);
+    let ground::Flat::Found(reference) = answer else {
+        masks::turn(mask);
+        return false;
+    };
+    growth::grow(
+        colours,
+        h,
+        w,
+        reference,
+        passes,
+        near,
+        first,
+        second,
+        third,
+        mask,
+    );
+    masks::turn(mask);
+    true
+}
+
+// The mask of the cut; whether a ground was sought and found.
+fn cut_mask(
+    colours: &[f64],
+    alpha: &[u8],
+    h: usize,
+    w: usize,
+    s: Settings,
+    near: &mut [u32],
+    first: &mut [u8],
+    second: &mut [u8],
+    third: &mut [u8],
+    mask: &mut [u8],
+) -> bool
+    requires { ⌜ Room (now colours) h w (now near) (now first) (now second) (now third) (now mask) ⌝ }
+    requires { ⌜ length (now alpha) ≡ h * w ⌝ }
+    ensures { λ r. ⌜ r ≡ isKeyed (now (colours .entry)) (now (alpha .entry)) h w s ⌝ }
+    ensures { λ r. ⌜ now (mask .exit) ≡ cutMask (now (colours .entry)) (now (alpha .entry)) h w s ⌝ }
+{
+    masks::reach(alpha, s.alpha_threshold, mask);
+    let sought = s.key_bg & !masks::some_off(mask);
+    if sought {
+        let tolerance = s.key_bg_tolerance;
+        let passes = colour::passes(s);
+        return key(
+            colours,
+            h,
+            w,
+            tolerance,
+            passes,
+            near,
+            first,
+            second,
+            third,
+            mask,
+        );
+    }
+    false
+}
+
+// The crop box: the mask's with its margin, or the whole picture where cropping is off or the mask is full.
+fn crop_of(mask: &[u8], h: usize, w: usize, s: Settings) -> Crop
+    requires { ⌜ Masked (now mask) h w ⌝ }
+    ensures { λ r. ⌜ r ≡ cropAs (cropOf (now (mask .entry)) h w s) ⌝ }
+{
+    let asked = s.crop_to_alpha & masks::some_off(mask);
+    if asked {
+        return crop::crop_box(mask, h, w);
+    }
+    Crop {
+        y0: 0,
+        y1: h,
+        x0: 0,
+        x1: w,
+    }
+}
+
+// What the cut answers: whether it was keyed, and the crop box; or the number by which it declines.
+pub enum Subject {
+    Cut(bool, Crop),
+    Refused(u32),
+}
+
+// The cut: mask and weights of a picture by the five settings. near, first, second and third are work buffers.
+pub fn subject(
+    colours: &[f64],
+    alpha: &[u8],
+    h: usize,
+    w: usize,
+    s: Settings,
+    near: &mut [u32],
+    first: &mut [u8],
+    second: &mut [u8],
+    third: &mut [u8],
+    mask: &mut [u8],
+    weights: &mut [f64],
+) -> Subject
+    ensures { λ r. ⌜ r ≡ subjectFor (cutNumber (now (colours .entry)) (now (alpha .entry)) h w s (length (now (mask .entry))) (length (now (weights .entry))) (length (now (near .entry))) (length (now (first .entry))) (length (now (second .entry))) (length (now (third .entry)))) (now (colours .entry)) (now (alpha .entry)) h w s ⌝ }
+    ensures { λ r. ⌜ now (mask .exit) ≡ after (cutNumber (now (colours .entry)) (now (alpha .entry)) h w s (length (now (mask .entry))) (length (now (weights .entry))) (length (now (near .entry))) (length (now (first .entry))) (length (now (second .entry))) (length (now (third .entry)))) (cutMask (now (colours .entry)) (now (alpha .entry)) h w s) (now (mask .entry)) ⌝ }
+    ensures { λ r. ⌜ now (weights .exit) ≡ after (cutNumber (now (colours .entry)) (now (alpha .entry)) h w s (length (now (mask .entry))) (length (now (weights .entry))) (length (now (near .entry))) (length (now (first .entry))) (length (now (second .entry))) (length (now (third .entry)))) (weightsOf (cutMask (now (colours .entry)) (now (alpha .entry)) h w s) (now (alpha .entry)) (h * w)) (now (weights .entry)) ⌝ }
+    ensures { λ r. ⌜ ((cutNumber (now (colours .entry)) (now (alpha .entry)) h w s (length (now (mask .entry))) (length (now (weights .entry))) (length (now (near .entry))) (length (now (first .entry))) (length (now (second .entry))) (length (now (third .entry))) ≡ 0 → ⊥) → (now (near .exit) ≡ now (near .entry)) × (now (first .exit) ≡ now (first .entry)) × (now (second .exit) ≡ now (second .entry)) × (now (third .exit) ≡ now (third .entry))) ⌝ }
+{
+    let number = number::cut_number(
+        colours,
+        alpha,
+        h,
+        w,
+        s,
+        mask.len(),
+        weights.len(),
+        near.len(),
+        first.len(),
+        second.len(),
+        third.len(),
+    );
+    if number != 0 {
+        return Subject::Refused(number);
+    }
+    let keyed = cut_mask(colours, alpha, h, w, s, near, first, second, third, mask);
+    masks::weights(mask, alpha, weights);
+    let crop = crop_of(mask, h, w, s);
+    Subject::Cut(keyed, crop)
 }
