@@ -1,4 +1,5 @@
 pub mod Loops
 pub mod Numbers
 pub mod Grounds
+pub mod Cuts
 pub mod Box

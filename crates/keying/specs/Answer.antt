@@ -15,8 +15,8 @@ use Rattle.outline.specs.Cut.{Box, isKeyed, cutMask, cropOf}
 use Rattle.keying.specs.declared.Ground.{Ground}
 use Rattle.keying.specs.declared.Ground.the-variants as ground
 use Rattle.keying.specs.declared.crop.Crop.{Crop}
-use Rattle.keying.specs.declared.Subject.{Subject}
-use Rattle.keying.specs.declared.Subject.the-variants as subject
+use Rattle.keying.specs.declared.Cut.{Cut}
+use Rattle.keying.specs.declared.Cut.the-variants as answer
 
 -- the number of an answer of ground: 0 for an accepted call, else the number by which it was declined
 abbrev pub groundNumberOf : Ground → ℕ
@@ -33,24 +33,24 @@ unfoldable pub cropAs : Box → Crop
 cropAs b = record { y0 = b .y0; y1 = b .y1; x0 = b .x0; x1 = b .x1 }
 
 -- the number of an answer of the cut: 0 for an accepted call, else the number by which it was declined
-abbrev pub subjectNumber : Subject → ℕ
-subjectNumber (subject.Cut keyed crop) = 0
-subjectNumber (subject.Refused n) = n
+abbrev pub cutNumberOf : Cut → ℕ
+cutNumberOf (answer.Done keyed crop) = 0
+cutNumberOf (answer.Refused n) = n
 
 -- whether an answer of the cut says that a ground was sought and found
-abbrev pub subjectKeyed : Subject → Bool
-subjectKeyed (subject.Cut keyed crop) = keyed
-subjectKeyed (subject.Refused n) = false
+abbrev pub cutKeyed : Cut → Bool
+cutKeyed (answer.Done keyed crop) = keyed
+cutKeyed (answer.Refused n) = false
 
 -- the crop box of an answer of the cut; all 0 where it was declined
-abbrev pub subjectCrop : Subject → Crop
-subjectCrop (subject.Cut keyed crop) = crop
-subjectCrop (subject.Refused n) = record { y0 = 0; y1 = 0; x0 = 0; x1 = 0 }
+abbrev pub cutCrop : Cut → Crop
+cutCrop (answer.Done keyed crop) = crop
+cutCrop (answer.Refused n) = record { y0 = 0; y1 = 0; x0 = 0; x1 = 0 }
 
 -- the answer of the cut with this number: accepted, the keyed flag and the crop box
-unfoldable pub subjectFor : ℕ → List Float → List ℕ → ℕ → ℕ → Settings → Subject
-subjectFor n colours alpha h w s =
-    cond (eqb n 0) (subject.Cut (isKeyed colours alpha h w s) (cropAs (cropOf (cutMask colours alpha h w s) h w s))) (subject.Refused n)
+unfoldable pub cutFor : ℕ → List Float → List ℕ → ℕ → ℕ → Settings → Cut
+cutFor n colours alpha h w s =
+    cond (eqb n 0) (answer.Done (isKeyed colours alpha h w s) (cropAs (cropOf (cutMask colours alpha h w s) h w s))) (answer.Refused n)
 
 -- a full mask with the grown ground taken out where it is found
 unfoldable pub keyedPlane : List Float → ℕ → ℕ → Float → ℕ → List ℕ

@@ -9,11 +9,11 @@ ghost use Prim.Native.Nat.{ℕ, _*_};
 ghost use lib.ListN.{length};
 ghost use Rattle.plane.specs.Refusal.{after};
 ghost use Rattle.ground.specs.Answer.{flatPlane};
-ghost use Rattle.growth.specs.Marks.{Room};
 ghost use Rattle.outline.specs.Ground.{isFound};
 ghost use Rattle.outline.specs.Cut.{isKeyed, cutMask, weightsOf, cropOf};
 ghost use Rattle.outline.specs.Refusal.{groundNumber, cutNumber};
-ghost use Rattle.keying.specs.Answer.{groundFor, cropAs, subjectFor, keyedPlane};
+ghost use Rattle.keying.specs.Answer.{groundFor, cropAs, cutFor, keyedPlane};
+ghost use Rattle.keying.specs.Steps.{KeyRoom};
 ghost use Rattle.keying.specs.Survey.{Masked};
 use colour::Rgb;
 use colour::Settings;
@@ -63,7 +63,7 @@ fn key(
     third: &mut [u8],
     mask: &mut [u8],
 ) -> bool
-    requires { ⌜ Room (now colours) h w (now near) (now first) (now second) (now third) (now mask) ⌝ }
+    requires { ⌜ KeyRoom (now colours) h w (now near) (now first) (now second) (now third) (now mask) ⌝ }
     ensures { λ r. ⌜ r ≡ isFound (now (colours .entry)) h w tolerance ⌝ }
     ensures { λ r. ⌜ now (mask .exit) ≡ keyedPlane (now (colours .entry)) h w tolerance passes ⌝ }
 {
@@ -101,7 +101,7 @@ fn cut_mask(
     third: &mut [u8],
     mask: &mut [u8],
 ) -> bool
-    requires { ⌜ Room (now colours) h w (now near) (now first) (now second) (now third) (now mask) ⌝ }
+    requires { ⌜ KeyRoom (now colours) h w (now near) (now first) (now second) (now third) (now mask) ⌝ }
     requires { ⌜ length (now alpha) ≡ h * w ⌝ }
     ensures { λ r. ⌜ r ≡ isKeyed (now (colours .entry)) (now (alpha .entry)) h w s ⌝ }
     ensures { λ r. ⌜ now (mask .exit) ≡ cutMask (now (colours .entry)) (now (alpha .entry)) h w s ⌝ }
@@ -145,8 +145,8 @@ fn crop_of(mask: &[u8], h: usize, w: usize, s: Settings) -> Crop
 }
 
 // What the cut answers: whether it was keyed, and the crop box; or the number by which it declines.
-pub enum Subject {
-    Cut(bool, Crop),
+pub enum Cut {
+    Done(bool, Crop),
     Refused(u32),
 }
 
@@ -163,8 +163,8 @@ pub fn subject(
     third: &mut [u8],
     mask: &mut [u8],
     weights: &mut [f64],
-) -> Subject
-    ensures { λ r. ⌜ r ≡ subjectFor (cutNumber (now (colours .entry)) (now (alpha .entry)) h w s (length (now (mask .entry))) (length (now (weights .entry))) (length (now (near .entry))) (length (now (first .entry))) (length (now (second .entry))) (length (now (third .entry)))) (now (colours .entry)) (now (alpha .entry)) h w s ⌝ }
+) -> Cut
+    ensures { λ r. ⌜ r ≡ cutFor (cutNumber (now (colours .entry)) (now (alpha .entry)) h w s (length (now (mask .entry))) (length (now (weights .entry))) (length (now (near .entry))) (length (now (first .entry))) (length (now (second .entry))) (length (now (third .entry)))) (now (colours .entry)) (now (alpha .entry)) h w s ⌝ }
     ensures { λ r. ⌜ now (mask .exit) ≡ after (cutNumber (now (colours .entry)) (now (alpha .entry)) h w s (length (now (mask .entry))) (length (now (weights .entry))) (length (now (near .entry))) (length (now (first .entry))) (length (now (second .entry))) (length (now (third .entry)))) (cutMask (now (colours .entry)) (now (alpha .entry)) h w s) (now (mask .entry)) ⌝ }
     ensures { λ r. ⌜ now (weights .exit) ≡ after (cutNumber (now (colours .entry)) (now (alpha .entry)) h w s (length (now (mask .entry))) (length (now (weights .entry))) (length (now (near .entry))) (length (now (first .entry))) (length (now (second .entry))) (length (now (third .entry)))) (weightsOf (cutMask (now (colours .entry)) (now (alpha .entry)) h w s) (now (alpha .entry)) (h * w)) (now (weights .entry)) ⌝ }
     ensures { λ r. ⌜ ((cutNumber (now (colours .entry)) (now (alpha .entry)) h w s (length (now (mask .entry))) (length (now (weights .entry))) (length (now (near .entry))) (length (now (first .entry))) (length (now (second .entry))) (length (now (third .entry))) ≡ 0 → ⊥) → (now (near .exit) ≡ now (near .entry)) × (now (first .exit) ≡ now (first .entry)) × (now (second .exit) ≡ now (second .entry)) × (now (third .exit) ≡ now (third .entry))) ⌝ }
@@ -183,10 +183,10 @@ pub fn subject(
         third.len(),
     );
     if number != 0 {
-        return Subject::Refused(number);
+        return Cut::Refused(number);
     }
     let keyed = cut_mask(colours, alpha, h, w, s, near, first, second, third, mask);
     masks::weights(mask, alpha, weights);
     let crop = crop_of(mask, h, w, s);
-    Subject::Cut(keyed, crop)
+    Cut::Done(keyed, crop)
 }
