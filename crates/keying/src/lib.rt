@@ -8,16 +8,20 @@ ghost use mathlib.Core.Path.{_≡_};
 ghost use Prim.Native.Nat.{ℕ, _*_};
 ghost use lib.ListN.{length};
 ghost use Rattle.plane.specs.Refusal.{after};
+ghost use Rattle.geometry.specs.Answer.{answerFor};
+ghost use Rattle.colour.specs.Settings.{atLeastZero};
 ghost use Rattle.ground.specs.Answer.{flatPlane};
 ghost use Rattle.outline.specs.Ground.{isFound};
+ghost use Rattle.outline.specs.Growth.{growthOf};
 ghost use Rattle.outline.specs.Cut.{isKeyed, cutMask, weightsOf, cropOf};
-ghost use Rattle.outline.specs.Refusal.{groundNumber, cutNumber};
+ghost use Rattle.outline.specs.Refusal.{groundNumber, growthNumber, cutNumber};
 ghost use Rattle.keying.specs.Answer.{groundFor, cropAs, cutFor, keyedPlane};
 ghost use Rattle.keying.specs.Steps.{KeyRoom};
 ghost use Rattle.keying.specs.Survey.{Masked};
 use colour::Rgb;
 use colour::Settings;
 use crop::Crop;
+use geometry::Answer;
 
 // What the search of the ground answers: the reference colour where it is found, or the number by which it declines.
 pub enum Ground {
@@ -48,6 +52,67 @@ pub fn flat_background(
         return Ground::Absent;
     };
     Ground::Found(reference)
+}
+
+// A whole number as a count: a negative number counts as 0.
+fn count_of(p: i64) -> u64
+    ensures { λ r. ⌜ r ≡ atLeastZero p ⌝ }
+{
+    if p < 0 {
+        return 0;
+    }
+    p as u64
+}
+
+// The background after at most p passes of growth, written as 0 and 1; a negative p counts as 0. near, first, second and
+// third are work buffers.
+pub fn unmix_fringe(
+    colours: &[f64],
+    background: &[u8],
+    h: usize,
+    w: usize,
+    reference: Rgb,
+    p: i64,
+    near: &mut [u32],
+    first: &mut [u8],
+    second: &mut [u8],
+    third: &mut [u8],
+    out: &mut [u8],
+) -> Answer
+    ensures { λ r. ⌜ r ≡ answerFor (growthNumber (now (colours .entry)) (length (now (background .entry))) h w reference (length (now (out .entry))) (length (now (near .entry))) (length (now (first .entry))) (length (now (second .entry))) (length (now (third .entry)))) ⌝ }
+    ensures { λ r. ⌜ now (out .exit) ≡ after (growthNumber (now (colours .entry)) (length (now (background .entry))) h w reference (length (now (out .entry))) (length (now (near .entry))) (length (now (first .entry))) (length (now (second .entry))) (length (now (third .entry)))) (growthOf (now (colours .entry)) reference h w (atLeastZero p) (now (background .entry))) (now (out .entry)) ⌝ }
+    ensures { λ r. ⌜ ((growthNumber (now (colours .entry)) (length (now (background .entry))) h w reference (length (now (out .entry))) (length (now (near .entry))) (length (now (first .entry))) (length (now (second .entry))) (length (now (third .entry))) ≡ 0 → ⊥) → (now (near .exit) ≡ now (near .entry)) × (now (first .exit) ≡ now (first .entry)) × (now (second .exit) ≡ now (second .entry)) × (now (third .exit) ≡ now (third .entry))) ⌝ }
+{
+    let number = number::growth_number(
+        colours,
+        background.len(),
+        h,
+        w,
+        reference,
+        out.len(),
+        near.len(),
+        first.len(),
+        second.len(),
+        third.len(),
+    );
+    if number != 0 {
+        return Answer::Refused(number);
+    }
+    masks::copy(background, out);
+    let passes = count_of(p);
+    growth::grow(
+        colours,
+        h,
+        w,
+        reference,
+        passes,
+        near,
+        first,
+        second,
+        third,
+        out,
+    );
+    Answer::Done
 }
 
 // The ground of a picture taken out of a full mask: turned over where it is found and grown, else the mask stays full.

@@ -92,3 +92,15 @@ pub fn weights(mask: &[u8], alpha: &[u8], out: &mut [f64])
         i += 1;
     }
 }
+
+// A plane as it is.
+pub fn copy(from: &[u8], to: &mut [u8])
+    requires { ⌜ length (now from) ≡ length (now to) ⌝ }
+    ensures { λ _. ⌜ now (to .exit) ≡ now (from .entry) ⌝ }
+{
+    let mut i = 0usize;
+    while i < to.len() {
+        to[i] = from[i];
+        i += 1;
+    }
+}
