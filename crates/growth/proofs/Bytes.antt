@@ -1,12 +1,11 @@
 -- Laws of tests and of the bytes that stand for them.
 -- Assumes nothing.
-use mathlib.Core.Path.{_≡_, refl, ap, _∙_}
-use mathlib.Core.Bool.{Bool, true, false, not, _&&_, _||_}
-use mathlib.Core.List.{List}
+use mathlib.Core.Path.{_≡_, refl}
+use mathlib.Core.Bool.{Bool, true, false, not, _||_}
 use Prim.Native.Nat.{ℕ, _+_}
 use native.Mathlib.Numerals.{add-one}
 use lib.Dec.{eqb}
-use Rattle.plane.specs.Plane.{on, bit}
+use Rattle.plane.specs.Plane.{on}
 use Rattle.plane.specs.Search.{someBelow}
 
 twice : (t : Bool) → not (not t) ≡ t

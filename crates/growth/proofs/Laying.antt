@@ -1,21 +1,21 @@
 -- The shallow plane, the deep plane and the edge marks, from the dilations of the background.
 -- Assumes nothing.
-use mathlib.Core.Path.{_≡_, refl, sym, ap, _∙_}
+use mathlib.Core.Path.{_≡_, refl, ap, _∙_}
 use mathlib.Core.Bool.{Bool, true, false, not, _&&_}
 use mathlib.Core.List.{List}
 use mathlib.Core.Logic.{⊎-elim}
-use Prim.Native.Nat.{ℕ, _+_, _*_, _≤_, _<_, _/_, _%_}
+use Prim.Native.Nat.{ℕ, _*_, _<_, _/_, _%_}
 use native.Mathlib.Omega.{arith}
 use lib.ListN.{length, getD}
-use Rattle.plane.specs.Plane.{on, bit, onAt, apart, table, planeOf}
+use Rattle.plane.specs.Plane.{on, bit, onAt, apart, table}
 use Rattle.plane.specs.Search.{someBelow}
 use Rattle.plane.proofs.Search.{either, some-same}
 use Rattle.plane.proofs.Plane.{row-of, column-of, index-of, table-length, table-at, plane-index}
 use Rattle.labels.specs.Labels.{isOn}
 use Rattle.squares.specs.Squares.{reach, inSquare, squaresPlane}
-use Rattle.squares.proofs.Laws.{Site, reach-some, square-is, on-bit, squares-length}
+use Rattle.squares.proofs.Laws.{reach-some, square-is, on-bit, squares-length}
 use Rattle.nearest.proofs.InPlace.{table-same}
-use Rattle.outline.specs.Growth.{nearGround, isEdge, isShallow, deepReach, isDeep, maskOf}
+use Rattle.outline.specs.Growth.{nearGround, isEdge, isShallow, isDeep, maskOf}
 use Rattle.growth.specs.Marks.{complementOf, edgeMark}
 
 -- ---- masks by a test

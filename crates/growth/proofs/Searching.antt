@@ -1,24 +1,22 @@
 -- The search of the window finds the nearest deep pixel where it is near enough.
 -- Assumes nothing.
-use mathlib.Core.Path.{_≡_, refl, sym, ap, _∙_, subst}
-use mathlib.Core.Bool.{Bool, true, false, cond, _&&_, _||_}
+use mathlib.Core.Path.{_≡_, refl, sym, ap, _∙_}
+use mathlib.Core.Bool.{Bool, true, false, _||_}
 use mathlib.Core.List.{List}
 use mathlib.Core.Option.{Option, none, some}
 use mathlib.Core.Logic.{_⊎_, inl, inr, ⊎-elim}
 use Prim.Native.Nat.{ℕ, _+_, _*_, _-_, _≤_, _<_}
 use native.Mathlib.Omega.{arith}
 use lib.Dec.{leb, ltb}
-use lib.ListN.{length}
 use borrow.Author.Tests.{leb-true, le-leb, lt-leb, ltb-true, lt-ltb}
 use Rattle.plane.specs.Plane.{onAt, apart}
-use Rattle.plane.proofs.Search.{which, either, not-both}
-use Rattle.plane.proofs.Plane.{pixel-in}
+use Rattle.plane.proofs.Search.{which, not-both}
 use Rattle.plane.proofs.Refusal.{and-true}
 use Rattle.line.proofs.Squares.{square-le, square-lt}
 use Rattle.nearest.specs.Nearest.{nearest, away, distanceTo}
-use Rattle.nearest.proofs.Laws.{IsNearest, nearest-some, nearest-is}
+use Rattle.nearest.proofs.Laws.{nearest-some, nearest-is}
 use Rattle.outline.specs.Growth.{bodyReach, indexOf, isReach}
-use Rattle.growth.specs.Window.{nearPixel, upOn, downOn, levelOn, Inside, Gap, Chosen, Searched}
+use Rattle.growth.specs.Window.{nearPixel, upOn, downOn, levelOn, Gap, Chosen, Searched}
 
 or-left : (s t : Bool) → s ≡ true → s || t ≡ true
 or-left s t e = rw e

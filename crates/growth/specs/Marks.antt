@@ -1,9 +1,9 @@
 -- The steps of a pass, which the contracts of its parts cite. A pass writes a byte for each pixel, its mark:
 -- first 1 where the pixel may join; then 0 or 1 where that is decided and 2 where it waits for its nearest shallow pixel; in the end 1 where it joins.
 -- Assumes nothing.
-use Prim.Native.Nat.{ℕ, _+_, _*_, _≤_, _<_, _/_, _%_}
+use Prim.Native.Nat.{ℕ, _*_, _≤_, _<_, _/_, _%_}
 use mathlib.Core.Path.{_≡_}
-use mathlib.Core.Bool.{Bool, cond, not, _&&_, _||_}
+use mathlib.Core.Bool.{Bool, cond, not, _&&_}
 use mathlib.Core.List.{List}
 use lib.Dec.{eqb, ltb}
 use lib.Ieee.{Float}

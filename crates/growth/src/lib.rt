@@ -1,16 +1,16 @@
 // Growth (the core of unmix_fringe): passes that move the background into the object's anti-aliased rim.
 ghost use mathlib.Core.Path.{_≡_};
-ghost use mathlib.Core.Bool.{Bool, cond, not, _&&_, _||_};
+ghost use mathlib.Core.Bool.{cond, not, _&&_, _||_};
 ghost use Prim.Native.Nat.{ℕ, _+_, _*_, _-_, _<_, _≤_};
 ghost use lib.Dec.{eqb};
-ghost use lib.ListN.{length, getD};
+ghost use lib.ListN.{length};
 ghost use Rattle.plane.specs.Plane.{Sides, on, bit, table};
 ghost use Rattle.plane.specs.Search.{someBelow};
 ghost use Rattle.labels.specs.Labels.{isOn};
 ghost use Rattle.outline.specs.Border.{colourAt};
-ghost use Rattle.outline.specs.Growth.{isShallow, isDeep, maskOf, isJoining, passOf, growthOf};
-ghost use Rattle.growth.specs.Window.{nearPixel, upOn, downOn, levelOn, Inside, Gap, Searched};
-ghost use Rattle.growth.specs.Marks.{complementOf, joinsWith, edgeMark, nearMark, waits, searchMark, lastMark, decidedMark, Picture, Searches, Indexed, Decides, Planes, Laid, Room};
+ghost use Rattle.outline.specs.Growth.{maskOf, isJoining, passOf, growthOf};
+ghost use Rattle.growth.specs.Window.{nearPixel, upOn, downOn, Inside, Gap, Searched};
+ghost use Rattle.growth.specs.Marks.{complementOf, joinsWith, nearMark, waits, searchMark, lastMark, decidedMark, Picture, Searches, Indexed, Decides, Planes, Laid, Room};
 
 // The mark of a pixel that waits for its nearest shallow pixel.
 const WAITS: u8 = 2;

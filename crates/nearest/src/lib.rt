@@ -288,12 +288,12 @@ fn below_codes(mask: &[u8], h: usize, w: usize, near: &mut [u32], out: &mut [u32
 {
     let mut y = h;
     while 0 < y {
-        let row = y - 1;
-        let a = row * w;
+        let j = y - 1;
+        let a = j * w;
         let e = a + w;
-        below_line(&mask[a..e], row as u32, near);
+        below_line(&mask[a..e], j as u32, near);
         keep_line(near, &mut out[a..e]);
-        y = row;
+        y = j;
     }
 }
 

@@ -4,13 +4,11 @@ use mathlib.Core.Path.{_≡_, sym, ap, _∙_}
 use mathlib.Core.List.{List}
 use Prim.Native.Nat.{ℕ, _*_}
 use native.Mathlib.Omega.{arith}
-use lib.ListN.{length, getD}
+use lib.ListN.{length}
 use borrow.Author.Tests.{not-true}
-use Rattle.plane.specs.Plane.{table}
 use Rattle.plane.specs.Search.{someBelow}
 use Rattle.labels.specs.Labels.{isOn}
 use Rattle.nearest.specs.Indices.{indicesPlane}
-use Rattle.growth.specs.Marks.{searchMark}
 use Rattle.growth.proofs.Marks.{indices-length, indices-inside, decided-last, decided-all}
 use borrow.Author.Needs.{needs}
 use Rattle.growth.proofs.decide.Statement.{statement}

@@ -1,21 +1,15 @@
 -- `growth::decide_waiting` meets its contract.
 -- Assumes nothing.
-use mathlib.Core.Path.{_≡_, refl, sym, ap, _∙_}
-use mathlib.Core.Bool.{Bool, cond, _||_}
-use mathlib.Core.List.{List}
-use Prim.Native.Nat.{ℕ, _+_, _*_, _-_, _≤_, _<_}
+use mathlib.Core.Path.{_≡_, refl, ap, _∙_}
+use mathlib.Core.Bool.{cond}
+use Prim.Native.Nat.{ℕ, _-_, _≤_, _<_}
 use native.Mathlib.Omega.{arith}
 use lib.Dec.{eqb}
 use lib.ListN.{length, getD, length-set}
-use borrow.Author.Needs.{needs}
-use Rattle.plane.specs.Plane.{on, bit}
-use Rattle.plane.specs.Search.{someBelow}
+use Rattle.plane.specs.Plane.{bit}
 use Rattle.plane.proofs.Plane.{filled, table-is}
-use Rattle.labels.specs.Labels.{isOn}
 use Rattle.nearest.proofs.InPlace.{untouched}
-use Rattle.outline.specs.Growth.{maskOf}
 use Rattle.growth.specs.Marks.{waits, joinsWith, lastMark}
-use Rattle.growth.proofs.Bytes.{some-more}
 use Rattle.growth.proofs.decide_waiting.Statement.{statement}
 use Rattle.growth.proofs.decide_waiting.Tie as tie
 

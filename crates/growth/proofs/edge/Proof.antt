@@ -1,6 +1,5 @@
 -- `growth::edge` meets its contract.
 -- Assumes nothing.
-use mathlib.Core.Path.{_∙_}
 use borrow.Author.Needs.{needs}
 use Rattle.growth.proofs.Bytes.{not-on}
 use Rattle.growth.proofs.edge.Statement.{statement}

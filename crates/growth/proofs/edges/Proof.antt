@@ -1,12 +1,12 @@
 -- `growth::edges` meets its contract.
 -- Assumes nothing.
-use mathlib.Core.Path.{_≡_, refl, sym, ap, _∙_}
+use mathlib.Core.Path.{_≡_, sym, _∙_}
 use mathlib.Core.Bool.{not, _&&_}
 use Prim.Native.Nat.{ℕ, _-_, _≤_, _<_}
 use native.Mathlib.Omega.{arith}
 use lib.ListN.{length, getD, length-set}
 use borrow.Author.Needs.{needs}
-use Rattle.plane.specs.Plane.{on, bit}
+use Rattle.plane.specs.Plane.{bit}
 use Rattle.plane.proofs.Plane.{filled, table-is}
 use Rattle.labels.specs.Labels.{isOn}
 use Rattle.growth.proofs.edges.Statement.{statement}

@@ -1,13 +1,13 @@
 -- `growth::gap` meets its contract. The loop's invariant: column i has no on-pixel less than e rows from row y.
 -- Assumes nothing.
-use mathlib.Core.Path.{_≡_, refl, sym, ap, _∙_}
-use mathlib.Core.Bool.{Bool, true, false, _||_}
-use Prim.Native.Nat.{ℕ, _+_, _*_, _-_, _≤_, _<_}
+use mathlib.Core.Path.{_≡_}
+use mathlib.Core.Bool.{true, false, _||_}
+use Prim.Native.Nat.{ℕ, _-_, _≤_, _<_}
 use native.Mathlib.Omega.{arith}
 use borrow.Author.Needs.{needs}
 use borrow.Author.Count.{below-more}
 use Rattle.line.proofs.Squares.{square-le, root-lt}
-use Rattle.growth.specs.Window.{upOn, downOn, levelOn, Gap}
+use Rattle.growth.specs.Window.{levelOn}
 use Rattle.growth.proofs.gap.Statement.{statement}
 use Rattle.growth.proofs.gap.Tie as tie
 

@@ -9,7 +9,7 @@ use Rattle.plane.specs.Search.{someBelow}
 use Rattle.labels.specs.Labels.{isOn}
 use Prim.Native.Nat.{ℕ, _*_}
 use native.Mathlib.Omega.{arith}
-use Rattle.outline.specs.Growth.{isShallow, isDeep, maskOf}
+use Rattle.outline.specs.Growth.{isShallow, maskOf}
 use Rattle.growth.specs.Marks.{complementOf}
 use Rattle.growth.proofs.Laying.{deep-laid, shallow-laid, edge-laid}
 use borrow.Author.Needs.{needs}

@@ -2,14 +2,11 @@
 -- Assumes nothing.
 use mathlib.Core.Path.{_≡_, sym, ap, _∙_}
 use mathlib.Core.Bool.{false}
-use Prim.Native.Nat.{ℕ, _+_, _*_, _≤_, _<_, _/_, _%_}
+use Prim.Native.Nat.{ℕ, _/_, _%_}
 use native.Mathlib.Omega.{arith}
 use borrow.Author.Tests.{not-true}
 use Rattle.plane.specs.Plane.{bit}
-use Rattle.plane.specs.Search.{someBelow}
 use Rattle.plane.proofs.Plane.{row-of, column-of}
-use Rattle.labels.specs.Labels.{isOn}
-use Rattle.growth.specs.Window.{nearPixel}
 use Rattle.growth.specs.Marks.{joinsWith}
 use Rattle.growth.proofs.Marks.{near-empty, near-waits, near-decides}
 use borrow.Author.Needs.{needs}

@@ -1,6 +1,5 @@
 -- `growth::search_mark` meets its contract.
 -- Assumes nothing.
-use mathlib.Core.Path.{_∙_}
 use borrow.Author.Tests.{eq-eqb, ne-eqb}
 use Rattle.plane.specs.Plane.{on}
 use borrow.Author.Needs.{needs}

@@ -1,10 +1,8 @@
 -- `growth::up` meets its contract.
 -- Assumes nothing.
-use mathlib.Core.Path.{_≡_, _∙_}
-use Prim.Native.Nat.{ℕ, _+_, _*_, _-_, _≤_, _<_}
+use Prim.Native.Nat.{_+_, _*_, _-_, _<_}
 use native.Mathlib.Omega.{arith}
 use lib.ListN.{length}
-use borrow.Author.Needs.{needs}
 use borrow.Author.Tests.{lt-leb, le-leb}
 use Rattle.plane.specs.Plane.{on, onAt}
 use Rattle.plane.proofs.Plane.{pixel-in}

@@ -1,8 +1,8 @@
 -- `growth::window` meets its contract. The loop's invariant: the columns before i are searched.
 -- Assumes nothing.
-use mathlib.Core.Path.{_≡_, refl}
+use mathlib.Core.Path.{_≡_}
 use mathlib.Core.Logic.{_⊎_, inl, inr, ⊎-elim}
-use Prim.Native.Nat.{ℕ, _+_, _*_, _-_, _≤_, _<_}
+use Prim.Native.Nat.{_+_, _-_, _≤_, _<_}
 use native.Mathlib.Omega.{arith}
 use Rattle.plane.proofs.Plane.{area-most}
 use Rattle.growth.specs.Window.{Searched}

@@ -51,8 +51,8 @@ loop-holds c =
     let a = o .args in
     (omega arith, o .pre .1 ∙ below-none (a .mask .now) (a .h) (a .w), o .pre .0 .out-long, (λ j x l g m. absurd (omega arith)))
 
-sub-row : tie.Need-sub-row Inv-loop μ-loop
-sub-row c = omega arith
+sub-j : tie.Need-sub-j Inv-loop μ-loop
+sub-j c = omega arith
 
 mul-a : tie.Need-mul-a Inv-loop μ-loop
 mul-a c = let r = row-fits c in omega arith
@@ -160,7 +160,7 @@ below-codes-spec =
     Inv-loop
     μ-loop
     loop-holds
-    sub-row
+    sub-j
     mul-a
     add-e
     sub-below-line

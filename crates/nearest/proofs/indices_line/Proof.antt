@@ -1,10 +1,9 @@
 -- `nearest::indices_line` meets its contract.
 -- Assumes nothing.
-use mathlib.Core.Path.{_≡_, refl, sym, ap, _∙_}
-use Prim.Native.Nat.{ℕ, _+_, _*_, _-_, _≤_, _<_}
+use mathlib.Core.Path.{_≡_, refl, sym, _∙_}
+use Prim.Native.Nat.{ℕ, _-_, _≤_, _<_}
 use native.Mathlib.Omega.{arith}
 use lib.ListN.{length, getD, length-set}
-use borrow.Author.Needs.{needs}
 use Rattle.plane.proofs.Plane.{filled, table-is}
 use Rattle.nearest.specs.Indices.{indexAt, indicesLine}
 use Rattle.nearest.proofs.indices_line.Statement.{statement}

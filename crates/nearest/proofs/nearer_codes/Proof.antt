@@ -1,10 +1,9 @@
 -- `nearest::nearer_codes` meets its contract.
 -- Assumes nothing.
-use mathlib.Core.Path.{_≡_, refl, sym, ap, _∙_}
-use Prim.Native.Nat.{ℕ, _+_, _*_, _-_, _≤_, _<_}
+use mathlib.Core.Path.{_≡_, refl, ap, _∙_}
+use Prim.Native.Nat.{ℕ, _-_, _≤_, _<_}
 use native.Mathlib.Omega.{arith}
 use lib.ListN.{length, getD, length-set}
-use borrow.Author.Needs.{needs}
 use Rattle.plane.proofs.Plane.{filled, table-is}
 use Rattle.nearest.specs.Stages.{nearer}
 use Rattle.nearest.specs.Indices.{nearerCodes}
