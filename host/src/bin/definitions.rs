@@ -152,9 +152,12 @@ growthIs colours reference h w p back grown = same (growthOf colours reference h
         let border = pictures::onto_border(drawn.h, drawn.w);
         let odd = random.below(drawn.h * drawn.w);
         for (i, pixel) in drawn.colours.chunks_mut(3).enumerate() {
+            let (y, x) = (i / drawn.w, i % drawn.w);
+            let inner = y.min(x).min(drawn.h - 1 - y).min(drawn.w - 1 - x) >= 2;
             let part = match border[i] {
                 true if i != odd => 0.0,
-                _ => [0.0, 0.125, 0.25, 0.375, 0.5, 1.0, 1.0, 1.0][random.below(8)],
+                _ if inner && random.below(4) > 0 => 1.0,
+                _ => [0.0, 0.125, 0.25, 0.375, 0.5, 0.5, 1.0][random.below(7)],
             };
             let grey = if part == 0.0 { card } else { card + far * part };
             pixel.fill(grey);
@@ -171,10 +174,10 @@ growthIs colours reference h w p back grown = same (growthOf colours reference h
     fn cut(random: &mut Random, most: usize, count: &mut Count) -> String {
         let object = random.below(2) == 0;
         let (h, w) = loop {
-            let least = if object { 4 } else { 1 };
+            let least = if object { 5 } else { 1 };
             let side = |random: &mut Random| least + random.below(9 - least);
             let (h, w) = (side(random), side(random));
-            if h * w <= most.max(16) {
+            if h * w <= most.max(25) {
                 break (h, w);
             }
         };
@@ -183,7 +186,7 @@ growthIs colours reference h w p back grown = same (growthOf colours reference h
             few_colours(random, &mut drawn);
         }
         let settings = &mut drawn.settings;
-        settings.key_bg_fringe = [-1, 0, 1, 1, 2, 3][random.below(6)];
+        settings.key_bg_fringe = [-1, 0, 1, 2, 2, 3, 3][random.below(7)];
         settings.alpha_threshold = settings.alpha_threshold.clamp(-5, 256);
         if random.below(2) == 0 && !settings.key_bg_tolerance.is_finite() {
             settings.key_bg_tolerance = 0.03125;
