@@ -44,7 +44,6 @@ use Prim.Native.Nat.{ℕ, _*_}
 use lib.IntN.{ℤ, pos, negsuc}
 use lib.Dec.{T, eqb}
 use lib.Ieee.{Float, binary64, lt, le, eq, add, sub, mul, div, neg, ofInt, ofBits, toBits}
-use lib.Ieee.Scale.{finite}
 use Rattle.plane.specs.Plane.{on, bit, onAt, apart, within, table, rowsUpto, planeOf}
 use Rattle.plane.specs.Search.{someBelow, countBelow}
 use Rattle.plane.specs.Refusal.{roomFor, numberFor}
@@ -105,7 +104,7 @@ growthIs colours reference h w p back grown = same (growthOf colours reference h
 
 ";
 
-    const UNFOLDING: &str = "unfolding same f64 bits settings rgb numbered cutIs growthIs on bit onAt apart within table rowsUpto planeOf someBelow countBelow numberFor lower valueOf walk upto grid plus rowCost nearest away distanceTo inSquare isOn beside lesser renamed merge joinTwo joinWith joinUpto firstPixel absOf larger plusZero halfOf differenceOf closeTo colourOk coloursOk rgbOk joinsOf passesOf onOf weightOf insert sorted placed lowerMiddle upperMiddle medianOf rowPixels innerColumn borderList listed onBorder channelAt colourAt referenceChannel referenceOf isClose closePlane isGround groundFrom groundOf countOn someOff foundFrom isFound nearGround isEdge isShallow isDeep maskOf indexOf isReach bodyFrom joinsFrom isJoining passOf growthOf alphaMask isSought isKeyed grownGround cutMask weightAt weightsOf firstBelow lastBelow rowHas columnHas lesserOf boxOf cropOf firstOf colourNumber toleranceNumber cutNumber finite lt le eq add sub mul div neg ofInt ofBits toBits";
+    const UNFOLDING: &str = "unfolding same f64 bits settings rgb numbered cutIs growthIs on bit onAt apart within table rowsUpto planeOf someBelow countBelow numberFor lower valueOf walk upto grid plus rowCost nearest away distanceTo inSquare isOn beside lesser renamed merge joinTwo joinWith joinUpto firstPixel absOf larger plusZero halfOf differenceOf closeTo colourOk coloursOk rgbOk joinsOf passesOf onOf weightOf insert sorted placed lowerMiddle upperMiddle medianOf rowPixels innerColumn borderList listed onBorder channelAt colourAt referenceChannel referenceOf isClose closePlane isGround groundFrom groundOf countOn someOff foundFrom isFound nearGround isEdge isShallow isDeep maskOf indexOf isReach bodyFrom joinsFrom isJoining passOf growthOf alphaMask isSought isKeyed grownGround cutMask weightAt weightsOf firstBelow lastBelow rowHas columnHas lesserOf boxOf cropOf firstOf colourNumber toleranceNumber cutNumber lt le eq add sub mul div neg ofInt ofBits toBits";
 
     fn list<T: std::fmt::Display>(of: impl IntoIterator<Item = T>) -> String {
         let mut text = String::from("(");
