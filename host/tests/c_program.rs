@@ -66,6 +66,7 @@ refused 1 2 3, 1 0 1 2 3
 ground 0 1, 1 1 1: 24
 growth 0: 24
 cut 0, keyed 1, crop 1 4 1 4: 1, weight 1
+bytes 24 32 40 40
 refused 4 5 6, 6 5 4
 ";
 

@@ -189,8 +189,8 @@ mod with {
             let crop = (answer.y0, answer.y1, answer.x0, answer.x1);
             assert_eq!(crop, theirs.crop, "{}", drawn.show());
             same(mask, theirs.mask.iter().copied(), "mask", drawn);
-            for i in 0..n {
-                let (a, b) = (weights[i].to_bits(), theirs.weight[i].to_bits());
+            for (i, (a, b)) in weights.iter().zip(&theirs.weight).enumerate() {
+                let (a, b) = (a.to_bits(), b.to_bits());
                 assert_eq!(a, b, "weight of {i}, {}", drawn.show());
             }
             let opaque = alpha.iter().all(|&a| a as i64 >= alpha_threshold);
@@ -356,7 +356,7 @@ mod with {
     #[test]
     fn large_pictures() {
         let mut random = Random(35);
-        let mut all = Comparison::new(4096, 4096);
+        let mut all = Comparison::new(2048, 2048);
         let shapes = [
             (1, 4096, 12),
             (4096, 1, 12),
@@ -365,22 +365,53 @@ mod with {
             (9, 4096, 6),
             (200, 311, 12),
             (640, 480, 6),
-            (1024, 1024, 3),
-            (4096, 4096, 1),
         ];
         for (h, w, count) in shapes {
             for _ in 0..count {
                 let mut drawn = pictures::draw(&mut random, h, w);
                 drawn.settings.key_bg = true;
-                // mask.rs needs seconds for a pass over the largest.
-                if h * w > 500_000 {
-                    drawn.settings.key_bg_fringe = drawn.settings.key_bg_fringe.clamp(1, 2);
-                    drawn.alpha = vec![255; h * w];
-                    drawn.settings.alpha_threshold = 128;
-                }
                 all.whole(&mut random, &drawn);
             }
         }
+        for (h, w, p) in [(777, 1024, 7), (1024, 1024, i64::MAX), (2048, 1500, 3)] {
+            for dust in [false, true] {
+                let drawn = badge(&mut random, h, w, dust, p);
+                all.whole(&mut random, &drawn);
+            }
+            let colours = pictures::noise(&mut random, h, w, 500);
+            let drawn = opaque(colours, h, w, p);
+            all.whole(&mut random, &drawn);
+        }
         all.covered.say("sides to 4096");
+        assert!(all.covered.keyed >= 20);
+    }
+
+    /// Opaque, by the stand's own settings with p passes.
+    fn opaque(colours: Vec<f64>, h: usize, w: usize, p: i64) -> Drawn {
+        Drawn {
+            colours,
+            alpha: vec![255; h * w],
+            h,
+            w,
+            settings: Settings {
+                key_bg_fringe: p,
+                ..Settings::default()
+            },
+        }
+    }
+
+    fn badge(random: &mut Random, h: usize, w: usize, dust: bool, p: i64) -> Drawn {
+        opaque(pictures::badge(random, h, w, dust), h, w, p)
+    }
+
+    /// The largest picture there is.
+    #[test]
+    fn picture_of_4096_by_4096() {
+        let mut random = Random(36);
+        let mut all = Comparison::new(4096, 4096);
+        let drawn = badge(&mut random, 4096, 4096, true, 2);
+        all.ground(&drawn);
+        assert!(all.cut(&drawn));
+        all.covered.say("4096 × 4096");
     }
 }

@@ -7,15 +7,18 @@
 //! p + 4 rows and columns of the first picture's ground, found or not, sought or not; elsewhere they
 //! are any numbers from 0 to 1.
 
+#[path = "../support/lent.rs"]
+mod lent;
 #[path = "../support/masks.rs"]
 mod masks;
 #[path = "../support/pictures.rs"]
 mod pictures;
 
+use lent::CutLent;
 use masks::Random;
 use pictures::Drawn;
 use stand::raw::{self, Work};
-use stand::{Cut, Picture, Refusal, Settings};
+use stand::{Crop, Cut, Picture, Refusal, Settings};
 use std::io::Write;
 
 /// p, with a negative number as 0.
@@ -63,6 +66,27 @@ fn bits(weights: &[f64]) -> Vec<u64> {
     weights.iter().map(|weight| weight.to_bits()).collect()
 }
 
+/// The cut in buffers that hold what earlier calls left in them.
+fn cut_in(lent: &mut CutLent, picture: &Picture, settings: &Settings) -> Result<Cut, Refusal> {
+    let Picture {
+        colours,
+        alpha,
+        h,
+        w,
+    } = *picture;
+    let (answer, mask, weights) = lent.cut(colours, alpha, h, w, *settings);
+    Refusal::check(answer.number)?;
+    Ok(Cut {
+        mask: mask.to_vec(),
+        weights: weights.to_vec(),
+        keyed: answer.keyed,
+        crop: Crop {
+            rows: answer.y0..answer.y1,
+            cols: answer.x0..answer.x1,
+        },
+    })
+}
+
 /// Holds two answers of the cut to be the same.
 fn alike(first: &Result<Cut, Refusal>, second: &Result<Cut, Refusal>, shown: impl Fn() -> String) {
     match (first, second) {
@@ -106,6 +130,7 @@ fn first_picture(random: &mut Random) -> Drawn {
 fn twenty_thousand_pairs() {
     let mut random = Random(41);
     let mut covered = Covered::default();
+    let mut lent = CutLent::new(48, 48);
     for _ in 0..20_000 {
         let drawn = first_picture(&mut random);
         let (h, w) = (drawn.h, drawn.w);
@@ -116,8 +141,8 @@ fn twenty_thousand_pairs() {
             colours: &colours,
             ..drawn.picture()
         };
-        let first = stand::cut(&drawn.picture(), &drawn.settings);
-        let second = stand::cut(&other, &settings);
+        let first = cut_in(&mut lent, &drawn.picture(), &drawn.settings);
+        let second = cut_in(&mut lent, &other, &settings);
         alike(&first, &second, || {
             format!("{}\nand {colours:?}", drawn.show())
         });
@@ -135,9 +160,8 @@ fn twenty_thousand_pairs() {
                 covered.grown_differing += (differs && grown) as u64;
             }
             Ok(_) => {
-                let opaque = drawn.alpha.iter();
-                let opaque = opaque.min().unwrap();
-                let full = *opaque as i64 >= drawn.settings.alpha_threshold;
+                let least = *drawn.alpha.iter().min().expect("a pixel");
+                let full = least as i64 >= drawn.settings.alpha_threshold;
                 match drawn.settings.key_bg && full {
                     true => covered.not_found += 1,
                     false => covered.not_sought += 1,

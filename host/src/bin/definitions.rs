@@ -44,7 +44,6 @@ use Prim.Native.Nat.{ℕ, _*_}
 use lib.IntN.{ℤ, pos, negsuc}
 use lib.Dec.{T, eqb}
 use lib.Ieee.{Float, binary64, lt, le, eq, add, sub, mul, div, neg, ofInt, ofBits, toBits}
-use lib.Ieee.Scale.{finite}
 use Rattle.plane.specs.Plane.{on, bit, onAt, apart, within, table, rowsUpto, planeOf}
 use Rattle.plane.specs.Search.{someBelow, countBelow}
 use Rattle.plane.specs.Refusal.{roomFor, numberFor}
@@ -105,7 +104,7 @@ growthIs colours reference h w p back grown = same (growthOf colours reference h
 
 ";
 
-    const UNFOLDING: &str = "unfolding same f64 bits settings rgb numbered cutIs growthIs on bit onAt apart within table rowsUpto planeOf someBelow countBelow numberFor lower valueOf walk upto grid plus rowCost nearest away distanceTo inSquare isOn beside lesser renamed merge joinTwo joinWith joinUpto firstPixel absOf larger plusZero halfOf differenceOf closeTo colourOk coloursOk rgbOk joinsOf passesOf onOf weightOf insert sorted placed lowerMiddle upperMiddle medianOf rowPixels innerColumn borderList listed onBorder channelAt colourAt referenceChannel referenceOf isClose closePlane isGround groundFrom groundOf countOn someOff foundFrom isFound nearGround isEdge isShallow isDeep maskOf indexOf isReach bodyFrom joinsFrom isJoining passOf growthOf alphaMask isSought isKeyed grownGround cutMask weightAt weightsOf firstBelow lastBelow rowHas columnHas lesserOf boxOf cropOf firstOf colourNumber toleranceNumber cutNumber finite lt le eq add sub mul div neg ofInt ofBits toBits";
+    const UNFOLDING: &str = "unfolding same f64 bits settings rgb numbered cutIs growthIs on bit onAt apart within table rowsUpto planeOf someBelow countBelow numberFor lower valueOf walk upto grid plus rowCost nearest away distanceTo inSquare isOn beside lesser renamed merge joinTwo joinWith joinUpto firstPixel absOf larger plusZero halfOf differenceOf closeTo colourOk coloursOk rgbOk joinsOf passesOf onOf weightOf insert sorted placed lowerMiddle upperMiddle medianOf rowPixels innerColumn borderList listed onBorder channelAt colourAt referenceChannel referenceOf isClose closePlane isGround groundFrom groundOf countOn someOff foundFrom isFound nearGround isEdge isShallow isDeep maskOf indexOf isReach bodyFrom joinsFrom isJoining passOf growthOf alphaMask isSought isKeyed grownGround cutMask weightAt weightsOf firstBelow lastBelow rowHas columnHas lesserOf boxOf cropOf firstOf colourNumber toleranceNumber cutNumber lt le eq add sub mul div neg ofInt ofBits toBits";
 
     fn list<T: std::fmt::Display>(of: impl IntoIterator<Item = T>) -> String {
         let mut text = String::from("(");
@@ -152,9 +151,12 @@ growthIs colours reference h w p back grown = same (growthOf colours reference h
         let border = pictures::onto_border(drawn.h, drawn.w);
         let odd = random.below(drawn.h * drawn.w);
         for (i, pixel) in drawn.colours.chunks_mut(3).enumerate() {
+            let (y, x) = (i / drawn.w, i % drawn.w);
+            let inner = y.min(x).min(drawn.h - 1 - y).min(drawn.w - 1 - x) >= 2;
             let part = match border[i] {
                 true if i != odd => 0.0,
-                _ => [0.0, 0.125, 0.25, 0.375, 0.5, 1.0, 1.0, 1.0][random.below(8)],
+                _ if inner && random.below(4) > 0 => 1.0,
+                _ => [0.0, 0.125, 0.25, 0.375, 0.5, 0.5, 1.0][random.below(7)],
             };
             let grey = if part == 0.0 { card } else { card + far * part };
             pixel.fill(grey);
@@ -171,10 +173,10 @@ growthIs colours reference h w p back grown = same (growthOf colours reference h
     fn cut(random: &mut Random, most: usize, count: &mut Count) -> String {
         let object = random.below(2) == 0;
         let (h, w) = loop {
-            let least = if object { 4 } else { 1 };
+            let least = if object { 5 } else { 1 };
             let side = |random: &mut Random| least + random.below(9 - least);
             let (h, w) = (side(random), side(random));
-            if h * w <= most.max(16) {
+            if h * w <= most.max(25) {
                 break (h, w);
             }
         };
@@ -183,7 +185,7 @@ growthIs colours reference h w p back grown = same (growthOf colours reference h
             few_colours(random, &mut drawn);
         }
         let settings = &mut drawn.settings;
-        settings.key_bg_fringe = [-1, 0, 1, 1, 2, 3][random.below(6)];
+        settings.key_bg_fringe = [-1, 0, 1, 2, 2, 3, 3][random.below(7)];
         settings.alpha_threshold = settings.alpha_threshold.clamp(-5, 256);
         if random.below(2) == 0 && !settings.key_bg_tolerance.is_finite() {
             settings.key_bg_tolerance = 0.03125;

@@ -45,6 +45,8 @@ static void picture(void)
            (int)cut.keyed, (unsigned)cut.y0, (unsigned)cut.y1, (unsigned)cut.x0, (unsigned)cut.x1,
            on, weights[12]);
 
+    printf("bytes %u %u %u %u\n", (unsigned)sizeof(StandRgb), (unsigned)sizeof(StandGround),
+           (unsigned)sizeof(StandSettings), (unsigned)sizeof(StandCut));
     printf("refused %d %d %d,", STAND_COLOUR, STAND_TOLERANCE, STAND_ALPHA);
     settings.alpha_threshold = 256;
     cut = stand_cut(colours, 3 * PIXELS, alpha, PIXELS, SIDE, SIDE, settings,
