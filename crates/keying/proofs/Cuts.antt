@@ -26,7 +26,7 @@ use Rattle.outline.specs.Border.{referenceOf}
 use Rattle.outline.specs.Ground.{groundOf, isFound, someOff}
 use Rattle.outline.specs.Growth.{maskOf, growthOf}
 use Rattle.outline.specs.Cut.{alphaMask, isSought, isKeyed, grownGround, cutMask, cropOf}
-use Rattle.outline.specs.Refusal.{firstOf, colourNumber, toleranceNumber, cutNumber}
+use Rattle.outline.specs.Refusal.{firstOf, colourNumber, toleranceNumber, growthNumber, cutNumber}
 use Rattle.outline.proofs.Masks.{mask-on, mask-same}
 use Rattle.outline.proofs.CutLaws.{first-zero}
 use Rattle.ground.specs.declared.Flat.{Flat}
@@ -78,6 +78,40 @@ cut-ok colours alpha h w s mask weights near first second third e =
       first-long = room-le h w first (b3 .1);
       second-long = room-le h w second (b4 .1);
       third-long = room-le h w third (b5 .1);
+    }
+
+-- ---- an accepted growth
+
+pub record GrowthOk (colours : List Float) (back h w out near first second third : ℕ) : Type 0 where
+  pub sides : Sides h w
+  pub colours-long : length colours ≡ 3 * (h * w)
+  pub back-long : back ≡ h * w
+  pub out-long : out ≡ h * w
+  pub near-long : h * w ≤ near
+  pub first-long : h * w ≤ first
+  pub second-long : h * w ≤ second
+  pub third-long : h * w ≤ third
+
+pub growth-ok : (colours : List Float) (back h w : ℕ) (r : Rgb) (out near first second third : ℕ)
+    → growthNumber colours back h w r out near first second third ≡ 0 → GrowthOk colours back h w out near first second third
+unfolding growthNumber
+growth-ok colours back h w r out near first second third e =
+    let z = first-zero _ _ e in
+    let a = accepted (sidesOk h w) (eqb (length colours) (3 * (h * w)) && eqb back (h * w)) (eqb out (h * w) && leb (roomFor h w) near && leb (roomFor h w) first && leb (roomFor h w) second && leb (roomFor h w) third) (z .0) in
+    let i = and-true (eqb (length colours) (3 * (h * w))) (eqb back (h * w)) (a .inputs-ok) in
+    let b4 = and-true (eqb out (h * w) && leb (roomFor h w) near && leb (roomFor h w) first && leb (roomFor h w) second) (leb (roomFor h w) third) (a .room-ok) in
+    let b3 = and-true (eqb out (h * w) && leb (roomFor h w) near && leb (roomFor h w) first) (leb (roomFor h w) second) (b4 .0) in
+    let b2 = and-true (eqb out (h * w) && leb (roomFor h w) near) (leb (roomFor h w) first) (b3 .0) in
+    let b1 = and-true (eqb out (h * w)) (leb (roomFor h w) near) (b2 .0) in
+    record {
+      sides = sides-are h w (a .sides-ok);
+      colours-long = eqb-true (length colours) (3 * (h * w)) (i .0);
+      back-long = eqb-true back (h * w) (i .1);
+      out-long = eqb-true out (h * w) (b1 .0);
+      near-long = room-le h w near (b1 .1);
+      first-long = room-le h w first (b2 .1);
+      second-long = room-le h w second (b3 .1);
+      third-long = room-le h w third (b4 .1);
     }
 
 -- ---- keying

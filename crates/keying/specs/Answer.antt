@@ -6,6 +6,7 @@ use mathlib.Core.List.{List}
 use lib.Dec.{eqb}
 use lib.Ieee.{Float}
 use Rattle.colour.specs.declared.Rgb.{Rgb}
+use Rattle.colour.specs.Number.{zero64}
 use Rattle.outline.specs.Border.{referenceOf}
 use Rattle.colour.specs.declared.Settings.{Settings}
 use Rattle.labels.specs.Labels.{isOn}
@@ -23,6 +24,17 @@ abbrev pub groundNumberOf : Ground → ℕ
 groundNumberOf (ground.Found reference) = 0
 groundNumberOf ground.Absent = 0
 groundNumberOf (ground.Refused n) = n
+
+-- whether an answer says that the ground was found, and its reference colour: all +0 where it was not
+abbrev pub groundFound : Ground → Bool
+groundFound (ground.Found reference) = true
+groundFound ground.Absent = false
+groundFound (ground.Refused n) = false
+
+abbrev pub groundReference : Ground → Rgb
+groundReference (ground.Found reference) = reference
+groundReference ground.Absent = record { r = zero64; g = zero64; b = zero64 }
+groundReference (ground.Refused n) = record { r = zero64; g = zero64; b = zero64 }
 
 -- the answer of ground with this number: accepted, the reference where the ground is found
 unfoldable pub groundFor : ℕ → List Float → ℕ → ℕ → Float → Ground

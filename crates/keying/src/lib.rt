@@ -15,7 +15,7 @@ ghost use Rattle.outline.specs.Ground.{isFound};
 ghost use Rattle.outline.specs.Growth.{growthOf};
 ghost use Rattle.outline.specs.Cut.{isKeyed, cutMask, weightsOf, cropOf};
 ghost use Rattle.outline.specs.Refusal.{groundNumber, growthNumber, cutNumber};
-ghost use Rattle.keying.specs.Answer.{groundFor, cropAs, cutFor, keyedPlane};
+ghost use Rattle.keying.specs.Answer.{groundNumberOf, groundFound, groundReference, groundFor, cropAs, cutNumberOf, cutKeyed, cutCrop, cutFor, keyedPlane};
 ghost use Rattle.keying.specs.Steps.{KeyRoom};
 ghost use Rattle.keying.specs.Survey.{Masked};
 use colour::Rgb;
@@ -254,4 +254,71 @@ pub fn subject(
     masks::weights(mask, alpha, weights);
     let crop = crop_of(mask, h, w, s);
     Cut::Done(keyed, crop)
+}
+
+// The number of an answer of ground; whether it was found; and its reference, all +0 where it was not.
+pub fn ground_number_of(answer: Ground) -> u32
+    ensures { λ r. ⌜ r ≡ groundNumberOf answer ⌝ }
+{
+    match answer {
+        Ground::Found(_) => 0,
+        Ground::Absent => 0,
+        Ground::Refused(n) => n,
+    }
+}
+
+pub fn ground_found(answer: Ground) -> bool
+    ensures { λ r. ⌜ r ≡ groundFound answer ⌝ }
+{
+    match answer {
+        Ground::Found(_) => true,
+        Ground::Absent => false,
+        Ground::Refused(_) => false,
+    }
+}
+
+pub fn ground_reference(answer: Ground) -> Rgb
+    ensures { λ r. ⌜ r ≡ groundReference answer ⌝ }
+{
+    let Ground::Found(reference) = answer else {
+        return Rgb {
+            r: 0.0,
+            g: 0.0,
+            b: 0.0,
+        };
+    };
+    reference
+}
+
+// The number of an answer of the cut; whether it was keyed; and its crop box, all 0 where it was declined.
+pub fn cut_number_of(answer: Cut) -> u32
+    ensures { λ r. ⌜ r ≡ cutNumberOf answer ⌝ }
+{
+    match answer {
+        Cut::Done(_, _) => 0,
+        Cut::Refused(n) => n,
+    }
+}
+
+pub fn cut_keyed(answer: Cut) -> bool
+    ensures { λ r. ⌜ r ≡ cutKeyed answer ⌝ }
+{
+    match answer {
+        Cut::Done(keyed, _) => keyed,
+        Cut::Refused(_) => false,
+    }
+}
+
+pub fn cut_crop(answer: Cut) -> Crop
+    ensures { λ r. ⌜ r ≡ cutCrop answer ⌝ }
+{
+    let Cut::Done(_, crop) = answer else {
+        return Crop {
+            y0: 0,
+            y1: 0,
+            x0: 0,
+            x1: 0,
+        };
+    };
+    crop
 }

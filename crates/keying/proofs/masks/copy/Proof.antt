@@ -1,45 +1,55 @@
+-- `keying::masks::copy` meets its contract.
+-- Assumes nothing.
+use mathlib.Core.Path.{_≡_, refl, sym, _∙_}
+use Prim.Native.Nat.{ℕ, _-_, _≤_, _<_}
+use native.Mathlib.Nat.{not-suc-le-zero}
+use lib.ListN.{length, getD, length-set}
+use lib.Seq.{ext-getD}
+use Rattle.plane.proofs.Plane.{filled}
+use borrow.Author.Needs.{needs}
+use native.Mathlib.Omega.{arith}
 use Rattle.keying.proofs.masks.copy.Statement.{statement}
 use Rattle.keying.proofs.masks.copy.Tie as tie
-use Rattle.keying.proofs.masks.copy.Reads as reads
-use Rattle.keying.proofs.masks.copy.Lts as lts
 
 abbrev Inv-loop : tie.InvT-loop
-Inv-loop from to₀ i₀ to i = ?
+Inv-loop from to₀ i₀ to i =
+    (i ≤ length to₀) × (length to ≡ length to₀) × ((k : ℕ) → k < i → getD to k 0 ≡ getD from k 0)
 
 abbrev μ-loop : tie.MeasureT-loop
-μ-loop from to₀ i₀ to i = ?
+μ-loop from to₀ i₀ to i = length to₀ - i
 
--- src/masks.rt:102:5
 loop-holds : tie.Need-loop-holds Inv-loop μ-loop
-loop-holds c = ?
+loop-holds c = (omega arith, refl, λ k l. absurd (not-suc-le-zero l))
 
--- src/masks.rt:103:17
 shared-slice-read-to : tie.Need-shared-slice-read-to Inv-loop μ-loop
-shared-slice-read-to c = ?
+shared-slice-read-to c = omega arith
 
--- src/masks.rt:103:9
 slice-write-to : tie.Need-slice-write-to Inv-loop μ-loop
-slice-write-to c = ?
+slice-write-to c = omega arith
 
--- src/masks.rt:104:9
 add-i : tie.Need-add-i Inv-loop μ-loop
-add-i c = ?
+add-i c = omega arith
 
--- src/masks.rt:102:5
 loop-less : tie.Need-loop-less Inv-loop μ-loop
-loop-less c = ?
+loop-less c = omega arith
 
--- src/masks.rt:102:5
 loop-again : tie.Need-loop-again Inv-loop μ-loop
-loop-again c = ?
+loop-again c =
+    let l = c .before .before .loop in
+    let f = c .before .before .before .args .from .now in (
+      omega arith,
+      length-set (l .to) (l .i) (getD f (l .i) 0) ∙ l .inv .1,
+      filled (λ (k : ℕ). getD f k 0) (l .to) (l .i) (getD f (l .i) 0) 0 (omega arith) (l .inv .2) refl,
+    )
 
--- src/masks.rt:97:1
 same-length : tie.Need-same-length Inv-loop μ-loop
-same-length c = ?
+same-length c = c .before .loop .inv .1
 
--- src/masks.rt:97:1
 returns : tie.Need-returns Inv-loop μ-loop
-returns c = ?
+returns c =
+    let l = c .before .loop in
+    let o = c .before .before in
+    ext-getD 0 (l .to) (o .args .from .now) (l .inv .1 ∙ sym (o .pre)) (λ k g. l .inv .2 k (omega arith))
 
 pub copy-spec : {M : Type 1} → statement M
 copy-spec =
