@@ -13,7 +13,7 @@ use types.Run.{OneOf}
 use denote.Enum.Declared.{tagOf}
 use borrow.Author.Tests.{eq-eqb, ne-eqb, eqb-true, leb-true}
 use Rattle.plane.specs.Plane.{Sides, on, bit, table}
-use Rattle.plane.specs.Refusal.{sidesOk, roomFor, numberFor}
+use Rattle.plane.specs.Refusal.{sidesOk, roomFor, numberFor, after}
 use Rattle.plane.proofs.Search.{either, not-both, none-found}
 use Rattle.plane.proofs.Plane.{table-length, table-at}
 use Rattle.plane.proofs.Refusal.{and-true, accepted, sides-are}
@@ -35,7 +35,7 @@ use Rattle.ground.proofs.Flat as flat-type
 use Rattle.ground.specs.Answer.{flatOf, flatPlane}
 use Rattle.keying.specs.declared.crop.Crop.{Crop}
 use Rattle.keying.specs.declared.Cut.the-variants as answer
-use Rattle.keying.specs.Answer.{cropAs, cutFor, keyedPlane}
+use Rattle.keying.specs.Answer.{cropAs, cutNumberOf, cutKeyed, cutCrop, cutFor, keyedPlane}
 use Rattle.keying.proofs.Grounds.{in-range}
 
 -- ---- an accepted cut
@@ -206,3 +206,26 @@ module _ (colours : List Float) (alpha : List ℕ) (h w : ℕ) (s : Settings) wh
       → answer.Done keyed crop ≡ cutFor n colours alpha h w s
   unfolding cutFor
   cut-done n z keyed crop e d = rw (eq-eqb n 0 z, e, d)
+
+-- ---- from an answer back to its number and values
+
+module _ (n : ℕ) (colours : List Float) (alpha : List ℕ) (h w : ℕ) (s : Settings) where
+  by-zero : (P : Bool → Type 0) → (n ≡ 0 → P true) → P false → P (eqb n 0)
+  by-zero P a b = at (eqb n 0) refl
+    where
+      at : (t : Bool) → eqb n 0 ≡ t → P t
+      at true e = a (eqb-true n 0 e)
+      at false e = b
+
+  pub cut-number-of : cutNumberOf (cutFor n colours alpha h w s) ≡ n
+  unfolding cutFor
+  cut-number-of = by-zero (λ (t : Bool). cutNumberOf (cond t (answer.Done (isKeyed colours alpha h w s) (cropAs (cropOf (cutMask colours alpha h w s) h w s))) (answer.Refused n)) ≡ n) sym refl
+
+  pub cut-keyed-of : cutKeyed (cutFor n colours alpha h w s) ≡ after n (isKeyed colours alpha h w s) false
+  unfolding cutFor after
+  cut-keyed-of = by-zero (λ (t : Bool). cutKeyed (cond t (answer.Done (isKeyed colours alpha h w s) (cropAs (cropOf (cutMask colours alpha h w s) h w s))) (answer.Refused n)) ≡ cond t (isKeyed colours alpha h w s) false) (λ e. refl) refl
+
+  pub cut-crop-of : cutCrop (cutFor n colours alpha h w s) ≡ after n (cropAs (cropOf (cutMask colours alpha h w s) h w s)) (record { y0 = 0; y1 = 0; x0 = 0; x1 = 0 })
+  unfolding cutFor after
+  cut-crop-of =
+      by-zero (λ (t : Bool). cutCrop (cond t (answer.Done (isKeyed colours alpha h w s) (cropAs (cropOf (cutMask colours alpha h w s) h w s))) (answer.Refused n)) ≡ cond t (cropAs (cropOf (cutMask colours alpha h w s) h w s)) (record { y0 = 0; y1 = 0; x0 = 0; x1 = 0 })) (λ e. refl) refl

@@ -1,18 +1,34 @@
+-- `keying::ground_reference` meets its contract.
+-- Assumes nothing.
+use mathlib.Core.Path.{_≡_, refl}
+use mathlib.Core.List.{[], _∷_}
+use mathlib.Core.Logic.{⊎-elim}
+use native.Mathlib.Omega.{arith}
+use lib.Ieee.{binary64, ofBits}
+use types.Run.{OneOf}
+use denote.Enum.Declared.{tagOf}
 use borrow.Author.Needs.{needs}
+use Rattle.colour.specs.declared.Rgb.{Rgb}
+use Rattle.keying.specs.declared.Ground.{Ground}
+use Rattle.keying.specs.declared.Ground.the-variants.{Found, Absent, Refused}
+use Rattle.keying.specs.Answer.{groundReference}
+use Rattle.keying.proofs.Ground as ground
 use Rattle.keying.proofs.ground_reference.Statement.{statement}
 use Rattle.keying.proofs.ground_reference.Tie as tie
-use Rattle.keying.proofs.ground_reference.Reads as reads
-use Rattle.keying.proofs.ground_reference.Lts as lts
 
--- src/lib.rt:283:23
+none : (a : Ground) → OneOf (1 ∷ 2 ∷ []) (tagOf ground.the-type a)
+    → _≡_ {A = Rgb} (record { r = ofBits binary64 0; g = ofBits binary64 0; b = ofBits binary64 0 }) (groundReference a)
+unfolding ofBits
+none (Found q) h = ⊎-elim (λ e. absurd (omega arith)) (λ e. absurd (omega arith)) h
+none Absent h = refl
+none (Refused n) h = refl
+
 enum-known-answer : tie.Need-enum-known-answer
 enum-known-answer c = search needs
 
--- src/lib.rt:284:9
 returns : tie.Need-returns
-returns c = ?
+returns c = none (c .before .args .answer) (c .match .keys2)
 
--- src/lib.rt:280:1
 returns-2 : tie.Need-returns-2
 returns-2 c = search needs
 
