@@ -3,6 +3,7 @@
 use mathlib.Core.Path.{_≡_, refl, sym, ap, _∙_, subst}
 use mathlib.Core.Bool.{Bool, true, false, cond, _&&_}
 use mathlib.Core.List.{List, [], _∷_}
+use mathlib.Core.Logic.{⊎-elim}
 use Prim.Native.Nat.{ℕ, _+_, _*_, _≤_, _<_}
 use native.Mathlib.Omega.{arith}
 use lib.Dec.{eqb, leb}
@@ -10,11 +11,13 @@ use lib.ListN.{length}
 use lib.Ieee.{Float}
 use types.Run.{OneOf}
 use denote.Enum.Declared.{tagOf}
-use borrow.Author.Tests.{eq-eqb, ne-eqb, eqb-true, leb-true}
+use borrow.Author.Tests.{eq-eqb, ne-eqb, eqb-true, eqb-false, leb-true}
 use Rattle.plane.specs.Plane.{Sides}
-use Rattle.plane.specs.Refusal.{sidesOk, roomFor, numberFor}
+use Rattle.plane.specs.Refusal.{sidesOk, roomFor, numberFor, after}
+use Rattle.plane.proofs.Search.{either}
 use Rattle.plane.proofs.Refusal.{and-true, accepted, sides-are}
 use Rattle.colour.specs.declared.Rgb.{Rgb}
+use Rattle.colour.specs.Number.{zero64}
 use Rattle.colour.specs.Colour.{coloursOk}
 use Rattle.outline.specs.Border.{referenceOf}
 use Rattle.outline.specs.Ground.{isFound}
@@ -27,7 +30,7 @@ use Rattle.ground.specs.Lines.{Picture}
 use Rattle.ground.specs.Answer.{flatOf}
 use Rattle.keying.specs.declared.Ground.{Ground}
 use Rattle.keying.specs.declared.Ground.the-variants as ground
-use Rattle.keying.specs.Answer.{groundFor}
+use Rattle.keying.specs.Answer.{groundNumberOf, groundFound, groundReference, groundFor}
 
 -- ---- a number of 0
 
@@ -77,3 +80,39 @@ module _ (colours : List Float) (h w : ℕ) (t : Float) where
   unfolding groundFor flatOf
   absent-is n f z e o =
       rw (eq-eqb n 0 z) (absent-so (isFound colours h w t) (referenceOf colours h w) (subst (λ (g : Flat). OneOf (1 ∷ []) (tagOf flat-type.the-type g)) e o))
+
+-- ---- from an answer back to its number and values
+
+module _ (n : ℕ) (colours : List Float) (h w : ℕ) (t : Float) where
+  answer-by : (P : Ground → Type 0) → (n ≡ 0 → (b : Bool) → isFound colours h w t ≡ b → P (cond b (ground.Found (referenceOf colours h w)) ground.Absent)) → ((n ≡ 0 → ⊥) → P (ground.Refused n)) → P (groundFor n colours h w t)
+  unfolding groundFor
+  answer-by P a b =
+      ⊎-elim {C = P (cond (eqb n 0) (cond (isFound colours h w t) (ground.Found (referenceOf colours h w)) ground.Absent) (ground.Refused n))}
+      (λ (e : eqb n 0 ≡ true). rw e (a (eqb-true n 0 e) (isFound colours h w t) refl))
+      (λ (e : eqb n 0 ≡ false). rw e (b (eqb-false n 0 e)))
+      (either (eqb n 0))
+
+  pub ground-number-of : groundNumberOf (groundFor n colours h w t) ≡ n
+  ground-number-of = answer-by (λ (g : Ground). groundNumberOf g ≡ n) (λ z b e. accepted-number z b) (λ z. refl)
+    where
+      accepted-number : n ≡ 0 → (b : Bool) → groundNumberOf (cond b (ground.Found (referenceOf colours h w)) ground.Absent) ≡ n
+      accepted-number z true = sym z
+      accepted-number z false = sym z
+
+  pub ground-found-of : groundFound (groundFor n colours h w t) ≡ after n (isFound colours h w t) false
+  unfolding after
+  ground-found-of = answer-by (λ (g : Ground). groundFound g ≡ cond (eqb n 0) (isFound colours h w t) false) (λ z b e. rw (eq-eqb n 0 z, e) (same b)) (λ z. rw (ne-eqb n 0 z))
+    where
+      same : (b : Bool) → groundFound (cond b (ground.Found (referenceOf colours h w)) ground.Absent) ≡ b
+      same true = refl
+      same false = refl
+
+  pub ground-reference-of : groundReference (groundFor n colours h w t) ≡ cond (after n (isFound colours h w t) false) (referenceOf colours h w) (record { r = zero64; g = zero64; b = zero64 })
+  unfolding after
+  ground-reference-of =
+      answer-by (λ (g : Ground). groundReference g ≡ cond (cond (eqb n 0) (isFound colours h w t) false) (referenceOf colours h w) (record { r = zero64; g = zero64; b = zero64 }))
+      (λ z b e. rw (eq-eqb n 0 z, e) (same b)) (λ z. rw (ne-eqb n 0 z))
+    where
+      same : (b : Bool) → groundReference (cond b (ground.Found (referenceOf colours h w)) ground.Absent) ≡ cond b (referenceOf colours h w) (record { r = zero64; g = zero64; b = zero64 })
+      same true = refl
+      same false = refl
