@@ -3,3 +3,4 @@ pub mod Numbers
 pub mod Grounds
 pub mod Cuts
 pub mod Box
+pub mod TwoPictures
