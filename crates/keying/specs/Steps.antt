@@ -12,9 +12,13 @@ use Rattle.colour.specs.Colour.{coloursOk}
 use Rattle.colour.specs.Number.{zero64}
 use Rattle.colour.specs.Weight.{weightOf}
 
+-- the weight of an on-pixel with this alpha
+unfoldable pub onWeight : ℕ → Float
+onWeight alpha = weightOf (cond (eqb alpha 0) 1 alpha)
+
 -- the weight of a pixel with this byte in the mask and this alpha
 unfoldable pub weightFor : ℕ → ℕ → Float
-weightFor m alpha = cond (on m) (weightOf (cond (eqb alpha 0) 1 alpha)) zero64
+weightFor m alpha = cond (on m) (onWeight alpha) zero64
 
 -- a picture of accepted sides and colours, and buffers of its size
 pub record KeyRoom (colours : List Float) (h w : ℕ) (near first second third mask : List ℕ) : Type 0 where

@@ -3,14 +3,14 @@ ghost use mathlib.Core.Path.{_≡_};
 ghost use mathlib.Core.Bool.{Bool, not};
 ghost use Prim.Native.Nat.{ℕ};
 ghost use lib.ListN.{length, getD, replicate};
-ghost use Rattle.plane.specs.Plane.{bit, on};
+ghost use Rattle.plane.specs.Plane.{bit, on, table};
 ghost use Rattle.plane.specs.Search.{someBelow};
 ghost use Rattle.labels.specs.Labels.{isOn};
 ghost use Rattle.colour.specs.Settings.{onOf};
 ghost use Rattle.outline.specs.Ground.{someOff};
 ghost use Rattle.outline.specs.Growth.{maskOf};
 ghost use Rattle.outline.specs.Cut.{weightsOf};
-ghost use Rattle.keying.specs.Steps.{weightFor};
+ghost use Rattle.keying.specs.Steps.{onWeight, weightFor};
 
 // Whether some alpha reaches the threshold.
 pub fn some_reach(alpha: &[u8], threshold: i64) -> bool
@@ -68,17 +68,50 @@ pub fn turn(mask: &mut [u8])
     }
 }
 
+// The weight of an on-pixel by its alpha, which counts as 1 where it is 0.
+fn on_weight(alpha: u8) -> f64
+    ensures { λ r. ⌜ r ≡ onWeight alpha ⌝ }
+{
+    if alpha == 0 {
+        return colour::weights::weight(1);
+    }
+    colour::weights::weight(alpha)
+}
+
+// The weights of all on-pixels, by alpha.
+fn on_weights(out: &mut [f64])
+    requires { ⌜ length (now out) ≡ 256 ⌝ }
+    ensures { λ _. ⌜ now (out .exit) ≡ table onWeight 0 256 ⌝ }
+{
+    let mut v = 0usize;
+    while v < 256 {
+        out[v] = on_weight(v as u8);
+        v += 1;
+    }
+}
+
 // The weight of a pixel.
-fn weigh(m: u8, alpha: u8) -> f64
+fn weigh(entries: &[f64], m: u8, alpha: u8) -> f64
+    requires { ⌜ now entries ≡ table onWeight 0 256 ⌝ }
     ensures { λ r. ⌜ r ≡ weightFor m alpha ⌝ }
 {
     if m == 0 {
         return 0.0;
     }
-    if alpha == 0 {
-        return colour::weights::weight(1);
+    entries[alpha as usize]
+}
+
+// The weights of the plane, from the table.
+fn weigh_all(entries: &[f64], mask: &[u8], alpha: &[u8], out: &mut [f64])
+    requires { ⌜ (length (now mask) ≡ length (now out)) × (length (now alpha) ≡ length (now out)) ⌝ }
+    requires { ⌜ now entries ≡ table onWeight 0 256 ⌝ }
+    ensures { λ _. ⌜ now (out .exit) ≡ weightsOf (now (mask .entry)) (now (alpha .entry)) (length (now (out .entry))) ⌝ }
+{
+    let mut i = 0usize;
+    while i < out.len() {
+        out[i] = weigh(entries, mask[i], alpha[i]);
+        i += 1;
     }
-    colour::weights::weight(alpha)
 }
 
 // The weights of the plane.
@@ -86,11 +119,9 @@ pub fn weights(mask: &[u8], alpha: &[u8], out: &mut [f64])
     requires { ⌜ (length (now mask) ≡ length (now out)) × (length (now alpha) ≡ length (now out)) ⌝ }
     ensures { λ _. ⌜ now (out .exit) ≡ weightsOf (now (mask .entry)) (now (alpha .entry)) (length (now (out .entry))) ⌝ }
 {
-    let mut i = 0usize;
-    while i < out.len() {
-        out[i] = weigh(mask[i], alpha[i]);
-        i += 1;
-    }
+    let mut entries = [0.0f64; 256];
+    on_weights(&mut entries);
+    weigh_all(&entries, mask, alpha, out);
 }
 
 // A plane as it is.

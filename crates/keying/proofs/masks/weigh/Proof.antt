@@ -1,11 +1,16 @@
 -- `keying::masks::weigh` meets its contract.
 -- Assumes nothing.
-use mathlib.Core.Path.{sym, _∙_}
+use mathlib.Core.Path.{_≡_, sym, ap, _∙_}
+use Prim.Native.Nat.{ℕ, _<_}
+use lib.ListN.{length, getD}
+use mathlib.Core.List.{List}
+use lib.Ieee.{Float, nan, ofBits}
 use borrow.Author.Needs.{needs}
 use borrow.Author.Tests.{eq-eqb, ne-eqb}
-use lib.Ieee.{ofBits}
+use native.Mathlib.Omega.{arith}
 use Rattle.plane.specs.Plane.{on}
-use Rattle.keying.specs.Steps.{weightFor}
+use Rattle.plane.proofs.Plane.{table-length, table-at}
+use Rattle.keying.specs.Steps.{onWeight, weightFor}
 use Rattle.keying.proofs.masks.weigh.Statement.{statement}
 use Rattle.keying.proofs.masks.weigh.Tie as tie
 
@@ -13,19 +18,19 @@ returns : tie.Need-returns
 unfolding weightFor on ofBits
 returns c = rw (eq-eqb _ _ (c .if1 .taken))
 
-weight-requires : tie.Need-weight-requires
-weight-requires c κs = search needs
+mul-result : tie.Need-mul-result
+mul-result c = search needs
+
+shared-slice-read-result : tie.Need-shared-slice-read-result
+shared-slice-read-result c =
+    let long : length (c .before .before .args .entries .now) ≡ 256 = ap length (c .before .before .pre) ∙ table-length onWeight 0 256 in
+    omega arith
 
 returns-2 : tie.Need-returns-2
 unfolding weightFor on
-returns-2 c = c .weight .ensures ∙ rw (ne-eqb _ _ (c .before .before .if1 .left), eq-eqb _ _ (c .before .if2 .taken))
-
-weight-requires-2 : tie.Need-weight-requires-2
-weight-requires-2 c κs = search needs
-
-returns-3 : tie.Need-returns-3
-unfolding weightFor on
-returns-3 c = c .weight2 .ensures ∙ rw (ne-eqb _ _ (c .before .before .if1 .left), ne-eqb _ _ (c .before .if2 .left))
+returns-2 c =
+    let a = c .before .before .args in
+    rw (ne-eqb _ _ (c .before .if1 .left)) (ap (λ (l : List Float). getD l (a .alpha) nan) (c .before .before .pre) ∙ table-at onWeight 256 (a .alpha) nan (omega arith))
 
 pub weigh-spec : {M : Type 1} → statement M
-weigh-spec = tie.close (tie.spec returns weight-requires returns-2 weight-requires-2 returns-3)
+weigh-spec = tie.close (tie.spec returns mul-result shared-slice-read-result returns-2)

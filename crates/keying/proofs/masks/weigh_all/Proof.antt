@@ -1,4 +1,4 @@
--- `keying::masks::weights` meets its contract.
+-- `keying::masks::weigh_all` meets its contract.
 -- Assumes nothing.
 use mathlib.Core.Path.{_≡_, refl, sym, ap, _∙_}
 use Prim.Native.Nat.{ℕ, _-_, _≤_, _<_}
@@ -8,18 +8,18 @@ use lib.Ieee.{nan}
 use Rattle.plane.proofs.Plane.{filled, table-is}
 use Rattle.labels.specs.Labels.{isOn}
 use Rattle.outline.specs.Cut.{weightAt, weightsOf}
-use Rattle.keying.specs.Steps.{weightFor}
+use Rattle.keying.specs.Steps.{onWeight, weightFor}
 use borrow.Author.Needs.{needs}
 use native.Mathlib.Omega.{arith}
-use Rattle.keying.proofs.masks.weights.Statement.{statement}
-use Rattle.keying.proofs.masks.weights.Tie as tie
+use Rattle.keying.proofs.masks.weigh_all.Statement.{statement}
+use Rattle.keying.proofs.masks.weigh_all.Tie as tie
 
 abbrev Inv-loop : tie.InvT-loop
-Inv-loop mask alpha out₀ i₀ out i =
+Inv-loop entries mask alpha out₀ i₀ out i =
     (i ≤ length out₀) × (length out ≡ length out₀) × ((k : ℕ) → k < i → getD out k nan ≡ weightAt mask alpha k)
 
 abbrev μ-loop : tie.MeasureT-loop
-μ-loop mask alpha out₀ i₀ out i = length out₀ - i
+μ-loop entries mask alpha out₀ i₀ out i = length out₀ - i
 
 loop-holds : tie.Need-loop-holds Inv-loop μ-loop
 loop-holds c = (omega arith, refl, λ k l. absurd (not-suc-le-zero l))
@@ -46,10 +46,10 @@ loop-less : tie.Need-loop-less Inv-loop μ-loop
 loop-less c = omega arith
 
 loop-again : tie.Need-loop-again Inv-loop μ-loop
-unfolding weightAt weightFor isOn
+unfolding weightAt weightFor onWeight isOn
 loop-again c =
     let l = c .before .before .before .before .loop in
-    let a = c .before .before .before .before .before .before .before .before .args in
+    let a = c .before .before .before .before .before .before .before .before .before .args in
     let v = c .weigh .result in (
       omega arith,
       length-set (l .out) (l .i) v ∙ l .inv .1,
@@ -63,11 +63,11 @@ returns : tie.Need-returns Inv-loop μ-loop
 unfolding weightsOf
 returns c =
     let l = c .before .loop in
-    let a = c .before .before .before .before .before .args in
+    let a = c .before .before .before .before .before .before .args in
     table-is (weightAt (a .mask .now) (a .alpha .now)) (length (a .out .now)) (l .out) nan (l .inv .1) (λ k g. l .inv .2 k (omega arith))
 
-pub weights-spec : {M : Type 1} → statement M
-weights-spec =
+pub weigh-all-spec : {M : Type 1} → statement M
+weigh-all-spec =
     tie.close
     (tie.spec
     Inv-loop
