@@ -16,7 +16,7 @@ use Rattle.colour.specs.Colour.{differenceOf}
 use Rattle.colour.specs.Join.{joinsOf}
 use Rattle.outline.specs.Border.{colourAt}
 use Rattle.outline.specs.Growth.{isEdge, isShallow, isDeep, maskOf, bodyFrom}
-use Rattle.growth.specs.Window.{nearPixel}
+use Rattle.growth.specs.Window.{nearPixel, Made}
 
 -- the mask with on and off exchanged
 unfoldable pub complementOf : List ℕ → List ℕ
@@ -53,10 +53,11 @@ pub record Picture (colours : List Float) (h w : ℕ) : Type 0 where
   pub sides : Sides h w
   pub colours-long : length colours ≡ 3 * (h * w)
 
--- a picture, its deep plane, and whether that has an on-pixel
-pub record Searches (colours : List Float) (h w : ℕ) (deep : List ℕ) (some : Bool) : Type 0 where
+-- a picture, its deep plane, the plane of the nearest deep pixels where it is made, and whether there is a deep pixel
+pub record Searches (colours : List Float) (h w : ℕ) (deep near : List ℕ) (made some : Bool) : Type 0 where
   pub picture : Picture colours h w
   pub deep-long : length deep ≡ h * w
+  pub near-made : Made deep near made h w
   pub known : some ≡ someBelow (h * w) (isOn deep)
 
 -- for each pixel the index of a pixel

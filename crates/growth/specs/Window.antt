@@ -8,7 +8,10 @@ use mathlib.Core.List.{List}
 use lib.Dec.{leb, ltb}
 use lib.ListN.{length}
 use Rattle.plane.specs.Plane.{Sides, onAt}
+use Rattle.plane.specs.Search.{someBelow}
+use Rattle.labels.specs.Labels.{isOn}
 use Rattle.nearest.specs.Nearest.{nearest, away}
+use Rattle.nearest.specs.Indices.{indicesPlane}
 use Rattle.outline.specs.Growth.{bodyReach, indexOf, isReach}
 
 -- the index of the deep pixel nearest to (y, x) where it is near enough, else the number of pixels
@@ -58,3 +61,8 @@ pub record Searched (deep : List ℕ) (h w y x c far at : ℕ) : Type 0 where
   pub low : far ≤ bodyReach + 1
   pub least : (k l : ℕ) → k < h → l < c → onAt deep w k l ≡ true → far ≤ away y x k l
   pub found : ((far ≡ bodyReach + 1) × (at ≡ h * w)) ⊎ Chosen deep h w y x far at
+
+-- where the plane of the nearest deep pixels is made, it is that, and there is a deep pixel
+pub record Made (deep near : List ℕ) (made : Bool) (h w : ℕ) : Type 0 where
+  pub some-deep : made ≡ true → someBelow (h * w) (isOn deep) ≡ true
+  pub indices : made ≡ true → near ≡ indicesPlane deep h w

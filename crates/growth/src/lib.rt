@@ -1,15 +1,17 @@
 // Growth (the core of unmix_fringe): passes that move the background into the object's anti-aliased rim.
 ghost use mathlib.Core.Path.{_≡_};
 ghost use mathlib.Core.Bool.{cond, not, _&&_, _||_};
-ghost use Prim.Native.Nat.{ℕ, _+_, _*_, _-_, _<_, _≤_};
-ghost use lib.Dec.{eqb};
+ghost use Prim.Native.Nat.{ℕ, _+_, _*_, _-_, _<_, _≤_, _/_, _%_};
+ghost use lib.Dec.{eqb, leb};
 ghost use lib.ListN.{length};
-ghost use Rattle.plane.specs.Plane.{Sides, on, bit, table};
+ghost use Rattle.plane.specs.Plane.{mostSide, Sides, apart, on, bit, table};
 ghost use Rattle.plane.specs.Search.{someBelow};
 ghost use Rattle.labels.specs.Labels.{isOn};
+ghost use Rattle.nearest.specs.Nearest.{away};
+ghost use Rattle.nearest.specs.Indices.{IndexRoom};
 ghost use Rattle.outline.specs.Border.{colourAt};
-ghost use Rattle.outline.specs.Growth.{maskOf, isJoining, passOf, growthOf};
-ghost use Rattle.growth.specs.Window.{nearPixel, upOn, downOn, Inside, Gap, Searched};
+ghost use Rattle.outline.specs.Growth.{bodyReach, maskOf, isJoining, passOf, growthOf};
+ghost use Rattle.growth.specs.Window.{nearPixel, upOn, downOn, Inside, Gap, Searched, Made};
 ghost use Rattle.growth.specs.Marks.{complementOf, joinsWith, nearMark, waits, searchMark, lastMark, decidedMark, Picture, Searches, Indexed, Decides, Planes, Laid, Room};
 
 // The mark of a pixel that waits for its nearest shallow pixel.
@@ -220,24 +222,64 @@ fn joins_with(colours: &[f64], reference: colour::Rgb, b: usize, i: usize) -> bo
     colour::joins(full, mixed)
 }
 
-// The mark of a marked pixel after the search of its window; `some` says whether there is a deep pixel at all.
+// How far apart two rows or two columns are.
+fn apart(a: usize, b: usize) -> usize
+    ensures { λ r. ⌜ r ≡ apart a b ⌝ }
+{
+    if a < b { b - a } else { a - b }
+}
+
+// Pixel b where it is near enough to (y, x), else h * w.
+fn reached(h: usize, w: usize, y: usize, x: usize, b: usize) -> usize
+    requires { ⌜ Sides h w ⌝ }
+    requires { ⌜ (y < h) × (x < w) × (b < h * w) ⌝ }
+    ensures { λ r. ⌜ r ≡ cond (leb (away y x (b / w) (b % w)) bodyReach) b (h * w) ⌝ }
+{
+    let dy = apart(y, b / w);
+    let dx = apart(x, b % w);
+    if dy * dy + dx * dx < TOO_FAR {
+        return b;
+    }
+    h * w
+}
+
+// The deep pixel nearest to pixel i where it is near enough, else h * w: from the plane of the nearest deep pixels where that is made, else by the search of
+// the window.
+fn near_pixel(deep: &[u8], near: &[u32], made: bool, h: usize, w: usize, i: usize) -> usize
+    requires { ⌜ Sides h w ⌝ }
+    requires { ⌜ length (now deep) ≡ h * w ⌝ }
+    requires { ⌜ Made (now deep) (now near) made h w ⌝ }
+    requires { ⌜ i < h * w ⌝ }
+    ensures { λ r. ⌜ r ≡ nearPixel (now (deep .entry)) h w (i / w) (i % w) ⌝ }
+{
+    let y = i / w;
+    let x = i % w;
+    if made {
+        return reached(h, w, y, x, wide(near[i]));
+    }
+    window(deep, h, w, y, x)
+}
+
+// The mark of a marked pixel after the search for its deep pixel; `some` says whether there is one at all.
 fn near_mark(
     colours: &[f64],
     h: usize,
     w: usize,
     reference: colour::Rgb,
     deep: &[u8],
+    near: &[u32],
+    made: bool,
     some: bool,
     i: usize,
 ) -> u8
-    requires { ⌜ Searches (now colours) h w (now deep) some ⌝ }
+    requires { ⌜ Searches (now colours) h w (now deep) (now near) made some ⌝ }
     requires { ⌜ i < h * w ⌝ }
     ensures { λ r. ⌜ r ≡ nearMark (now (colours .entry)) reference (now (deep .entry)) h w i ⌝ }
 {
     if !some {
         return WAITS;
     }
-    let b = window(deep, h, w, i / w, i % w);
+    let b = near_pixel(deep, near, made, h, w, i);
     if b < deep.len() {
         return byte(joins_with(colours, reference, b, i));
     }
@@ -251,31 +293,35 @@ fn search_mark(
     w: usize,
     reference: colour::Rgb,
     deep: &[u8],
+    near: &[u32],
+    made: bool,
     some: bool,
     mark: u8,
     i: usize,
 ) -> u8
-    requires { ⌜ Searches (now colours) h w (now deep) some ⌝ }
+    requires { ⌜ Searches (now colours) h w (now deep) (now near) made some ⌝ }
     requires { ⌜ i < h * w ⌝ }
     ensures { λ r. ⌜ r ≡ cond (on mark) (nearMark (now (colours .entry)) reference (now (deep .entry)) h w i) 0 ⌝ }
 {
     if mark == 0 {
         return 0;
     }
-    near_mark(colours, h, w, reference, deep, some, i)
+    near_mark(colours, h, w, reference, deep, near, made, some, i)
 }
 
-// The marks after the search of the windows; whether a pixel waits.
+// The marks after the search for deep pixels; whether a pixel waits.
 fn search(
     colours: &[f64],
     h: usize,
     w: usize,
     reference: colour::Rgb,
     deep: &[u8],
+    near: &[u32],
+    made: bool,
     some: bool,
     marks: &mut [u8],
 ) -> bool
-    requires { ⌜ Searches (now colours) h w (now deep) some ⌝ }
+    requires { ⌜ Searches (now colours) h w (now deep) (now near) made some ⌝ }
     requires { ⌜ length (now marks) ≡ h * w ⌝ }
     ensures { λ _. ⌜ now (marks .exit) ≡ table (searchMark (now (colours .entry)) reference (now (deep .entry)) h w (now (marks .entry))) 0 (h * w) ⌝ }
     ensures { λ r. ⌜ r ≡ someBelow (h * w) (λ (i : ℕ). eqb (searchMark (now (colours .entry)) reference (now (deep .entry)) h w (now (marks .entry)) i) waits) ⌝ }
@@ -283,7 +329,18 @@ fn search(
     let mut found = false;
     let mut i = 0usize;
     while i < marks.len() {
-        let m = search_mark(colours, h, w, reference, deep, some, marks[i], i);
+        let m = search_mark(
+            colours,
+            h,
+            w,
+            reference,
+            deep,
+            near,
+            made,
+            some,
+            marks[i],
+            i,
+        );
         marks[i] = m;
         found = found | (m == WAITS);
         i += 1;
@@ -343,6 +400,38 @@ fn tidy(back: &mut [u8])
     }
 }
 
+// 1 for a mark, 0 for none.
+fn one(mark: u8) -> usize
+    ensures { λ r. ⌜ r ≤ 1 ⌝ }
+{
+    if mark == 0 { 0 } else { 1 }
+}
+
+// Whether more than one pixel in 32 is marked, so that one transform costs less than the windows of all.
+fn many(marks: &[u8]) -> bool {
+    let mut n = 0usize;
+    let mut i = 0usize;
+    while i < marks.len() {
+        n += one(marks[i]);
+        i += 1;
+    }
+    marks.len() / 32 < n
+}
+
+// The plane of the nearest deep pixels, where it is worth it; whether it was made.
+fn make_near(deep: &[u8], h: usize, w: usize, some: bool, marks: &[u8], near: &mut [u32]) -> bool
+    requires { ⌜ IndexRoom h w (now deep) (now near) ⌝ }
+    requires { ⌜ some ≡ someBelow (h * w) (isOn (now deep)) ⌝ }
+    ensures { λ r. ⌜ Made (now (deep .entry)) (now (near .exit)) r h w ⌝ }
+{
+    let made = some & many(marks);
+    if made {
+        nearest::nearest_indices(deep, h, w, near);
+        return true;
+    }
+    false
+}
+
 // The marks of the pixels that join, from the edge pixels.
 fn decide(
     colours: &[f64],
@@ -358,7 +447,8 @@ fn decide(
     ensures { λ _. ⌜ now (marks .exit) ≡ table (decidedMark (now (colours .entry)) reference (now (deep .entry)) (now (shallow .entry)) h w (now (marks .entry))) 0 (h * w) ⌝ }
 {
     let some = any(deep);
-    let waiting = search(colours, h, w, reference, deep, some, marks);
+    let made = make_near(deep, h, w, some, marks, near);
+    let waiting = search(colours, h, w, reference, deep, near, made, some, marks);
     if !waiting {
         return;
     }

@@ -6,7 +6,6 @@ use Prim.Native.Nat.{ℕ, _/_, _%_}
 use native.Mathlib.Omega.{arith}
 use borrow.Author.Tests.{not-true}
 use Rattle.plane.specs.Plane.{bit}
-use Rattle.plane.proofs.Plane.{row-of, column-of}
 use Rattle.growth.specs.Marks.{joinsWith}
 use Rattle.growth.proofs.Marks.{near-empty, near-waits, near-decides}
 use borrow.Author.Needs.{needs}
@@ -15,26 +14,15 @@ use Rattle.growth.proofs.near_mark.Tie as tie
 
 returns : tie.Need-returns
 returns c =
-    let o = c .before .before .before in
+    let o = c .before .before .before .before in
     let a = o .args in
     let s = o .pre .0 in
     let none : a .some ≡ false = not-true (a .some) (c .if1 .taken) in
     let e = near-empty (a .deep .now) (a .h) (a .w) (a .i / a .w) (a .i % a .w) (sym (s .known) ∙ none) in
     sym (near-waits (a .colours .now) (a .reference) (a .deep .now) (a .h) (a .w) (a .i) (omega arith))
 
-div-window : tie.Need-div-window
-div-window c = search needs
-
-rem-window : tie.Need-rem-window
-rem-window c = search needs
-
-window-requires : tie.Need-window-requires
-window-requires c κs =
-    let o = c .before .before .before in
-    let a = o .args in
-    let s = o .pre .0 in
-    let l = s .picture .sides in
-    record { sides = l; long = s .deep-long; row = row-of (a .i) (a .h) (a .w) (l .some-columns) (o .pre .1); column = column-of (a .i) (a .w) (l .some-columns) }
+near-pixel-requires : tie.Need-near-pixel-requires
+near-pixel-requires c κs = search needs
 
 joins-with-requires : tie.Need-joins-with-requires
 joins-with-requires c κs = search needs
@@ -44,9 +32,9 @@ byte-requires c κs = search needs
 
 returns-2 : tie.Need-returns-2
 returns-2 c =
-    let o = c .before .before .before .before .before .before .before in
+    let o = c .before .before .before .before .before .before .before .before in
     let a = o .args in
-    let e = c .before .before .before .window .ensures in
+    let e = c .before .before .before .near-pixel .ensures in
     let l = c .before .before .if2 .taken in
     c .byte .ensures
     ∙ ap bit (c .before .joins-with .ensures ∙ ap (λ (b : ℕ). joinsWith (a .colours .now) (a .reference) b (a .i)) e)
@@ -54,9 +42,9 @@ returns-2 c =
 
 returns-3 : tie.Need-returns-3
 returns-3 c =
-    let o = c .before .before .before .before .before in
+    let o = c .before .before .before .before .before .before in
     let a = o .args in
-    let e = c .before .window .ensures in
+    let e = c .before .near-pixel .ensures in
     let l = c .if2 .left in
     sym (near-waits (a .colours .now) (a .reference) (a .deep .now) (a .h) (a .w) (a .i) (omega (arith, o .pre .0 .deep-long)))
 
@@ -65,9 +53,7 @@ near-mark-spec =
     tie.close
     (tie.spec
     returns
-    div-window
-    rem-window
-    window-requires
+    near-pixel-requires
     joins-with-requires
     byte-requires
     returns-2

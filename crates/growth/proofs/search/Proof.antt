@@ -17,7 +17,7 @@ use Rattle.growth.proofs.search.Statement.{statement}
 use Rattle.growth.proofs.search.Tie as tie
 
 abbrev Inv-loop : tie.InvT-loop
-Inv-loop colours h w reference deep some marks₀ found₀ i₀ marks found i =
+Inv-loop colours h w reference deep near made some marks₀ found₀ i₀ marks found i =
     (i ≤ h * w)
     × (length marks ≡ h * w)
     × ((k : ℕ) → k < i → getD marks k 0 ≡ searchMark colours reference deep h w marks₀ k)
@@ -25,17 +25,17 @@ Inv-loop colours h w reference deep some marks₀ found₀ i₀ marks found i =
     × (found ≡ someBelow i (λ (k : ℕ). eqb (searchMark colours reference deep h w marks₀ k) waits))
 
 abbrev μ-loop : tie.MeasureT-loop
-μ-loop colours h w reference deep some marks₀ found₀ i₀ marks found i = h * w - i
+μ-loop colours h w reference deep near made some marks₀ found₀ i₀ marks found i = h * w - i
 
 loop-holds : tie.Need-loop-holds Inv-loop μ-loop
 unfolding someBelow
-loop-holds c = (omega arith, c .before .before .before .pre .1, (λ k h. absurd (omega arith)), (λ k h. refl), refl)
+loop-holds c = (omega arith, c .before .before .before .before .pre .1, (λ k h. absurd (omega arith)), (λ k h. refl), refl)
 
 slice-read-search-mark : tie.Need-slice-read-search-mark Inv-loop μ-loop
 slice-read-search-mark c = omega arith
 
 search-mark-requires : tie.Need-search-mark-requires Inv-loop μ-loop
-search-mark-requires c κs = (c .before .before .before .before .before .before .pre .0, omega arith)
+search-mark-requires c κs = (c .before .before .before .before .before .before .before .pre .0, omega arith)
 
 slice-write-marks : tie.Need-slice-write-marks Inv-loop μ-loop
 slice-write-marks c = omega arith
@@ -50,7 +50,7 @@ loop-again : tie.Need-loop-again Inv-loop μ-loop
 unfolding searchMark isOn
 loop-again c =
     let l = c .before .before .before .loop in
-    let a = c .before .before .before .before .before .before .before .args in
+    let a = c .before .before .before .before .before .before .before .before .args in
     let f = searchMark (a .colours .now) (a .reference) (a .deep .now) (a .h) (a .w) (a .marks .now) in
     let v = c .search-mark .result in
     let e : v ≡ f (l .i) = c .search-mark .ensures ∙ ap (λ (m : ℕ). cond (on m) (nearMark (a .colours .now) (a .reference) (a .deep .now) (a .h) (a .w) (l .i)) 0) (l .inv .3 (l .i) (omega arith)) in (
@@ -62,12 +62,12 @@ loop-again c =
     )
 
 same-length : tie.Need-same-length Inv-loop μ-loop
-same-length c = c .before .loop .inv .1 ∙ sym (c .before .before .before .before .before .pre .1)
+same-length c = c .before .loop .inv .1 ∙ sym (c .before .before .before .before .before .before .pre .1)
 
 returns : tie.Need-returns Inv-loop μ-loop
 returns c =
     let l = c .before .loop in
-    let a = c .before .before .before .before .before .args in
+    let a = c .before .before .before .before .before .before .args in
     let f = searchMark (a .colours .now) (a .reference) (a .deep .now) (a .h) (a .w) (a .marks .now) in
     let e : l .i ≡ a .h * a .w = omega arith in
     (table-is f (a .h * a .w) (l .marks) 0 (l .inv .1) (λ k g. l .inv .2 k (omega arith)), l .inv .4 ∙ ap (λ (n : ℕ). someBelow n (λ (k : ℕ). eqb (f k) waits)) e)
