@@ -108,8 +108,8 @@ module _ {plane : List ℕ} {h w : ℕ} (g : Closed plane h w) where
   pub left-on : (m : ℕ) → m ≡ h - 2 → OnPlane plane w w m
   left-on m e = rw e (line-on w w (h - 2) (omega (arith, g .sides .tall)) (left-in (g .sides)))
 
-  pub right-on : (m : ℕ) → m ≡ h - 2 → OnPlane plane (w + (w - 1)) w m
-  right-on m e = rw e (line-on (w + (w - 1)) w (h - 2) (omega (arith, g .sides .tall)) (right-in (g .sides)))
+  pub right-on : (m : ℕ) → m ≤ h - 2 → OnPlane plane (w + (w - 1)) w m
+  right-on m l = line-on (w + (w - 1)) w m (omega (arith, g .sides .tall)) (λ k i. right-in (g .sides) k (omega arith))
 
   -- the four counts
   pub counts-are : (m a b c d : ℕ) → m ≡ h - 2 → a ≡ countOn plane (linePixels 0 1 w) → b ≡ countOn plane (linePixels ((h - 1) * w) 1 w) → c ≡ countOn plane (linePixels w w m)

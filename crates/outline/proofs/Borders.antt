@@ -63,9 +63,9 @@ module _ (h w : ℕ) (tall : 0 < h) (wide : 0 < w) where
   unfolding rowPixels
   row-inside y i a e = let z = listed-table (λ (x : ℕ). y * w + x) i 0 w e in rw (z .3) (pixel-in y (z .0) h w a (omega (arith, z .2)))
 
-  column-inside : (x i : ℕ) → x < w → listed i (innerColumn h w x) ≡ true → i < h * w
+  column-inside : (k x i : ℕ) → k ≤ h → x < w → listed i (innerColumn k w x) ≡ true → i < h * w
   unfolding innerColumn
-  column-inside x i a e = let z = listed-table (λ (y : ℕ). y * w + x) i 1 (h - 2) e in rw (z .3) (pixel-in (z .0) x h w (omega (arith, z .1, z .2)) a)
+  column-inside k x i l a e = let z = listed-table (λ (y : ℕ). y * w + x) i 1 (k - 2) e in rw (z .3) (pixel-in (z .0) x h w (omega (arith, z .1, z .2)) a)
 
   pub border-inside : (i : ℕ) → onBorder h w i ≡ true → i < h * w
   unfolding onBorder borderList
@@ -75,10 +75,10 @@ module _ (h w : ℕ) (tall : 0 < h) (wide : 0 < w) where
       ⊎-elim {C = i < h * w}
       (λ (b : listed i (rowPixels w 0 ++ rowPixels w (h - 1)) ≡ true).
       ⊎-elim {C = i < h * w} (row-inside 0 i tall) (row-inside (h - 1) i (omega arith)) (listed-append i (rowPixels w 0) (rowPixels w (h - 1)) b))
-      (column-inside 0 i wide)
+      (column-inside _ 0 i (omega arith) wide)
       (listed-append i (rowPixels w 0 ++ rowPixels w (h - 1)) (innerColumn h w 0) a))
-      (column-inside (w - 1) i (omega arith))
-      (listed-append i (rowPixels w 0 ++ rowPixels w (h - 1) ++ innerColumn h w 0) (innerColumn h w (w - 1)) e)
+      (column-inside _ (w - 1) i (omega arith) (omega arith))
+      (listed-append i (rowPixels w 0 ++ rowPixels w (h - 1) ++ innerColumn h w 0) _ e)
 
 -- ---- masks that are alike on a list have as many entries of it on
 

@@ -120,6 +120,8 @@ cases =
     ∷ same (squaresPlane (1 ∷ 0 ∷ 0 ∷ 0 ∷ 0 ∷ []) 1 5 0) (replicate 5 1)
     ∷ same (squaresPlane (replicate 5 0) 1 5 1) (replicate 5 0)
     ∷ same (squaresPlane (replicate 5 0) 1 5 0) (replicate 5 0)
+    -- The border list of 3 by 1: rows 0, 2, 1, 1.
+    ∷ same (borderList 3 1) (0 ∷ 2 ∷ 1 ∷ 1 ∷ [])
     -- Ground, 1 by 1: not found.
     ∷ not (found (white ∷ []) 1 1)
     ∷ cutTo (white ∷ []) 1 1 0 false (0 ∷ 1 ∷ 0 ∷ 1 ∷ [])

@@ -41,7 +41,7 @@ add-count : tie.Need-add-count
 add-count c = search needs
 
 count-requires-4 : tie.Need-count-requires-4
-count-requires-4 c κs = right-on (c .before .before .before .before .before .pre) _ (c .before .before .before .between .ensures)
+count-requires-4 c κs = right-on (c .before .before .before .before .before .pre) _ (omega (arith, c .before .before .before .between .ensures))
 
 add-result : tie.Need-add-result
 add-result c = search needs
