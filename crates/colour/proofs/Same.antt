@@ -39,7 +39,7 @@ pub ok-alike : (x y : Float) → Alike x y → colourOk x ≡ colourOk y
 unfolding colourOk
 ok-alike x y p = rw (le-alike zero64 zero64 x y refl p, le-alike x y one64 one64 p refl)
 
-plus0-finite : (x : Float) → finite x ≡ finite (plus0 x)
+pub plus0-finite : (x : Float) → finite x ≡ finite (plus0 x)
 unfolding plus0
 plus0-finite nan = refl
 plus0-finite (inf s) = refl

@@ -22,14 +22,6 @@ unfolding bit
 bit-most true = omega arith
 bit-most false = omega arith
 
-pub on-bit : (b : Bool) → on (bit b) ≡ b
-unfolding on bit
-on-bit true = refl
-on-bit false = refl
-
-pub two : (s t : Bool) → s ≡ true → t ≡ true → s && t ≡ true
-two s t a b = rw (a, b)
-
 pub three : (s t u : Bool) → s ≡ true → t ≡ true → u ≡ true → s && t && u ≡ true
 three s t u a b c = rw (a, b, c)
 

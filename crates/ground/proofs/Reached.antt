@@ -11,7 +11,7 @@ use lib.ListN.{length, getD}
 use borrow.Author.Tests.{eqb-true, eqb-false, eq-eqb, ne-eqb}
 use Rattle.plane.specs.Plane.{on, bit, table}
 use Rattle.plane.specs.Search.{someBelow}
-use Rattle.plane.proofs.Search.{which, either, not-both, some-found, some-is}
+use Rattle.plane.proofs.Search.{which, either, not-both, some-found, some-is, or-true, or-left, or-right}
 use Rattle.plane.proofs.Refusal.{and-true}
 use Rattle.labels.specs.Labels.{isOn, beside, same, firstPixel}
 use Rattle.labels.proofs.Joined.{on-inside, start-on, end-on, spreads}
@@ -36,17 +36,6 @@ on-number l k t =
     (λ (p : getD l k 0 ≤ 0). not-both (not (eqb (getD l k 0) 0)) t (rw (eq-eqb (getD l k 0) 0 (omega arith))))
     (which 0 (getD l k 0))
 
-or-cases : (s t : Bool) → s || t ≡ true → (s ≡ true) ⊎ (t ≡ true)
-or-cases true t e = inl refl
-or-cases false t e = inr e
-
-or-left : (s t : Bool) → s ≡ true → s || t ≡ true
-or-left s t e = rw e
-
-or-right : (s t : Bool) → t ≡ true → s || t ≡ true
-or-right true t e = refl
-or-right false t e = e
-
 module _ (mask : List ℕ) (h w : ℕ) where
   -- pixels of a list are visited
   pub record Seeded (l : List ℕ) (s : State) : Type 0 where
@@ -69,7 +58,7 @@ module _ (mask : List ℕ) (h w : ℕ) where
             let z = eqb-true k q t in
             g .stays k (rw z (v .done refl (rw z at o)))))
             (λ (t : listed k l ≡ true). g .done k t o)
-            (or-cases (eqb k q) (listed k l) e);
+            (or-true (eqb k q) (listed k l) e);
       }
 
   module _ (g : Closed mask h w) (stack : List ℕ) (tall : h * w ≤ length stack) where

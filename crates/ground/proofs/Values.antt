@@ -18,7 +18,7 @@ use Rattle.median.specs.Median.{Channel}
 use Rattle.median.proofs.Places.{Held}
 use Rattle.outline.specs.Border.{borderList, channelAt}
 use Rattle.ground.specs.Lines.{linePixels, Gathers, Picture}
-use Rattle.ground.proofs.Bits.{two}
+use Rattle.plane.proofs.Search.{and-is}
 use Rattle.ground.proofs.Tables.{suc-pos, suc-less}
 use Rattle.ground.proofs.Border.{border-is, border-length, first-in, last-in, left-in, right-in}
 
@@ -52,14 +52,14 @@ unfolding coloursOk
 ok-append [] t a b = b
 ok-append (x ∷ s) t a b =
     let z = and-true (colourOk x) (coloursOk s) a in
-    two (colourOk x) (coloursOk (s ++ t)) (z .0) (ok-append s t (z .1) b)
+    and-is (colourOk x) (coloursOk (s ++ t)) (z .0) (ok-append s t (z .1) b)
 
 table-ok : (g : ℕ → Float) (f : ℕ → ℕ) (k n : ℕ) → ((i : ℕ) → i < n → colourOk (g (f (k + i))) ≡ true) → coloursOk (map g (table f k n)) ≡ true
 unfolding table coloursOk
 table-ok g f k zero h = refl
 table-ok g f k (suc n) h =
     let z : colourOk (g (f k)) ≡ true = rw (add-zero k) at (h 0 (suc-pos n)) in
-    two (colourOk (g (f k))) (coloursOk (map g (table f (suc k) n))) z
+    and-is (colourOk (g (f k))) (coloursOk (map g (table f (suc k) n))) z
     (table-ok g f (suc k) n (λ i l. (let e : suc k + i ≡ k + suc i = omega arith in rw e (h (suc i) (suc-less i n l)))))
 
 module _ {colours : List Float} {h w c : ℕ} (p : Picture colours h w) (channel : c < 3) where

@@ -7,32 +7,18 @@ use mathlib.Core.Logic.{⊎-elim}
 use Prim.Native.Nat.{ℕ, _*_, _<_, _/_, _%_}
 use native.Mathlib.Omega.{arith}
 use lib.ListN.{length, getD}
+use Rattle.outline.proofs.Masks.{mask-same, mask-length, mask-on}
 use Rattle.plane.specs.Plane.{on, bit, onAt, apart, table}
 use Rattle.plane.specs.Search.{someBelow}
 use Rattle.plane.proofs.Search.{either, some-same}
-use Rattle.plane.proofs.Plane.{row-of, column-of, index-of, table-length, table-at, plane-index}
+use Rattle.plane.proofs.Plane.{row-of, column-of, index-of, table-length, table-at, plane-index, table-same, on-bit}
 use Rattle.labels.specs.Labels.{isOn}
 use Rattle.squares.specs.Squares.{reach, inSquare, squaresPlane}
-use Rattle.squares.proofs.Laws.{reach-some, square-is, on-bit, squares-length}
-use Rattle.nearest.proofs.InPlace.{table-same}
+use Rattle.squares.proofs.Laws.{reach-some, square-is, squares-length}
 use Rattle.outline.specs.Growth.{nearGround, isEdge, isShallow, isDeep, maskOf}
 use Rattle.growth.specs.Marks.{complementOf, edgeMark}
 
 -- ---- masks by a test
-
--- equal tests give equal masks
-pub mask-same : (n : ℕ) (p q : ℕ → Bool) → ((i : ℕ) → i < n → p i ≡ q i) → maskOf n p ≡ maskOf n q
-unfolding maskOf
-mask-same n p q e = table-same (λ (i : ℕ). bit (p i)) (λ (i : ℕ). bit (q i)) n 0 (λ k l. ap bit (e k l))
-
-pub mask-length : (n : ℕ) (p : ℕ → Bool) → length (maskOf n p) ≡ n
-unfolding maskOf
-mask-length n p = table-length (λ (i : ℕ). bit (p i)) 0 n
-
--- a pixel of it is on where the test holds
-pub mask-on : (n : ℕ) (p : ℕ → Bool) (i : ℕ) → i < n → isOn (maskOf n p) i ≡ p i
-unfolding maskOf isOn
-mask-on n p i l = ap on (table-at (λ (k : ℕ). bit (p k)) n i 0 l) ∙ on-bit (p i)
 
 -- ---- planes by dilation
 

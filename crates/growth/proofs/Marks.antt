@@ -11,22 +11,20 @@ use lib.Dec.{eqb}
 use lib.Ieee.{Float}
 use lib.ListN.{length, getD}
 use borrow.Author.Tests.{lt-ltb, le-ltb}
+use Rattle.outline.proofs.Masks.{mask-same}
 use Rattle.plane.specs.Plane.{on, bit, onAt, table}
 use Rattle.plane.specs.Search.{someBelow}
 use Rattle.plane.proofs.Search.{either, none-found, some-same}
-use Rattle.plane.proofs.Plane.{pixel-in, table-length, table-at, plane-length, plane-index}
+use Rattle.plane.proofs.Plane.{pixel-in, table-length, table-at, plane-length, plane-index, table-same, on-bit}
 use Rattle.labels.specs.Labels.{isOn}
 use Rattle.nearest.specs.Nearest.{nearest}
 use Rattle.nearest.proofs.Laws.{nearest-some, nothing-on}
 use Rattle.colour.specs.declared.Rgb.{Rgb}
 use Rattle.nearest.specs.Indices.{placeAt, indicesPlane}
-use Rattle.nearest.proofs.InPlace.{table-same}
 use Rattle.outline.specs.Growth.{isEdge, isShallow, isDeep, maskOf, indexOf, isReach, bodyFrom, joinsFrom, isJoining, passOf}
 use Rattle.growth.specs.Window.{nearPixel}
 use Rattle.growth.specs.Marks.{joinsWith, waits, edgeMark, nearMark, searchMark, lastMark, decidedMark}
-use Rattle.squares.proofs.Laws.{on-bit}
 use Rattle.growth.proofs.Searching.{near-none, near-some}
-use Rattle.growth.proofs.Laying.{mask-same}
 
 -- without a deep pixel none is near enough
 pub near-empty : (deep : List ℕ) (h w y x : ℕ) → someBelow (h * w) (isOn deep) ≡ false → nearPixel deep h w y x ≡ h * w

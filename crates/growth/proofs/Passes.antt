@@ -6,16 +6,12 @@ use mathlib.Core.List.{List}
 use Prim.Native.Nat.{ℕ, zero, suc, _*_, _-_, _<_}
 use native.Mathlib.Omega.{arith}
 use lib.Ieee.{Float}
+use Rattle.outline.proofs.Masks.{mask-same, mask-on}
 use Rattle.plane.specs.Search.{someBelow}
-use Rattle.plane.proofs.Search.{none-found}
+use Rattle.plane.proofs.Search.{none-found, or-no}
 use Rattle.labels.specs.Labels.{isOn}
 use Rattle.colour.specs.declared.Rgb.{Rgb}
 use Rattle.outline.specs.Growth.{maskOf, isJoining, passOf, growthOf}
-use Rattle.growth.proofs.Laying.{mask-same, mask-on}
-
-or-no : (t : Bool) → t || false ≡ t
-or-no true = refl
-or-no false = refl
 
 -- fewer are left after a pass
 pub rest-less : (t : Bool) (n : ℕ) → 0 < n → cond t (n - 1) 0 < n

@@ -12,7 +12,7 @@ use borrow.Author.Tests.{leb-true, le-leb, lt-leb, ltb-true, lt-ltb}
 use Rattle.plane.specs.Plane.{onAt, apart}
 use Rattle.plane.specs.Search.{someBelow}
 use Rattle.plane.proofs.Plane.{row-of, column-of, index-of}
-use Rattle.plane.proofs.Search.{which, not-both, some-found}
+use Rattle.plane.proofs.Search.{which, not-both, some-found, or-left, or-right}
 use Rattle.plane.proofs.Refusal.{and-true}
 use Rattle.line.proofs.Squares.{square-le, square-lt}
 use Rattle.nearest.specs.Nearest.{nearest, away, distanceTo}
@@ -21,13 +21,6 @@ use Rattle.labels.specs.Labels.{isOn}
 use Rattle.labels.proofs.Steps.{row-is, column-is}
 use Rattle.outline.specs.Growth.{bodyReach, indexOf, isReach}
 use Rattle.growth.specs.Window.{nearPixel, upOn, downOn, levelOn, Gap, Chosen, Searched}
-
-or-left : (s t : Bool) → s ≡ true → s || t ≡ true
-or-left s t e = rw e
-
-or-right : (s t : Bool) → t ≡ true → s || t ≡ true
-or-right true t e = refl
-or-right false t e = e
 
 module _ (deep : List ℕ) (h w y i : ℕ) where
   up-is : (k : ℕ) → k ≤ y → onAt deep w k i ≡ true → upOn deep w y i (apart y k) ≡ true

@@ -12,7 +12,7 @@ use lib.ListN.{length, getD, take, drop, length-take, length-drop}
 use Rattle.plane.specs.Plane.{on, bit, onAt, table}
 use Rattle.plane.specs.Search.{someBelow}
 use Rattle.plane.proofs.Search.{which, either, some-is, none-is, some-same}
-use Rattle.plane.proofs.Plane.{row-in, table-length, table-at, part-at}
+use Rattle.plane.proofs.Plane.{row-in, table-length, table-at, part-at, on-bit}
 use Rattle.labels.specs.Labels.{isOn}
 use Rattle.outline.specs.Cut.{firstBelow, lastBelow, rowHas, columnHas}
 use Rattle.keying.specs.Survey.{markedLine}
@@ -70,12 +70,6 @@ last-most p (suc n) =
     ⊎-elim {C = cond (p n) n (lastBelow n p) ≤ suc n} (λ (a : p n ≡ true). rw a (omega arith)) (λ (a : p n ≡ false). rw a (omega arith)) (either (p n))
 
 -- ---- lines of bytes
-
--- the byte written for a test is on where the test holds
-pub on-bit : (t : Bool) → on (bit t) ≡ t
-unfolding on bit
-on-bit true = refl
-on-bit false = refl
 
 -- the place of a table of such bytes
 pub on-table : (p : ℕ → Bool) (n i : ℕ) → i < n → isOn (table (λ (k : ℕ). bit (p k)) 0 n) i ≡ p i

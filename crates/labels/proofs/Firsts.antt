@@ -12,7 +12,7 @@ use lib.ListN.{length, getD, length-map}
 use borrow.Author.Tests.{leb-true, leb-false, eqb-true, eq-eqb}
 use Rattle.plane.specs.Plane.{table}
 use Rattle.plane.proofs.Plane.{table-at, table-length}
-use Rattle.plane.proofs.Search.{which, either}
+use Rattle.plane.proofs.Search.{which, either, or-right}
 use Rattle.plane.proofs.Refusal.{and-true}
 use Rattle.labels.specs.Labels.{isOn, beside, Joined, same, onward, lesser, renamed, merge, joinTwo, joinWith, joinUpto, firstPixel, isFirst}
 use Rattle.labels.proofs.Joined.{on-inside, beside-back, start-on, end-on, joined-trans, joined-sym}
@@ -34,10 +34,6 @@ merge-long a b numbers = length-map numbers (renamed a b)
 pub renamed-left : (a b : ℕ) → renamed a b a ≡ lesser a b
 unfolding renamed
 renamed-left a b = simp (eq-eqb a a refl)
-
-or-right : (s t : Bool) → t ≡ true → s || t ≡ true
-or-right true t e = refl
-or-right false t e = e
 
 pub renamed-right : (a b : ℕ) → renamed a b b ≡ lesser a b
 unfolding renamed

@@ -8,6 +8,7 @@ use Prim.Native.Nat.{ℕ, _/_, _%_, _≤_, _<_}
 use native.Mathlib.Omega.{arith}
 use lib.Dec.{eqb}
 use lib.ListN.{length, getD, List·getD-eq-default}
+use Rattle.plane.proofs.Plane.{apart-back}
 use Rattle.plane.specs.Plane.{on, apart}
 use Rattle.plane.proofs.Search.{which, not-both}
 use Rattle.labels.specs.Labels.{isOn, beside, Joined, same, onward}
@@ -20,10 +21,6 @@ on-inside mask i e =
     (λ (l : i < length mask). l)
     (λ (l : length mask ≤ i). not-both (not (eqb (getD mask i 0) 0)) e (rw (List·getD-eq-default mask 0 l)))
     (which i (length mask))
-
-apart-back : (a b : ℕ) → apart a b ≡ apart b a
-unfolding apart
-apart-back a b = omega arith
 
 -- a step may be taken back
 pub beside-back : (w i j : ℕ) → beside w i j ≡ beside w j i

@@ -16,10 +16,6 @@ use Rattle.plane.proofs.Plane.{row-in, table-length, table-at, table-is}
 pub untouched : {A : Type 0} (d : A) (old l : List A) (i : ℕ) (v : A) → ((k : ℕ) → i ≤ k → getD l k d ≡ getD old k d) → (k : ℕ) → i + 1 ≤ k → getD (set l i v) k d ≡ getD old k d
 untouched d old l i v h k g = getD-set-other l i k v d (λ e. omega arith) ∙ h k (omega arith)
 
--- tables of equal functions are equal
-pub table-same : {A : Type 0} (f g : ℕ → A) (n : ℕ) (d : A) → ((k : ℕ) → k < n → f k ≡ g k) → table f 0 n ≡ table g 0 n
-table-same f g n d h = table-is g n (table f 0 n) d (table-length f 0 n) (λ k l. table-at f n k d l ∙ h k l)
-
 -- the front of a line that holds one number throughout
 pub cut-long : (w n v : ℕ) → w ≤ n → length (take (w - 0) (replicate n v)) ≡ w
 cut-long w n v l = simp (length-take, length-replicate) (omega arith)

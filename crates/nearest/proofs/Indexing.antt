@@ -11,13 +11,12 @@ use lib.ListN.{length, getD, take, drop}
 use borrow.Author.Tests.{lt-ltb, le-ltb}
 use Rattle.plane.specs.Plane.{table, planeOf}
 use Rattle.plane.proofs.Search.{which}
-use Rattle.plane.proofs.Plane.{table-length, table-at, plane-at, part-at}
+use Rattle.plane.proofs.Plane.{table-length, table-at, plane-at, part-at, table-same}
 use Rattle.line.specs.Line.{mostLength, lineOf}
 use Rattle.line.proofs.Best.{line-length}
 use Rattle.nearest.specs.Nearest.{nearest, rowOf, columnOf}
 use Rattle.nearest.specs.Stages.{belowAt, codeOf, nearer, nearerLine, nearLine, costsLine, rowAt, columnAt, rowsLine, columnsLine, rowsOf, columnsOf}
 use Rattle.nearest.specs.Indices.{placeAt, nearerCodes, indexAt, indicesLine, indicesOf}
-use Rattle.nearest.proofs.InPlace.{table-same}
 use Rattle.nearest.proofs.Stages.{near-length, near-next, rows-row, columns-row}
 use Rattle.nearest.proofs.Laws.{nearest-some}
 

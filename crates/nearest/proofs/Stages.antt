@@ -9,7 +9,7 @@ use lib.IntN.{ℤ, pos}
 use lib.ListN.{length, getD, take, drop}
 use borrow.Author.Tests.{lt-ltb, le-ltb}
 use Rattle.plane.specs.Plane.{onAt, apart, table}
-use Rattle.plane.proofs.Plane.{table-length, table-at, part-at}
+use Rattle.plane.proofs.Plane.{table-length, table-at, part-at, table-same}
 use Rattle.line.specs.Walk.{firstLeast, Answers}
 use Rattle.line.specs.Line.{mostCost, mostLength, noPlace, offer, best, placeOf, lineOf}
 use Rattle.line.specs.Grid.{valueOf, walk, upto, grid, attach, chosen, plus, Encodes}
@@ -19,7 +19,6 @@ use Rattle.line.proofs.Best.{line-length, line-at, offered}
 use Rattle.line.proofs.Grid.{columnBest, columnCost, walk-line, two-stages}
 use Rattle.nearest.specs.Nearest.{rowCost, nearest, rowOf, columnOf}
 use Rattle.nearest.specs.Stages.{noRow, Low, belowAt, ownOr, codeOf, nearer, nearerLine, rowCode, nearLine, squareCost, costsLine, rowAt, columnAt, rowsLine, columnsLine, rowsOf, columnsOf}
-use Rattle.nearest.proofs.InPlace.{table-same}
 use Rattle.nearest.proofs.Sweep.{numbered, first-step, first-none, first-low, code-low, sweep-step, sweep-start}
 
 module _ (mask : List ℕ) (h w : ℕ) where

@@ -11,8 +11,8 @@ use native.Mathlib.Omega.{arith}
 use borrow.Author.Tests.{not-false}
 use Rattle.plane.specs.Plane.{onAt, apart}
 use Rattle.plane.specs.Search.{someBelow}
-use Rattle.plane.proofs.Plane.{pixel-in, row-of, column-of, index-of}
-use Rattle.plane.proofs.Search.{either, not-both, some-found}
+use Rattle.plane.proofs.Plane.{pixel-in, row-of, column-of, index-of, apart-back}
+use Rattle.plane.proofs.Search.{either, not-both, some-found, and-no}
 use Rattle.plane.proofs.Refusal.{and-true}
 use Rattle.labels.specs.Labels.{isOn}
 use Rattle.labels.proofs.Steps.{row-is, column-is}
@@ -25,10 +25,6 @@ use Rattle.outline.proofs.Masks.{mask-on, mask-holds, index-on, row-on,
 pub record PixelWithin (back : List ℕ) (h w k i : ℕ) : Type 0 where
   pub inside : i < h * w
   pub near : Within back h w k i
-
-apart-back : (a b : ℕ) → apart a b ≡ apart b a
-unfolding apart
-apart-back a b = omega arith
 
 -- one step from (j, i) towards (y, x) is a pixel within 1 of it
 step-nigh : (w j i y x : ℕ) → i < w → towards i x < w → Nigh w 1 (j * w + i) (towards j y * w + towards i x)
@@ -94,11 +90,7 @@ module _ (back : List ℕ) (h w : ℕ) (wide : 0 < w) where
     -- so it is not shallow, and not deep
     edge-shallow : isShallow back h w i ≡ false
     unfolding isShallow
-    edge-shallow = rw edge-near (and-off (not (isOn back i)))
-      where
-        and-off : (t : Bool) → t && false ≡ false
-        and-off true = refl
-        and-off false = refl
+    edge-shallow = rw edge-near (and-no (not (isOn back i)))
 
     edge-deep : isDeep back h w i ≡ false
     unfolding isDeep

@@ -13,7 +13,7 @@ use lib.Ieee.{Float, nan}
 use borrow.Author.Tests.{eqb-true, eq-eqb}
 use Rattle.plane.specs.Plane.{table}
 use Rattle.plane.proofs.Plane.{pixel-in}
-use Rattle.plane.proofs.Search.{not-both}
+use Rattle.plane.proofs.Search.{not-both, or-left, or-right, or-true}
 use Rattle.labels.specs.Labels.{isOn}
 use Rattle.colour.proofs.Zero.{Alike}
 use Rattle.colour.proofs.Same.{SameColour}
@@ -21,7 +21,6 @@ use Rattle.median.specs.Median.{medianOf}
 use Rattle.median.proofs.Laws.{median-alike}
 use Rattle.outline.specs.Border.{rowPixels, innerColumn, borderList, listed, onBorder, channelAt, colourAt, referenceChannel, referenceOf}
 use Rattle.outline.specs.Ground.{countOn}
-use Rattle.outline.proofs.Masks.{or-left, or-right, or-cases}
 
 -- ---- lists of pixels
 
@@ -37,7 +36,7 @@ listed-append i (j ∷ l) m e =
     (λ (b : listed i l ≡ true). inl (or-right (eqb i j) (listed i l) b))
     (λ (b : listed i m ≡ true). inr b)
     (listed-append i l m a))
-    (or-cases (eqb i j) (listed i (l ++ m)) e)
+    (or-true (eqb i j) (listed i (l ++ m)) e)
 
 -- every entry of a list is in it
 pub listed-at : (l : List ℕ) (k : ℕ) → k < length l → listed (getD l k 0) l ≡ true
@@ -54,7 +53,7 @@ listed-table f i k (suc n) e =
     ⊎-elim {C = (x : ℕ) × (k ≤ x) × (x < k + suc n) × (i ≡ f x)}
     (λ (a : eqb i (f k) ≡ true). (k, omega arith, omega arith, eqb-true i (f k) a))
     (λ (a : listed i (table f (suc k) n) ≡ true). (let z = listed-table f i (suc k) n a in (z .0, omega (arith, z .1), omega (arith, z .2), z .3)))
-    (or-cases (eqb i (f k)) (listed i (table f (suc k) n)) e)
+    (or-true (eqb i (f k)) (listed i (table f (suc k) n)) e)
 
 -- ---- the border lies in the plane
 

@@ -10,12 +10,12 @@ use lib.ListN.{length}
 use lib.Ieee.{Float}
 use borrow.Author.Tests.{eqb-true, eq-eqb}
 use Rattle.plane.specs.Search.{someBelow}
-use Rattle.plane.proofs.Search.{some-found, some-is}
+use Rattle.plane.proofs.Search.{some-found, some-is, and-is}
 use Rattle.plane.proofs.Refusal.{and-true}
 use Rattle.labels.specs.Labels.{isOn, beside, Joined, same, onward, firstPixel}
 use Rattle.labels.proofs.Joined.{on-inside, start-on, end-on, spreads}
 use Rattle.labels.proofs.Firsts.{first-same, same-first}
-use Rattle.squares.proofs.Laws.{and-is, same-test}
+use Rattle.squares.proofs.Laws.{same-test}
 use Rattle.colour.specs.declared.Rgb.{Rgb}
 use Rattle.outline.specs.Border.{borderList, onBorder, referenceOf}
 use Rattle.outline.specs.Ground.{isClose, closePlane, isGround, groundFrom, groundOf, foundFrom}

@@ -11,13 +11,13 @@ use lib.ListN.{length}
 use lib.Ieee.{Float}
 use borrow.Author.Tests.{not-true}
 use Rattle.plane.specs.Search.{someBelow}
-use Rattle.plane.proofs.Search.{either, not-both, some-found, some-is, some-same, none-found}
+use Rattle.plane.proofs.Search.{either, not-both, some-found, some-is, some-same, none-found, or-left, or-true, or-no}
 use Rattle.plane.proofs.Refusal.{and-true}
 use Rattle.labels.specs.Labels.{isOn}
 use Rattle.colour.specs.declared.Rgb.{Rgb}
 use Rattle.outline.specs.Ground.{someOff}
 use Rattle.outline.specs.Growth.{nearGround, isEdge, isShallow, isDeep, maskOf, joinsFrom, isJoining, passOf, growthOf}
-use Rattle.outline.proofs.Masks.{not-is, or-left, or-cases, mask-length, mask-on, mask-inside, mask-holds, mask-same, mask-again, Within, near-found, near-same, within-self, within-more, within-within}
+use Rattle.outline.proofs.Masks.{not-is, mask-length, mask-on, mask-inside, mask-holds, mask-same, mask-again, Within, near-found, near-same, within-self, within-more, within-within}
 
 module _ (colours : List Float) (reference : Rgb) (h w : ℕ) where
   -- ---- one pass
@@ -56,18 +56,14 @@ module _ (colours : List Float) (reference : Rgb) (h w : ℕ) where
       ⊎-elim {C = Within back h w 1 i}
       (λ (o : isOn back i ≡ true). within-more (omega arith) (within-self l o))
       (λ (j : isJoining colours reference back h w i ≡ true). near-found (and-true (not (isOn back i)) (nearGround back h w 1 i) (joins-edge back i j) .1))
-      (or-cases (isOn back i) (isJoining colours reference back h w i) (sym (pass-on back i l) ∙ e))
+      (or-true (isOn back i) (isJoining colours reference back h w i) (sym (pass-on back i l) ∙ e))
 
   -- a pass without a join changes nothing
   pub pass-idle : (back : List ℕ) → someBelow (h * w) (isJoining colours reference back h w) ≡ false → passOf colours reference back h w ≡ maskOf (h * w) (isOn back)
   unfolding passOf
   pass-idle back e =
       mask-same (h * w) (λ (i : ℕ). isOn back i || isJoining colours reference back h w i) (isOn back)
-      (λ i l. rw (none-found (isJoining colours reference back h w) (h * w) e i l) (or-false (isOn back i)))
-    where
-      or-false : (t : Bool) → t || false ≡ t
-      or-false true = refl
-      or-false false = refl
+      (λ i l. rw (none-found (isJoining colours reference back h w) (h * w) e i l) (or-no (isOn back i)))
 
   -- ---- growth, unfolded
 

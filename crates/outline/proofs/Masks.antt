@@ -9,28 +9,17 @@ use native.Mathlib.Omega.{arith}
 use lib.ListN.{length, getD}
 use borrow.Author.Tests.{eqb-true}
 use Rattle.plane.specs.Plane.{on, bit, onAt, apart, table}
-use Rattle.plane.proofs.Plane.{table-length, table-at, table-is, pixel-in, row-of, column-of, index-of}
+use Rattle.plane.proofs.Plane.{table-length, table-at, table-is, pixel-in, row-of, column-of, index-of, table-same, on-bit}
 use Rattle.labels.specs.Labels.{isOn, beside}
 use Rattle.labels.proofs.Joined.{on-inside}
 use Rattle.labels.proofs.Steps.{row-is, column-is}
-use Rattle.squares.proofs.Laws.{same-test, Site, square-found, square-is, on-bit, apart-sum}
+use Rattle.squares.proofs.Laws.{same-test, Site, square-found, square-is, apart-sum}
 use Rattle.outline.specs.Growth.{nearGround, maskOf}
 
 -- ---- tests
 
 pub not-is : (t : Bool) → t ≡ false → not t ≡ true
 not-is t e = rw e
-
-pub or-left : (s t : Bool) → s ≡ true → s || t ≡ true
-or-left s t e = rw e
-
-pub or-right : (s t : Bool) → t ≡ true → s || t ≡ true
-or-right true t e = refl
-or-right false t e = e
-
-pub or-cases : (s t : Bool) → s || t ≡ true → (s ≡ true) ⊎ (t ≡ true)
-or-cases true t e = inl refl
-or-cases false t e = inr e
 
 -- two conjunctions are equal where the first parts are, and the second parts are wherever the first hold
 pub and-same : (s t a b : Bool) → s ≡ t → (s ≡ true → a ≡ b) → s && a ≡ t && b
@@ -41,10 +30,6 @@ and-same s t a b e h = rw (sym e) (go s h)
     go false g = refl
 
 -- ---- tables and masks
-
--- tables of equal elements are equal
-pub table-same : {A : Type 0} (f g : ℕ → A) (n : ℕ) (d : A) → ((i : ℕ) → i < n → f i ≡ g i) → table f 0 n ≡ table g 0 n
-table-same f g n d h = table-is g n (table f 0 n) d (table-length f 0 n) (λ i l. table-at f n i d l ∙ h i l)
 
 module _ (n : ℕ) (p : ℕ → Bool) where
   pub mask-length : length (maskOf n p) ≡ n

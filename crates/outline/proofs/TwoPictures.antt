@@ -12,7 +12,7 @@ use lib.ListN.{length, getD}
 use lib.Ieee.{Float, nan, inf, fin, binary64, eq, isNan, fits}
 use lib.Ieee.Scale.{finite}
 use borrow.Author.Tests.{eqb-true}
-use Rattle.plane.proofs.Search.{either}
+use Rattle.plane.proofs.Search.{either, or-true}
 use Rattle.plane.proofs.Refusal.{and-true}
 use Rattle.labels.specs.Labels.{isOn}
 use Rattle.colour.specs.declared.Rgb.{Rgb}
@@ -20,14 +20,14 @@ use Rattle.colour.specs.declared.Settings.{Settings}
 use Rattle.colour.specs.Settings.{onOf, passesOf}
 use Rattle.colour.proofs.Range.{is}
 use Rattle.colour.proofs.Zero.{plus0, Alike, eq-alike}
-use Rattle.colour.proofs.Same.{same-colour}
+use Rattle.colour.proofs.Same.{same-colour, plus0-finite}
 use Rattle.outline.specs.Border.{onBorder, channelAt, colourAt, referenceOf}
 use Rattle.outline.specs.Ground.{groundOf}
 use Rattle.outline.specs.Growth.{nearGround, maskOf, growthOf}
 use Rattle.outline.specs.Cut.{alphaMask, isSought, isKeyed, grownGround, cutMask, weightsOf, cropOf}
 use Rattle.outline.specs.Refusal.{toleranceNumber, cutNumber}
 use Rattle.outline.specs.Outcome.{accepted, cutOf}
-use Rattle.outline.proofs.Masks.{or-cases, near-found, near-is, within-more}
+use Rattle.outline.proofs.Masks.{near-found, near-is, within-more}
 use Rattle.outline.proofs.Borders.{border-inside}
 use Rattle.outline.proofs.CutLaws.{Taken, taken}
 use Rattle.outline.specs.Premises.{sameTolerance, AgreeAt, Binary64, TwoCalls}
@@ -41,22 +41,15 @@ tolerance-alike t u a b e =
     ⊎-elim {C = Alike t u}
     (λ (q : eq t u ≡ true). eq-alike binary64 t u a b (is (eq t u) q))
     (λ (q : isNan t && isNan u ≡ true). (let z = and-true (isNan t) (isNan u) q in ap plus0 (no-number t (z .0) ∙ sym (no-number u (z .1)))))
-    (or-cases (eq t u) (isNan t && isNan u) e)
+    (or-true (eq t u) (isNan t && isNan u) e)
   where
     no-number : (x : Float) → isNan x ≡ true → x ≡ nan
     no-number nan q = refl
     no-number (inf s) q = absurd (is (isNan (inf s)) q)
     no-number (fin s m d) q = absurd (is (isNan (fin s m d)) q)
 
-finite-plus0 : (x : Float) → finite x ≡ finite (plus0 x)
-unfolding plus0
-finite-plus0 nan = refl
-finite-plus0 (inf s) = refl
-finite-plus0 (fin s zero e) = refl
-finite-plus0 (fin s (suc m) e) = refl
-
 finite-alike : (t u : Float) → Alike t u → finite t ≡ finite u
-finite-alike t u e = finite-plus0 t ∙ ap finite e ∙ sym (finite-plus0 u)
+finite-alike t u e = plus0-finite t ∙ ap finite e ∙ sym (plus0-finite u)
 
 -- ---- agreeing pictures have the same colours, as numbers
 

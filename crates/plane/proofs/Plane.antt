@@ -1,6 +1,7 @@
 -- Laws of planes: length, elements, when a list is a plane, and a plane filled row by row; for every element type.
 -- Assumes nothing.
 use mathlib.Core.Path.{_≡_, refl, sym, ap, _∙_}
+use mathlib.Core.Bool.{Bool, true, false}
 use mathlib.Core.List.{List, [], _∷_, _++_, append-assoc}
 use mathlib.Core.Logic.{⊎-elim}
 use Prim.Native.Nat.{ℕ, zero, suc, _+_, _*_, _-_, _/_, _%_, _≤_, _<_}
@@ -13,7 +14,7 @@ use mir.Syntax.{w64}
 use mir.Val.{Fits}
 use mir.Facts.{fits-le, fits-lit}
 use borrow.Author.Count.{below-more}
-use Rattle.plane.specs.Plane.{mostSide, Sides, apart, table, rowsUpto, planeOf}
+use Rattle.plane.specs.Plane.{mostSide, Sides, apart, on, bit, table, rowsUpto, planeOf}
 use Rattle.plane.proofs.Search.{which}
 
 -- ---- indices
@@ -45,6 +46,17 @@ area-most a b = mul-le-mul a b
 pub area-fits : {h w : ℕ} → h ≤ mostSide → w ≤ mostSide → Fits w64 (h * w)
 area-fits a b = fits-le (mul-le-mul a b) (fits-lit tt)
 
+-- rows and columns are as far apart from either side
+pub apart-back : (a b : ℕ) → apart a b ≡ apart b a
+unfolding apart
+apart-back a b = omega arith
+
+-- a test written as a byte is on where it holds
+pub on-bit : (t : Bool) → on (bit t) ≡ t
+unfolding on bit
+on-bit true = refl
+on-bit false = refl
+
 -- ---- tables
 
 module _ {A : Type 0} (f : ℕ → A) where
@@ -70,6 +82,10 @@ module _ {A : Type 0} (f : ℕ → A) where
   pub filled : (out : List A) (i : ℕ) (v d : A) → i < length out → ((k : ℕ) → k < i → getD out k d ≡ f k) → v ≡ f i → (k : ℕ) → k < i + 1 → getD (set out i v) k d ≡ f k
   filled out i v d l h e =
       below-more (λ (k : ℕ). getD (set out i v) k d ≡ f k) i (λ k g. getD-set-other out i k v d (ne-of-lt g) ∙ h k g) (getD-set-same out i v d l ∙ e)
+
+-- tables of equal elements are equal
+pub table-same : {A : Type 0} (f g : ℕ → A) (n : ℕ) (d : A) → ((k : ℕ) → k < n → f k ≡ g k) → table f 0 n ≡ table g 0 n
+table-same f g n d h = table-is g n (table f 0 n) d (table-length f 0 n) (λ k l. table-at f n k d l ∙ h k l)
 
 -- ---- rows one after the other
 

@@ -1,7 +1,7 @@
 -- Laws of searching and counting below n.
 -- Assumes nothing.
 use mathlib.Core.Path.{_≡_, refl, sym, ap, _∙_}
-use mathlib.Core.Bool.{Bool, true, false, cond, _||_}
+use mathlib.Core.Bool.{Bool, true, false, cond, _&&_, _||_}
 use mathlib.Core.Logic.{_⊎_, inl, inr, ⊎-elim}
 use Prim.Native.Nat.{ℕ, zero, suc, _+_, _≤_, _<_}
 use native.Mathlib.Nat.{not-suc-le-zero}
@@ -32,13 +32,35 @@ pub below-suc : (P : ℕ → Type 0) (n : ℕ) → ((k : ℕ) → k < n → P k)
 below-suc P n h p k l =
     ⊎-elim {C = P k} (λ (a : k < n). h k a) (λ (a : n ≤ k). (let e : n ≡ k = omega arith in rw e at p)) (which k n)
 
-or-true : (s t : Bool) → s || t ≡ true → (s ≡ true) ⊎ (t ≡ true)
+-- ---- tests joined by "or" and "and"
+
+pub or-true : (s t : Bool) → s || t ≡ true → (s ≡ true) ⊎ (t ≡ true)
 or-true true t e = inl refl
 or-true false t e = inr e
+
+pub or-left : (s t : Bool) → s ≡ true → s || t ≡ true
+or-left s t e = rw e
+
+pub or-right : (s t : Bool) → t ≡ true → s || t ≡ true
+or-right true t e = refl
+or-right false t e = e
+
+pub or-no : (t : Bool) → t || false ≡ t
+or-no true = refl
+or-no false = refl
+
+pub and-no : (t : Bool) → t && false ≡ false
+and-no true = refl
+and-no false = refl
+
+pub and-is : (s t : Bool) → s ≡ true → t ≡ true → s && t ≡ true
+and-is s t p q = rw (p, q)
 
 or-false : (s t : Bool) → s || t ≡ false → (s ≡ false) × (t ≡ false)
 or-false true t e = not-both true refl e
 or-false false t e = (refl, e)
+
+-- ---- searches
 
 module _ (p : ℕ → Bool) where
   -- a search that finds has a place

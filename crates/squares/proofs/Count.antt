@@ -11,7 +11,7 @@ use lib.Dec.{leb, ltb, eqb}
 use borrow.Author.Tests.{le-leb, lt-leb, lt-ltb, le-ltb, eqb-true, eqb-false, eq-eqb, ne-eqb}
 use Rattle.plane.specs.Search.{someBelow, countBelow}
 use Rattle.plane.specs.Plane.{bit, apart}
-use Rattle.plane.proofs.Search.{which, either, count-most, count-same}
+use Rattle.plane.proofs.Search.{which, either, count-most, count-same, and-no, or-no}
 use Rattle.squares.specs.Window.{windowCount, inWindow, entering, leaving}
 
 -- tests joined with a known one
@@ -19,17 +19,9 @@ pub and-yes : (t : Bool) → t && true ≡ t
 and-yes true = refl
 and-yes false = refl
 
-pub and-no : (t : Bool) → t && false ≡ false
-and-no true = refl
-and-no false = refl
-
 or-yes : (t : Bool) → t || true ≡ true
 or-yes true = refl
 or-yes false = refl
-
-or-no : (t : Bool) → t || false ≡ t
-or-no true = refl
-or-no false = refl
 
 -- a test that is false of every number counts none
 pub count-none : (n : ℕ) (p : ℕ → Bool) → ((i : ℕ) → i < n → p i ≡ false) → countBelow n p ≡ 0

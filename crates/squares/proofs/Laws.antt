@@ -11,8 +11,8 @@ use lib.ListN.{length, getD}
 use borrow.Author.Tests.{leb-true, le-leb, lt-leb, ne-eqb}
 use Rattle.plane.specs.Search.{someBelow}
 use Rattle.plane.specs.Plane.{on, bit, onAt, apart, within, planeOf}
-use Rattle.plane.proofs.Search.{which, either, not-both, some-found, some-is}
-use Rattle.plane.proofs.Plane.{plane-at, plane-same, plane-length}
+use Rattle.plane.proofs.Search.{which, either, not-both, some-found, some-is, and-is}
+use Rattle.plane.proofs.Plane.{plane-at, plane-same, plane-length, on-bit}
 use Rattle.plane.proofs.Refusal.{and-true}
 use Rattle.squares.specs.Squares.{larger, reach, inSquare, squaresPlane}
 use Rattle.squares.specs.Window.{radiusOf}
@@ -69,9 +69,6 @@ pub same-test : (s t : Bool) → (s ≡ true → t ≡ true) → (t ≡ true →
 same-test true t p q = sym (p refl)
 same-test false true p q = q refl
 same-test false false p q = refl
-
-pub and-is : (s t : Bool) → s ≡ true → t ≡ true → s && t ≡ true
-and-is s t p q = rw (p, q)
 
 -- an on-pixel of the mask within k of (y, x)
 pub record Site (mask : List ℕ) (h w k y x : ℕ) : Type 0 where
@@ -259,12 +256,6 @@ way p q a b n s t e =
 -- a mask after a dilation by k
 abbrev pub dilated : List ℕ → ℕ → ℕ → ℕ → List ℕ
 dilated mask h w k = planeOf h w (λ (y x : ℕ). bit (inSquare mask h w k y x))
-
--- a byte that is written for a pixel says whether the pixel is on
-pub on-bit : (t : Bool) → on (bit t) ≡ t
-unfolding on bit
-on-bit true = refl
-on-bit false = refl
 
 -- a pixel of it is on exactly when it is in the square
 pub dilated-on : (mask : List ℕ) (h w k y x : ℕ) → y < h → x < w → onAt (dilated mask h w k) w y x ≡ inSquare mask h w k y x

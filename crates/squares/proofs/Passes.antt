@@ -15,12 +15,12 @@ use borrow.Rule.Slice.PartMut.{putMid, same-len-mid}
 use borrow.Author.Tests.{le-leb, lt-leb, lt-ltb, le-ltb}
 use Rattle.plane.specs.Search.{someBelow, countBelow}
 use Rattle.plane.specs.Plane.{mostSide, on, bit, onAt, apart, within, table, planeOf}
-use Rattle.plane.proofs.Search.{which, some-same, none-is}
-use Rattle.plane.proofs.Plane.{row-in, pixel-in, row-of, column-of, index-of, plane-length, plane-at, plane-same, table-length, table-at, table-is, filled, part-at}
+use Rattle.plane.proofs.Search.{which, some-same, none-is, and-no}
+use Rattle.plane.proofs.Plane.{row-in, pixel-in, row-of, column-of, index-of, plane-length, plane-at, plane-same, table-length, table-at, table-is, filled, part-at, on-bit}
 use Rattle.squares.specs.Window.{inWindow, entering, leaving, onIn, onDown, rowCount, columnCount, dilatedRow, stepsOf, runningCount, runningLine, litLine, lessLine, dilatedRows, dilatedColumns, addedLine, takenLine, testedLine, radiusOf, Addable, Takable, Bits, Columns, Entered}
 use Rattle.squares.specs.Squares.{reach, inSquare, squaresPlane}
-use Rattle.squares.proofs.Laws.{on-bit, square-radius}
-use Rattle.squares.proofs.Count.{and-yes, and-no, count-more, slide, window-some, window-most}
+use Rattle.squares.proofs.Laws.{square-radius}
+use Rattle.squares.proofs.Count.{and-yes, count-more, slide, window-some, window-most}
 
 -- ---- the window
 

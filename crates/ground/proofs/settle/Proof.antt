@@ -13,12 +13,12 @@ use mir.Val.{boolByte}
 use borrow.Author.Count.{below-none}
 use Rattle.plane.specs.Plane.{bit}
 use Rattle.plane.specs.Search.{someBelow}
-use Rattle.plane.proofs.Plane.{filled, table-is, table-at}
+use Rattle.plane.proofs.Plane.{filled, table-is, table-at, on-bit}
 use Rattle.labels.specs.Labels.{isOn}
 use Rattle.outline.specs.Ground.{someOff}
 use Rattle.ground.specs.Flood.{marked}
 use borrow.Author.Needs.{needs}
-use Rattle.ground.proofs.Bits.{on-bit, byte}
+use Rattle.ground.proofs.Bits.{byte}
 use Rattle.ground.proofs.settle.Statement.{statement}
 use Rattle.ground.proofs.settle.Tie as tie
 
