@@ -43,8 +43,11 @@
 use std::fmt;
 use std::ops::Range;
 
+pub mod netpbm;
+pub mod png;
 #[allow(unsafe_code)]
 pub mod raw;
+pub mod sha256;
 
 /// The longest side of a plane, in pixels.
 pub const MOST_SIDE: usize = 4096;
