@@ -43,10 +43,13 @@
 use std::fmt;
 use std::ops::Range;
 
+pub mod filing;
 pub mod netpbm;
 pub mod png;
+pub mod preview;
 #[allow(unsafe_code)]
 pub mod raw;
+pub mod record;
 pub mod sha256;
 
 /// The longest side of a plane, in pixels.

@@ -1,0 +1,59 @@
+//! What the program says while it works and afterwards; it goes on where nobody can hear it.
+
+use std::fmt::Display;
+use std::io::{self, ErrorKind, Write};
+use std::sync::mpsc::{self, RecvTimeoutError, Sender};
+use std::thread::{Builder, JoinHandle};
+use std::time::{Duration, Instant};
+
+/// Says a line on standard error.
+pub fn say(text: impl Display) {
+    let _ = writeln!(io::stderr(), "stand: {text}");
+}
+
+/// Writes a text to standard output. That nobody reads it is no failure.
+pub fn tell(text: &str) -> io::Result<()> {
+    let mut out = io::stdout().lock();
+    match out.write_all(text.as_bytes()).and_then(|()| out.flush()) {
+        Err(why) if why.kind() == ErrorKind::BrokenPipe => Ok(()),
+        other => other,
+    }
+}
+
+/// A step of the work. Where it takes longer than two seconds, and every ten seconds from then on,
+/// it is said on standard error.
+pub struct Step {
+    done: Option<Sender<()>>,
+    thread: Option<JoinHandle<()>>,
+}
+
+impl Step {
+    /// Begins a step, which ends where the value is dropped.
+    pub fn begin(text: String) -> Step {
+        let (done, waiting) = mpsc::channel();
+        let start = Instant::now();
+        let run = move || {
+            let mut pause = 2;
+            while let Err(RecvTimeoutError::Timeout) =
+                waiting.recv_timeout(Duration::from_secs(pause))
+            {
+                say(format!("{text}, {} s so far", start.elapsed().as_secs()));
+                pause = 10;
+            }
+        };
+        Step {
+            done: Some(done),
+            // Without the thread nothing is said.
+            thread: Builder::new().spawn(run).ok(),
+        }
+    }
+}
+
+impl Drop for Step {
+    fn drop(&mut self) {
+        drop(self.done.take());
+        if let Some(thread) = self.thread.take() {
+            let _ = thread.join();
+        }
+    }
+}
