@@ -57,7 +57,7 @@ pub fn results(image: &Image, sum: &str, settings: &Settings) -> Result<Results,
         .collect();
     let mask = netpbm::pbm(&cut.mask, w);
     let weights: Vec<u8> = cut.weights.iter().flat_map(|x| x.to_le_bytes()).collect();
-    let preview = png::rgb(&preview::rgb(image, &cut)?, w);
+    let preview = preview::preview(image, &cut)?;
     let record = Record {
         h,
         w,
@@ -76,7 +76,7 @@ pub fn results(image: &Image, sum: &str, settings: &Settings) -> Result<Results,
             (MASK, mask),
             (WEIGHTS, weights),
             (WEIGHTS_SEEN, netpbm::pgm(&seen, w)),
-            (PREVIEW, preview),
+            (PREVIEW, png::rgb(&preview.rgb, preview.w)),
             (RECORD, text),
         ],
     })
