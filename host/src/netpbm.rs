@@ -194,7 +194,13 @@ impl<R: Read> Source<R> {
                 b"TUPLTYPE" => kind.push(value.to_vec()),
                 b"ENDHDR" => break,
                 [] | [b'#', ..] => {}
-                other => return form(format!("its header has a line {}", shown(other))),
+                other => {
+                    return form(format!(
+                        "its header has a line {}, which is none of a PAM's; convert the picture \
+                         again",
+                        shown(other)
+                    ))
+                }
             }
         }
         let (Some(w), Some(h), Some(depth), Some(most)) = (w, h, depth, most) else {
@@ -296,7 +302,7 @@ impl<R: Read> Source<R> {
 }
 
 const CUT_SHORT: &str = "it ends within its header; copy or convert the picture again";
-const LEFT_OVER: &str = "there is more in it after the picture; give a file of one picture";
+const LEFT_OVER: &str = "it goes on after the picture; give a file of one picture";
 
 fn short<T>(found: usize, wanted: usize) -> Result<T, Fault> {
     form(format!(
@@ -503,11 +509,11 @@ mod tests {
             (b"P6", "within its header"),
             (b"P6 1 1 255", "after 0 of the 3"),
             (b"P6 1 1 255 ab", "after 2 of the 3"),
-            (b"P6 1 1 255 abcd", "more in it"),
+            (b"P6 1 1 255 abcd", "goes on after"),
             (b"P6 1 -1 255 abc", "\"-\" where a number"),
             (b"P6 1 1 65535 abcdef", "MAXVAL is 65535"),
             (b"P3 1 1 255 1 2 256", "256 above"),
-            (b"P3 1 1 255 1 2 3 4", "more in it"),
+            (b"P3 1 1 255 1 2 3 4", "goes on after"),
             (b"P3 1 1 255 1 2", "after 2 of the 3"),
             (b"P4 1 1 a", "black and white"),
             (b"\x89PNG\r\n", "pngtopam"),

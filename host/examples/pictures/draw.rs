@@ -20,11 +20,7 @@ pub fn all() -> [Drawn; 5] {
         drawn("badge", "an enamel badge", badge()),
         drawn("sign", "an enamel sign with bolt holes", sign()),
         drawn("ticket", "a ticket with a torn edge", ticket()),
-        drawn(
-            "close",
-            "a sign taken too close: no card around it",
-            close(),
-        ),
+        drawn("partial", "a sign that runs out of the picture", partial()),
         drawn("blank", "a picture that is wholly transparent", blank()),
     ]
 }
@@ -88,7 +84,7 @@ fn outside(x: f64, y: f64, half_w: f64, half_h: f64, round: f64) -> f64 {
 }
 
 /// A round badge: a brass rim, blue enamel, a wheel with wings.
-fn badge() -> Image {
+pub fn badge() -> Image {
     photograph(300, 300, |px, py| {
         let (x, y) = (px - 150.0, py - 150.0);
         let r = x.hypot(y);
@@ -144,19 +140,17 @@ fn sign_at(x: f64, y: f64) -> Option<Colour> {
 }
 
 /// A sign whose bolt holes show the card.
-fn sign() -> Image {
+pub fn sign() -> Image {
     photograph(250, 400, |px, py| sign_at(px - 200.0, py - 125.0))
 }
 
-/// The same sign, too large for the picture.
-fn close() -> Image {
-    photograph(200, 300, |px, py| {
-        sign_at((px - 170.0) / 1.5, (py - 100.0) / 1.5)
-    })
+/// The same sign, running out of the picture.
+fn partial() -> Image {
+    photograph(200, 300, |px, py| sign_at(px - 200.0, py - 150.0))
 }
 
 /// A card ticket, torn off at its right, with a notch punched into its left.
-fn ticket() -> Image {
+pub fn ticket() -> Image {
     photograph(220, 380, |px, py| {
         let (x, y) = (px - 170.0, py - 110.0);
         let torn = 136.0

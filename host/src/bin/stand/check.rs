@@ -47,7 +47,7 @@ fn text(path: &Path) -> io::Result<String> {
 
 /// The SHA-256 of a file.
 fn sum(path: PathBuf) -> Result<String, Failure> {
-    let _step = Step::begin(format!("reading {}", path.display()));
+    let _step = Step::begin(format!("reading {}", path.display()), false);
     let read = || {
         let mut file = Summed::new(File::open(&path)?);
         io::copy(&mut file, &mut io::sink())?;
@@ -91,9 +91,9 @@ pub fn check(path: &Path, given: Option<&Path>) -> Result<Found, Failure> {
         found.line(path.display(), sum(path.clone())? == *recorded);
     }
     if let Some(path) = given {
-        let (image, own) = picture(path)?;
+        let (image, own) = picture(path, false)?;
         found.line(path.display(), own == record.picture);
-        let _step = Step::begin(format!("cutting {}", path.display()));
+        let _step = Step::begin(format!("cutting {}", path.display()), false);
         let again = filing::results(&image, &record.picture, &record.settings)?.record;
         found.line(
             "its outline, cut again with the recorded settings",

@@ -62,8 +62,8 @@ impl Failure {
 }
 
 /// Opens and reads a picture; `-` is standard input.
-fn picture(path: &Path) -> Result<(Image, String), Failure> {
-    let _step = Step::begin(format!("reading {}", path.display()));
+fn picture(path: &Path, quiet: bool) -> Result<(Image, String), Failure> {
+    let _step = Step::begin(format!("reading {}", path.display()), quiet);
     let input: Box<dyn Read> = if path == Path::new("-") {
         Box::new(io::stdin().lock())
     } else {
@@ -100,7 +100,7 @@ fn usable(place: &Place, force: bool, path: &Path) -> Result<(), Failure> {
 /// Cuts one picture and writes its results.
 fn cut(work: &Work, path: &Path, place: &Place) -> Result<Results, Failure> {
     usable(place, work.force, path)?;
-    let (image, sum) = picture(path)?;
+    let (image, sum) = picture(path, work.quiet)?;
     let pixels = format!("{} ({} by {})", path.display(), image.w, image.h);
     let large = image.h * image.w >= 4_000_000;
     let begin = |what: &str| {
@@ -108,7 +108,7 @@ fn cut(work: &Work, path: &Path, place: &Place) -> Result<Results, Failure> {
         if large && !work.quiet {
             say(&text);
         }
-        Step::begin(text)
+        Step::begin(text, work.quiet)
     };
     let step = begin("cutting");
     let results = filing::results(&image, &sum, &work.settings)?;

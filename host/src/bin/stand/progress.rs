@@ -21,7 +21,7 @@ pub fn tell(text: &str) -> io::Result<()> {
 }
 
 /// A step of the work. Where it takes longer than two seconds, and every ten seconds from then on,
-/// it is said on standard error.
+/// it is said on standard error, unless the program is to be quiet.
 pub struct Step {
     done: Option<Sender<()>>,
     thread: Option<JoinHandle<()>>,
@@ -29,7 +29,7 @@ pub struct Step {
 
 impl Step {
     /// Begins a step, which ends where the value is dropped.
-    pub fn begin(text: String) -> Step {
+    pub fn begin(text: String, quiet: bool) -> Step {
         let (done, waiting) = mpsc::channel();
         let start = Instant::now();
         let run = move || {
@@ -44,7 +44,11 @@ impl Step {
         Step {
             done: Some(done),
             // Without the thread nothing is said.
-            thread: Builder::new().spawn(run).ok(),
+            thread: if quiet {
+                None
+            } else {
+                Builder::new().spawn(run).ok()
+            },
         }
     }
 }
