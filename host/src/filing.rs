@@ -6,7 +6,7 @@
 
 use crate::netpbm::{self, Image};
 use crate::record::Record;
-use crate::{cut, png, preview, sha256, Picture, Refusal, Settings};
+use crate::{png, preview, sha256, Refusal, Settings};
 use std::ffi::OsString;
 use std::fmt;
 use std::fs::{self, File};
@@ -41,15 +41,7 @@ pub struct Results {
 /// Cuts a picture whose file has this SHA-256.
 pub fn results(image: &Image, sum: &str, settings: &Settings) -> Result<Results, Refusal> {
     let &Image { h, w, .. } = image;
-    let colours = image.colours();
-    let picture = Picture {
-        colours: &colours,
-        alpha: &image.alpha,
-        h,
-        w,
-    };
-    let cut = cut(&picture, settings)?;
-    drop(colours);
+    let cut = image.cut(settings)?;
     let seen: Vec<u8> = cut
         .weights
         .iter()

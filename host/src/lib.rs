@@ -13,6 +13,9 @@
 //! its [`Refusal`]. Whoever cuts one picture after the other and wants to keep the buffers calls
 //! [`raw`] instead, with buffers of [`work_len`] numbers.
 //!
+//! The program `stand` cuts picture files; [`netpbm`], [`filing`], [`record`] and [`preview`] are
+//! what it reads and writes.
+//!
 //! ```
 //! use stand::{Picture, Settings};
 //!

@@ -6,7 +6,7 @@
 //! order, with comments and blank lines between them, each once.
 
 use crate::sha256::Summed;
-use crate::{Refusal, MOST_SIDE};
+use crate::{Cut, Picture, Refusal, Settings, MOST_SIDE};
 use std::fmt;
 use std::io::{self, BufReader, Read};
 
@@ -27,6 +27,17 @@ impl Image {
     /// The colours as numbers from 0 to 1: byte v is v / 255.
     pub fn colours(&self) -> Vec<f64> {
         self.rgb.iter().map(|&v| f64::from(v) / 255.0).collect()
+    }
+
+    /// The outline of the picture.
+    pub fn cut(&self, settings: &Settings) -> Result<Cut, Refusal> {
+        let picture = Picture {
+            colours: &self.colours(),
+            alpha: &self.alpha,
+            h: self.h,
+            w: self.w,
+        };
+        crate::cut(&picture, settings)
     }
 }
 
@@ -182,10 +193,7 @@ impl<R: Read> Source<R> {
         let mut kind = Vec::new();
         loop {
             let line = self.line()?;
-            let line = line.trim_ascii();
-            let blank = line.iter().position(u8::is_ascii_whitespace);
-            let (word, value) = line.split_at(blank.unwrap_or(line.len()));
-            let value = value.trim_ascii();
+            let (word, value) = word_and_value(&line);
             match word {
                 b"WIDTH" => once(&mut w, "WIDTH", value)?,
                 b"HEIGHT" => once(&mut h, "HEIGHT", value)?,
@@ -194,13 +202,7 @@ impl<R: Read> Source<R> {
                 b"TUPLTYPE" => kind.push(value.to_vec()),
                 b"ENDHDR" => break,
                 [] | [b'#', ..] => {}
-                other => {
-                    return form(format!(
-                        "its header has a line {}, which is none of a PAM's; convert the picture \
-                         again",
-                        shown(other)
-                    ))
-                }
+                other => return form(unknown_line(other)),
             }
         }
         let (Some(w), Some(h), Some(depth), Some(most)) = (w, h, depth, most) else {
@@ -330,6 +332,19 @@ fn accepted(w: usize, h: usize, most: usize) -> Result<(), Fault> {
         ));
     }
     Ok(())
+}
+
+/// The first word of a header line of a PAM, and what follows it.
+fn word_and_value(line: &[u8]) -> (&[u8], &[u8]) {
+    let line = line.trim_ascii();
+    let blank = line.iter().position(u8::is_ascii_whitespace);
+    let (word, value) = line.split_at(blank.unwrap_or(line.len()));
+    (word, value.trim_ascii())
+}
+
+fn unknown_line(word: &[u8]) -> String {
+    let word = shown(word);
+    format!("its header has a line {word}, which is none of a PAM's; convert the picture again")
 }
 
 /// Keeps the number of a header line that may stand there once.

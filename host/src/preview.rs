@@ -36,7 +36,7 @@ pub fn preview(image: &Image, cut: &Cut) -> Result<Preview, Refusal> {
         rows: cut.crop.rows.start * scale..cut.crop.rows.end * scale,
         cols: cut.crop.cols.start * scale..cut.crop.cols.end * scale,
     };
-    let line = 2 + h.max(w) / 1000;
+    let line = 2 + h.max(w) / 700;
     for (reach, colour) in [(line + line / 2, AROUND), (line, OUTLINE)] {
         let near = crate::squares(&mask, h, w, reach as u64)?;
         for ((&near, &on), pixel) in near.iter().zip(&mask).zip(rgb.chunks_exact_mut(3)) {
@@ -99,7 +99,7 @@ fn crop_box(rgb: &mut [u8], h: usize, w: usize, crop: &Crop, line: usize) {
 #[cfg(test)]
 mod tests {
     use super::*;
-    use crate::{Picture, Settings};
+    use crate::Settings;
 
     fn white(h: usize, w: usize, alpha: u8) -> Image {
         Image {
@@ -111,14 +111,7 @@ mod tests {
     }
 
     fn drawn(image: &Image) -> (Cut, Preview) {
-        let colours = image.colours();
-        let picture = Picture {
-            colours: &colours,
-            alpha: &image.alpha,
-            h: image.h,
-            w: image.w,
-        };
-        let cut = crate::cut(&picture, &Settings::default()).unwrap();
+        let cut = image.cut(&Settings::default()).unwrap();
         let out = preview(image, &cut).unwrap();
         (cut, out)
     }

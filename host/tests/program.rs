@@ -10,7 +10,7 @@ mod masks;
 use masks::Random;
 use stand::netpbm::{self, Image};
 use stand::record::Record;
-use stand::{sha256, Cut, Picture, Settings};
+use stand::{sha256, Settings};
 use std::ffi::OsStr;
 use std::fs;
 use std::io::Write;
@@ -88,18 +88,6 @@ fn run_on(folder: &Path, words: &[impl AsRef<OsStr>], bytes: &[u8]) -> Ran {
     Ran::new(child.wait_with_output().unwrap())
 }
 
-/// What the library says of a picture.
-fn cut(image: &Image, settings: &Settings) -> Result<Cut, stand::Refusal> {
-    let colours = image.colours();
-    let picture = Picture {
-        colours: &colours,
-        alpha: &image.alpha,
-        h: image.h,
-        w: image.w,
-    };
-    stand::cut(&picture, settings)
-}
-
 /// The settings as words.
 fn words(settings: &Settings) -> Vec<String> {
     let mut words = vec![
@@ -116,34 +104,46 @@ fn words(settings: &Settings) -> Vec<String> {
     words
 }
 
-/// The five files of NAME hold what the library says of the picture.
-fn filed(folder: &Path, name: &str, image: &Image, settings: &Settings, picture: &[u8]) -> Record {
-    let own = cut(image, settings).expect("an accepted picture");
-    let file = |end: &str| fs::read(folder.join(format!("{name}.{end}"))).expect(end);
-
-    let mask = file("mask.pbm");
-    let head = format!("P4\n{} {}\n", image.w, image.h);
-    let packed = mask.strip_prefix(head.as_bytes()).expect("the mask's head");
-    let row = image.w.div_ceil(8);
-    assert_eq!(packed.len(), row * image.h);
-    for (i, &on) in own.mask.iter().enumerate() {
-        let (y, x) = (i / image.w, i % image.w);
+/// The bytes of a mask's file hold this mask.
+fn same_mask(file: &[u8], mask: &[u8], h: usize, w: usize) {
+    let head = format!("P4\n{w} {h}\n");
+    let packed = file.strip_prefix(head.as_bytes()).expect("the mask's head");
+    let row = w.div_ceil(8);
+    assert_eq!(packed.len(), row * h);
+    for (i, &on) in mask.iter().enumerate() {
+        let (y, x) = (i / w, i % w);
         assert_eq!(packed[y * row + x / 8] >> (7 - x % 8) & 1, on);
     }
+}
 
-    let weights = file("weights.f64");
-    assert_eq!(weights.len(), 8 * own.weights.len());
-    let seen = file("weights.pgm");
-    let head = format!("P5\n{} {}\n255\n", image.w, image.h);
+/// The bytes of the weights' two files hold these weights.
+fn same_weights(file: &[u8], seen: &[u8], weights: &[f64], h: usize, w: usize) {
+    assert_eq!(file.len(), 8 * weights.len());
+    let head = format!("P5\n{w} {h}\n255\n");
     let seen = seen
         .strip_prefix(head.as_bytes())
         .expect("the weights' head");
-    for ((bytes, &byte), weight) in weights.chunks(8).zip(seen).zip(&own.weights) {
+    assert_eq!(seen.len(), weights.len());
+    for ((bytes, &byte), weight) in file.chunks(8).zip(seen).zip(weights) {
         assert_eq!(*bytes, weight.to_le_bytes());
         assert_eq!(f64::from(byte) / 255.0, *weight);
     }
-    assert_eq!(file("preview.png")[..8], *b"\x89PNG\r\n\x1a\n");
+}
 
+/// The five files of NAME hold what the library says of the picture.
+fn filed(folder: &Path, name: &str, image: &Image, settings: &Settings, picture: &[u8]) -> Record {
+    let own = image.cut(settings).expect("an accepted picture");
+    let file = |end: &str| fs::read(folder.join(format!("{name}.{end}"))).expect(end);
+    let (mask, weights) = (file("mask.pbm"), file("weights.f64"));
+    same_mask(&mask, &own.mask, image.h, image.w);
+    same_weights(
+        &weights,
+        &file("weights.pgm"),
+        &own.weights,
+        image.h,
+        image.w,
+    );
+    assert_eq!(file("preview.png")[..8], *b"\x89PNG\r\n\x1a\n");
     let text = String::from_utf8(file("record.txt")).expect("text");
     let record = Record::read(&text).expect("a record");
     let want = Record {
@@ -224,36 +224,30 @@ fn example_pictures() {
     }
 }
 
-/// Random pictures with random settings.
+/// A random picture: card with spots on it.
+fn random_image(random: &mut Random) -> Image {
+    let (h, w) = (1 + random.below(20), 1 + random.below(20));
+    let card = random.below(256) as u8;
+    let mut rgb = vec![card; 3 * h * w];
+    for (pixel, on) in rgb.chunks_mut(3).zip(random.mask(h * w, 100)) {
+        if on == 1 {
+            pixel.fill_with(|| random.below(256) as u8);
+        }
+    }
+    let mut alpha = vec![255; h * w];
+    if random.below(3) == 0 {
+        alpha.fill_with(|| random.below(256) as u8);
+    }
+    Image { h, w, rgb, alpha }
+}
+
 #[test]
 fn random_pictures() {
     let folder = folder("random");
     let mut random = Random(2);
     let (mut keyed, mut refused) = (0, 0);
     for _ in 0..60 {
-        let (h, w) = (1 + random.below(20), 1 + random.below(20));
-        let card = random.below(256) as u8;
-        let object = random.mask(h * w, 100);
-        let mut colour = |on: u8| {
-            if on == 1 {
-                random.below(256) as u8
-            } else {
-                card
-            }
-        };
-        let rgb = object
-            .iter()
-            .flat_map(|&on| [on; 3])
-            .map(&mut colour)
-            .collect();
-        let opaque = random.below(3) > 0;
-        let alpha = (0..h * w).map(|_| if opaque { 255 } else { random.below(256) as u8 });
-        let image = Image {
-            h,
-            w,
-            rgb,
-            alpha: alpha.collect(),
-        };
+        let image = random_image(&mut random);
         let settings = Settings {
             alpha_threshold: random.below(300) as i64 - 20,
             key_bg: random.below(8) > 0,
@@ -265,7 +259,7 @@ fn random_pictures() {
         let mut words = words(&settings);
         words.extend(["--force", "--name", "r", "-"].map(String::from));
         let ran = run_on(&folder, &words, &picture);
-        match cut(&image, &settings) {
+        match image.cut(&settings) {
             Ok(own) => {
                 ran.ended(0, "");
                 filed(&folder, "r", &image, &settings, &picture);
@@ -422,6 +416,16 @@ fn nonsense() {
         bytes.splice(0..0, starts[at % 6].iter().copied());
         run_on(&folder, &words, &bytes).ended(2, "stand: -: it");
     }
+    run_on(&folder, &words, b"\x89PNG\r\n\x1a\n").ended(2, "pngtopam");
+    run_on(&folder, &words, b"\xff\xd8\xff").ended(2, "jpegtopnm");
+    assert!(names(&folder).is_empty());
+}
+
+/// A picture that is cut short, or has one thing wrong in its header.
+#[test]
+fn nearly_right() {
+    let folder = folder("nearly");
+    let words = ["--name", "n", "-"];
     let image = Image {
         h: 1,
         w: 2,
@@ -447,8 +451,6 @@ fn nonsense() {
         let picture = text.replace(old, new) + "\t\t\t\t\t\t\t\t";
         run_on(&folder, &words, picture.as_bytes()).ended(2, said);
     }
-    run_on(&folder, &words, b"\x89PNG\r\n\x1a\n").ended(2, "pngtopam");
-    run_on(&folder, &words, b"\xff\xd8\xff").ended(2, "jpegtopnm");
     assert!(names(&folder).is_empty());
 }
 
@@ -617,52 +619,50 @@ fn nobody_listens() {
     }
 }
 
-/// A filed result is checked against its files and its picture.
-#[test]
-fn checked() {
-    let folder = folder("checked");
-    let mut image = draw::ticket();
-    let picture = netpbm::pam(&image);
-    fs::write(folder.join("a.pam"), &picture).unwrap();
+/// A folder with a.pam and its results.
+fn ticket_filed(name: &str) -> (PathBuf, Image) {
+    let folder = folder(name);
+    let image = draw::ticket();
+    fs::write(folder.join("a.pam"), netpbm::pam(&image)).unwrap();
     run(&folder, &["a.pam", "--fringe=2", "--tolerance=0.0333"]).ended(0, "");
-    let check = |words: &[&str]| run(&folder, &[&["--check", "a.record.txt"], words].concat());
-    let lines = |ran: &Ran| -> Vec<bool> {
-        assert!(ran.out.lines().all(|line| line.ends_with("as recorded")));
-        ran.out.lines().map(|line| !line.contains("NOT")).collect()
-    };
-    assert_eq!(lines(&check(&[])), [true; 2]);
-    let ran = check(&["a.pam"]);
-    assert_eq!((ran.status, lines(&ran)), (0, vec![true; 4]));
+    (folder, image)
+}
+
+/// Checks a.record.txt.
+fn check(folder: &Path, picture: &[&str]) -> Ran {
+    run(folder, &[&["--check", "a.record.txt"], picture].concat())
+}
+
+/// The status of a check, and of each line whether it says that something is as recorded.
+fn answers(ran: &Ran) -> (i32, Vec<bool>) {
+    let lines = || ran.out.lines();
+    assert!(lines().all(|line| line.ends_with("as recorded")));
+    (
+        ran.status,
+        lines().map(|line| !line.contains("NOT")).collect(),
+    )
+}
+
+/// A filed result is checked against its picture.
+#[test]
+fn checked_with_picture() {
+    let (folder, mut image) = ticket_filed("checked");
+    let answer = |picture: &[&str]| answers(&check(&folder, picture));
+    assert_eq!(answer(&[]), (0, vec![true; 2]));
+    assert_eq!(answer(&["a.pam"]), (0, vec![true; 4]));
 
     // A colour in the middle of the ticket is corrected: another picture, the same outline.
     image.rgb[3 * (110 * image.w + 170)] ^= 255;
     fs::write(folder.join("corrected.pam"), netpbm::pam(&image)).unwrap();
-    let ran = check(&["corrected.pam"]);
     assert_eq!(
-        (ran.status, lines(&ran)),
+        answer(&["corrected.pam"]),
         (1, vec![true, true, false, true])
     );
 
-    for (end, want) in [("mask.pbm", [false, true]), ("weights.f64", [true, false])] {
-        let path = folder.join(format!("a.{end}"));
-        let good = fs::read(&path).unwrap();
-        let mut bad = good.clone();
-        bad[20_000.min(good.len() - 1)] ^= 1;
-        fs::write(&path, bad).unwrap();
-        let ran = check(&[]);
-        assert_eq!((ran.status, lines(&ran)), (1, want.to_vec()));
-        fs::remove_file(&path).unwrap();
-        check(&[]).ended(2, "could not be read");
-        fs::write(&path, good).unwrap();
-    }
     let path = folder.join("a.record.txt");
     let good = fs::read_to_string(&path).unwrap();
     fs::write(&path, good.replace("fringe: 2", "fringe: 0")).unwrap();
-    let ran = check(&["a.pam"]);
-    assert_eq!(
-        (ran.status, lines(&ran)),
-        (1, vec![true, true, true, false])
-    );
+    assert_eq!(answer(&["a.pam"]), (1, vec![true, true, true, false]));
     for (old, new) in [
         ("record 1", "record 2"),
         ("0.0333", "0.0334"),
@@ -670,6 +670,23 @@ fn checked() {
         ("rows", "h"),
     ] {
         fs::write(&path, good.replacen(old, new, 1)).unwrap();
-        check(&[]).ended(2, "stand: a.record.txt: ");
+        check(&folder, &[]).ended(2, "stand: a.record.txt: ");
+    }
+}
+
+/// A filed result is checked against its files.
+#[test]
+fn checked_with_files() {
+    let (folder, _) = ticket_filed("files");
+    for (end, want) in [("mask.pbm", [false, true]), ("weights.f64", [true, false])] {
+        let path = folder.join(format!("a.{end}"));
+        let good = fs::read(&path).unwrap();
+        let mut bad = good.clone();
+        bad[good.len() / 2] ^= 1;
+        fs::write(&path, bad).unwrap();
+        assert_eq!(answers(&check(&folder, &[])), (1, want.to_vec()));
+        fs::remove_file(&path).unwrap();
+        check(&folder, &[]).ended(2, "could not be read");
+        fs::write(&path, good).unwrap();
     }
 }
