@@ -45,8 +45,8 @@ impl Image {
 #[derive(Debug)]
 #[non_exhaustive]
 pub enum Fault {
-    /// The cut would refuse it: a side is 0 or more than [`MOST_SIDE`].
-    Refused(Refusal),
+    /// Its rows and columns, of which the cut would refuse one with [`Refusal::Side`].
+    Sides(usize, usize),
     /// It is not in a form that is read here; the sentence says what to change.
     Form(String),
     /// The input could not be read.
@@ -56,10 +56,22 @@ pub enum Fault {
 impl fmt::Display for Fault {
     fn fmt(&self, f: &mut fmt::Formatter<'_>) -> fmt::Result {
         match self {
-            Fault::Refused(why) => why.fmt(f),
+            Fault::Sides(h, w) => {
+                let (why, h, w) = (Refusal::Side, count(*h), count(*w));
+                write!(f, "{why}; this one has {h} rows and {w} columns")
+            }
             Fault::Form(sentence) => f.write_str(sentence),
             Fault::Input(why) => write!(f, "it could not be read: {why}"),
         }
+    }
+}
+
+/// A number as it is shown; the largest stands for all that are too large for 64 bits.
+fn count(n: usize) -> String {
+    if n == usize::MAX {
+        "too many".into()
+    } else {
+        n.to_string()
     }
 }
 
@@ -293,7 +305,7 @@ impl<R: Read> Source<R> {
             }
             match u8::try_from(number) {
                 Ok(byte) => samples.push(byte),
-                Err(_) => return form(format!("it has the number {number} above its MAXVAL 255")),
+                Err(_) => return form("it has a number above its MAXVAL 255"),
             }
         }
         if samples.len() < count {
@@ -324,11 +336,12 @@ fn shown(bytes: &[u8]) -> String {
 fn accepted(w: usize, h: usize, most: usize) -> Result<(), Fault> {
     let side = 1..=MOST_SIDE;
     if !side.contains(&w) || !side.contains(&h) {
-        return Err(Fault::Refused(Refusal::Side));
+        return Err(Fault::Sides(h, w));
     }
     if most != 255 {
         return form(format!(
-            "its MAXVAL is {most} and not 255; convert it, as by pamdepth 255"
+            "its MAXVAL is {} and not 255; convert it, as by pamdepth 255",
+            count(most)
         ));
     }
     Ok(())
@@ -509,10 +522,7 @@ mod tests {
                    TUPLTYPE RGB\nENDHDR\n";
         for text in [most, zero, huge, pam] {
             let why = read(text.as_bytes()).unwrap_err();
-            assert!(
-                matches!(why, Fault::Refused(Refusal::Side)),
-                "{text}: {why}"
-            );
+            assert!(matches!(why, Fault::Sides(..)), "{text}: {why}");
         }
     }
 
@@ -527,7 +537,7 @@ mod tests {
             (b"P6 1 1 255 abcd", "goes on after"),
             (b"P6 1 -1 255 abc", "\"-\" where a number"),
             (b"P6 1 1 65535 abcdef", "MAXVAL is 65535"),
-            (b"P3 1 1 255 1 2 256", "256 above"),
+            (b"P3 1 1 255 1 2 256", "number above its MAXVAL"),
             (b"P3 1 1 255 1 2 3 4", "goes on after"),
             (b"P3 1 1 255 1 2", "after 2 of the 3"),
             (b"P4 1 1 a", "black and white"),

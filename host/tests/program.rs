@@ -391,7 +391,9 @@ fn refusals() {
     assert!(names(&folder).is_empty());
     // A side is refused before a byte of the pixels is read, so nothing needs to follow the header.
     fs::write(folder.join("b.ppm"), "P6 5000 5000 255\n").unwrap();
-    run(&folder, &["b.ppm"]).ended(1, "stand: b.ppm: refused 1");
+    let ran = run(&folder, &["b.ppm"]);
+    ran.ended(1, "stand: b.ppm: refused 1");
+    ran.ended(1, "this one has 5000 rows and 5000 columns");
     assert_eq!(names(&folder), ["b.ppm"]);
 }
 
@@ -566,6 +568,45 @@ fn nothing_half_written() {
     }
 }
 
+/// Stopped at any time, the program leaves whole files under their names, and a record only where
+/// all of them are there.
+#[test]
+fn stopped() {
+    let folder = folder("stopped");
+    let picture = netpbm::pam(&draw::badge());
+    fs::write(folder.join("a.pam"), picture).unwrap();
+    let start = Instant::now();
+    run(&folder, &["a.pam", "--name=whole"]).ended(0, "");
+    let took = start.elapsed();
+    let whole = ENDS.map(|end| fs::read(folder.join(format!("whole.{end}"))).unwrap());
+    let mut counts = [0; 3];
+    for step in 0..40 {
+        let mut child = program(&folder, &["a.pam", "--quiet"]).spawn().unwrap();
+        std::thread::sleep(took * step / 25);
+        let _ = child.kill();
+        child.wait().unwrap();
+        let file = |end: &str| fs::read(folder.join(format!("a.{end}"))).ok();
+        let there = ENDS.map(file);
+        for (own, whole) in there.iter().zip(&whole) {
+            assert!(own.is_none() || own.as_ref() == Some(whole));
+        }
+        let found = there.iter().flatten().count();
+        assert!(
+            there[2].is_none() || found == 5,
+            "a record and {found} files"
+        );
+        counts[found.div_ceil(4)] += 1;
+        for name in names(&folder) {
+            if name != "a.pam" && name.starts_with("a.") {
+                assert!(name.ends_with(".part") || ENDS.iter().any(|end| name.ends_with(end)));
+                fs::remove_file(folder.join(name)).unwrap();
+            }
+        }
+    }
+    let line = format!("program: stopped with none, some, all of its files: {counts:?}\n");
+    std::io::stderr().write_all(line.as_bytes()).unwrap();
+}
+
 /// Names with blanks, dashes, newlines and bytes that are no text; several pictures at once.
 #[test]
 fn odd_names() {
@@ -581,6 +622,7 @@ fn odd_names() {
     .ended(0, "");
     assert_eq!(names(&folder).len(), 6 * 5);
     assert!(names(&folder).contains(&"f.g.h.record.txt".into()));
+    run(&folder, &["\u{1b}[31m\n"]).ended(2, "stand: ?[31m?: it could not be opened");
     #[cfg(unix)]
     {
         use std::os::unix::ffi::OsStrExt;

@@ -1,6 +1,6 @@
 //! Checks a filed result: the files beside the record against it, and the picture, cut again.
 
-use crate::progress::Step;
+use crate::progress::{shown, Step};
 use crate::{picture, Failure};
 use stand::filing::{self, Place};
 use stand::record::Record;
@@ -34,7 +34,7 @@ impl Found {
 const MOST_RECORD: u64 = 65_536;
 
 fn failed(path: &Path, why: io::Error) -> Failure {
-    Failure::File(format!("{} could not be read: {why}", path.display()))
+    Failure::file(format!("{} could not be read: {why}", path.display()))
 }
 
 fn text(path: &Path) -> io::Result<String> {
@@ -67,7 +67,7 @@ fn place(path: &Path) -> Result<Place, Failure> {
     };
     if place.path(filing::RECORD) != path {
         let end = filing::RECORD;
-        return Err(Failure::File(format!(
+        return Err(Failure::file(format!(
             "the name of a record ends in .{end}"
         )));
     }
@@ -78,7 +78,7 @@ fn place(path: &Path) -> Result<Place, Failure> {
 pub fn check(path: &Path, given: Option<&Path>) -> Result<Found, Failure> {
     let place = place(path)?;
     let text = text(path).map_err(|why| failed(path, why))?;
-    let record = Record::read(&text).map_err(Failure::File)?;
+    let record = Record::read(&text).map_err(Failure::file)?;
     let mut found = Found {
         alike: true,
         ..Found::default()
@@ -88,11 +88,11 @@ pub fn check(path: &Path, given: Option<&Path>) -> Result<Found, Failure> {
         (filing::WEIGHTS, &record.weights),
     ] {
         let path = place.path(end);
-        found.line(path.display(), sum(path.clone())? == *recorded);
+        found.line(shown(&path), sum(path.clone())? == *recorded);
     }
     if let Some(path) = given {
         let (image, own) = picture(path, false)?;
-        found.line(path.display(), own == record.picture);
+        found.line(shown(path), own == record.picture);
         let _step = Step::begin(format!("cutting {}", path.display()), false);
         let again = filing::results(&image, &record.picture, &record.settings)?.record;
         found.line(

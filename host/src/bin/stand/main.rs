@@ -6,7 +6,7 @@ mod options;
 mod progress;
 
 use options::{Asked, Work};
-use progress::{say, tell, Step};
+use progress::{say, shown, tell, Step};
 use stand::filing::{self, Place, Results, Unwritten};
 use stand::netpbm::{self, Fault, Image};
 use stand::Refusal;
@@ -15,49 +15,57 @@ use std::io::{self, Read};
 use std::path::{Path, PathBuf};
 use std::process::ExitCode;
 
-/// Why there is no result. It ends the program with status 1 or 2.
-enum Failure {
-    /// Document 01's refusals.
-    Refused(Refusal),
-    /// A file that is not as it should be.
-    File(String),
+/// Why there is no result.
+struct Failure {
+    /// What the program ends with: 1 for document 01's refusals, 2 for files that are not as they
+    /// should be.
+    status: u8,
+    text: String,
+}
+
+impl Failure {
+    fn file(text: impl Into<String>) -> Failure {
+        Failure {
+            status: 2,
+            text: text.into(),
+        }
+    }
+
+    /// Says why, of what, and gives the program's status.
+    fn say(&self, of: &Path) -> u8 {
+        say(format!("{}: {}", of.display(), self.text));
+        self.status
+    }
 }
 
 impl From<Refusal> for Failure {
     fn from(why: Refusal) -> Failure {
-        Failure::Refused(why)
+        Failure {
+            status: 1,
+            text: why.to_string(),
+        }
     }
 }
 
 impl From<Fault> for Failure {
     fn from(why: Fault) -> Failure {
-        match why {
-            Fault::Refused(why) => Failure::Refused(why),
-            other => Failure::File(other.to_string()),
+        Failure {
+            status: if matches!(why, Fault::Sides(..)) {
+                1
+            } else {
+                2
+            },
+            text: why.to_string(),
         }
     }
 }
 
 impl From<Unwritten> for Failure {
     fn from(why: Unwritten) -> Failure {
-        Failure::File(match why {
+        Failure::file(match why {
             Unwritten::Taken(_) => format!("{why}; add --force, or choose another --name or --out"),
             other => other.to_string(),
         })
-    }
-}
-
-impl Failure {
-    /// Says why, of what, and gives the program's status.
-    fn say(&self, of: &Path) -> u8 {
-        match self {
-            Failure::Refused(why) => say(format!("{}: {why}", of.display())),
-            Failure::File(why) => say(format!("{}: {why}", of.display())),
-        }
-        match self {
-            Failure::Refused(_) => 1,
-            Failure::File(_) => 2,
-        }
     }
 }
 
@@ -68,9 +76,9 @@ fn picture(path: &Path, quiet: bool) -> Result<(Image, String), Failure> {
         Box::new(io::stdin().lock())
     } else {
         if path.is_dir() {
-            return Err(Failure::File("it is a folder; give a picture".into()));
+            return Err(Failure::file("it is a folder; give a picture"));
         }
-        let failed = |why| Failure::File(format!("it could not be opened: {why}"));
+        let failed = |why| Failure::file(format!("it could not be opened: {why}"));
         Box::new(File::open(path).map_err(failed)?)
     };
     Ok(netpbm::read(input)?)
@@ -82,7 +90,7 @@ fn usable(place: &Place, force: bool, path: &Path) -> Result<(), Failure> {
     let folder = &place.folder;
     if !folder.as_os_str().is_empty() && !folder.is_dir() {
         let text = format!("there is no folder {}; make it first", folder.display());
-        return Err(Failure::File(text));
+        return Err(Failure::file(text));
     }
     match place.taken() {
         Some(taken) if !force => return Err(Unwritten::Taken(taken).into()),
@@ -92,7 +100,7 @@ fn usable(place: &Place, force: bool, path: &Path) -> Result<(), Failure> {
     let ends = filing::ENDS.map(|end| fs::canonicalize(place.path(end)).ok());
     if own.is_some() && ends.contains(&own) {
         let text = "a result would take the picture's place; choose another --name or --out";
-        return Err(Failure::File(text.into()));
+        return Err(Failure::file(text));
     }
     Ok(())
 }
@@ -137,12 +145,12 @@ fn found(results: &Results) -> &'static str {
 fn summary(path: &Path, place: &Place, results: &Results) -> String {
     let record = &results.record;
     let (rows, cols) = (&record.crop.rows, &record.crop.cols);
-    let shown = |end| place.path(end).display().to_string();
-    let filed = [filing::RECORD, filing::MASK, filing::WEIGHTS].map(shown);
+    let result = |end| shown(&place.path(end));
+    let filed = [filing::RECORD, filing::MASK, filing::WEIGHTS].map(result);
     format!(
         "{}: {}\n  object: {} of {} pixels; crop box: rows {} to {}, columns {} to {} (ends \
          excluded)\n  to look at: {}\n  to be filed: {}\n",
-        path.display(),
+        shown(path),
         found(results),
         results.object,
         record.h * record.w,
@@ -150,7 +158,7 @@ fn summary(path: &Path, place: &Place, results: &Results) -> String {
         rows.end,
         cols.start,
         cols.end,
-        shown(filing::PREVIEW),
+        result(filing::PREVIEW),
         filed.join(", ")
     )
 }
@@ -178,7 +186,7 @@ fn told(result: io::Result<()>) -> u8 {
 fn main() -> ExitCode {
     let status = match options::read(std::env::args_os().skip(1)) {
         Err(sentence) => {
-            say(format!("{sentence}\nstand --help says how it is used"));
+            say(format!("{sentence} (stand --help says how it is used)"));
             2
         }
         Ok(Asked::Help) => told(tell(include_str!("help.txt"))),

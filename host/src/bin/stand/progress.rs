@@ -2,13 +2,25 @@
 
 use std::fmt::Display;
 use std::io::{self, ErrorKind, Write};
+use std::path::Path;
 use std::sync::mpsc::{self, RecvTimeoutError, Sender};
 use std::thread::{Builder, JoinHandle};
 use std::time::{Duration, Instant};
 
 /// Says a line on standard error.
 pub fn say(text: impl Display) {
-    let _ = writeln!(io::stderr(), "stand: {text}");
+    let _ = writeln!(io::stderr(), "stand: {}", printable(text));
+}
+
+/// A text, or a path's, with a mark for what a terminal would take as a command.
+fn printable(text: impl Display) -> String {
+    let mark = |c: char| if c.is_control() { '?' } else { c };
+    text.to_string().chars().map(mark).collect()
+}
+
+/// A path as it is shown.
+pub fn shown(path: &Path) -> String {
+    printable(path.display())
 }
 
 /// Writes a text to standard output. That nobody reads it is no failure.
