@@ -576,6 +576,40 @@ mod tests {
         assert!(pixels(&[PAM, b"a"].concat()).is_err());
     }
 
+    /// Pictures with some bytes changed are read whole or not at all.
+    #[test]
+    fn changed() {
+        let bases = [
+            PAM,
+            b"P6 2 1 255 \x01\x02\x03#\x06\x07",
+            b"P3 2 1 255 1 2 3 35 6 7\n",
+        ];
+        let mut state = 1u64;
+        let mut random = |n: usize| {
+            state = state
+                .wrapping_mul(6364136223846793005)
+                .wrapping_add(1442695040888963407);
+            (state >> 33) as usize % n
+        };
+        let mut accepted = 0;
+        for at in 0..30_000 {
+            let mut bytes = bases[at % 3].to_vec();
+            for _ in 0..=random(3) {
+                let place = random(bytes.len());
+                match random(4) {
+                    0 => drop(bytes.remove(place)),
+                    1 => bytes.insert(place, b"0 19\n#P"[random(7)]),
+                    _ => bytes[place] = random(256) as u8,
+                }
+            }
+            if let Ok((h, w, rgb, alpha)) = pixels(&bytes) {
+                assert!(h * w > 0 && rgb.len() == 3 * h * w && alpha.len() == h * w);
+                accepted += 1;
+            }
+        }
+        assert!(accepted > 1000, "{accepted}");
+    }
+
     /// Inputs without an end are left after some bytes.
     #[test]
     fn endless() {

@@ -639,11 +639,11 @@ fn odd_names() {
     }
 }
 
-/// Nobody reads what it says, or it cannot be written: no panic, and the results are there.
+/// Standard output is closed or full: no panic, and the results are there.
 #[test]
 #[cfg(unix)]
-fn nobody_listens() {
-    let folder = folder("deaf");
+fn closed_output() {
+    let folder = folder("closed");
     fs::write(folder.join("a.ppm"), b"P6 1 1 255\nabc").unwrap();
     let mut command = program(&folder, &["a.ppm"]);
     command.stdout(Stdio::piped()).stderr(Stdio::piped());

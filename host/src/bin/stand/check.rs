@@ -10,7 +10,6 @@ use std::io::{self, Read};
 use std::path::{Path, PathBuf};
 
 /// What a check found.
-#[derive(Default)]
 pub struct Found {
     /// A line for each comparison.
     pub text: String,
@@ -80,8 +79,8 @@ pub fn check(path: &Path, given: Option<&Path>) -> Result<Found, Failure> {
     let text = text(path).map_err(|why| failed(path, why))?;
     let record = Record::read(&text).map_err(Failure::file)?;
     let mut found = Found {
+        text: String::new(),
         alike: true,
-        ..Found::default()
     };
     for (end, recorded) in [
         (filing::MASK, &record.mask),

@@ -1,4 +1,4 @@
-//! What the program says while it works and afterwards; it goes on where nobody can hear it.
+//! What the program says while it works and afterwards. It goes on where its output is closed.
 
 use std::fmt::Display;
 use std::io::{self, ErrorKind, Write};
