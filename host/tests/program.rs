@@ -277,6 +277,44 @@ fn random_pictures() {
     );
 }
 
+/// A script that shares no code with the library derives the filed outline from the picture and the
+/// record.
+#[test]
+fn derived_without_rust() {
+    let folder = folder("derived");
+    let script = Path::new(env!("CARGO_MANIFEST_DIR")).with_file_name("examples/derive.py");
+    let mut random = Random(3);
+    let ppm = [b"P6\n300 300\n255\n", &draw::badge().rgb[..]].concat();
+    let mut pictures = vec![ppm, netpbm::pam(&draw::ticket())];
+    pictures.extend((0..8).map(|_| netpbm::pam(&random_image(&mut random))));
+    for (at, picture) in pictures.iter().enumerate() {
+        fs::write(folder.join("a.pam"), picture).unwrap();
+        let fringe = format!("--fringe={}", at % 4);
+        let tolerance = format!("--tolerance={}", 0.02 + at as f64 / 100.0);
+        let words = [
+            "--force",
+            "--alpha-threshold=1",
+            &fringe,
+            &tolerance,
+            "a.pam",
+        ];
+        run(&folder, &words).ended(0, "");
+        let mut python = Command::new("python3");
+        python.current_dir(&folder).arg(&script);
+        let output = match python.args(["a.record.txt", "a.pam"]).output() {
+            Err(why) if why.kind() == std::io::ErrorKind::NotFound => {
+                let line = b"skipped: there is no python3 to derive an outline\n";
+                return std::io::stderr().write_all(line).unwrap();
+            }
+            other => other.expect("python3"),
+        };
+        let text = String::from_utf8_lossy(&output.stdout);
+        let said = String::from_utf8_lossy(&output.stderr);
+        assert!(output.status.success(), "picture {at}:\n{text}{said}");
+        assert_eq!(text.matches(": as filed\n").count(), 8, "{text}");
+    }
+}
+
 /// One picture in all forms that are read, from a file and from standard input.
 #[test]
 fn forms() {
