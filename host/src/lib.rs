@@ -13,6 +13,9 @@
 //! its [`Refusal`]. Whoever cuts one picture after the other and wants to keep the buffers calls
 //! [`raw`] instead, with buffers of [`work_len`] numbers.
 //!
+//! The program `stand` cuts picture files; [`netpbm`], [`filing`], [`record`] and [`preview`] are
+//! what it reads and writes.
+//!
 //! ```
 //! use stand::{Picture, Settings};
 //!
@@ -43,8 +46,14 @@
 use std::fmt;
 use std::ops::Range;
 
+pub mod filing;
+pub mod netpbm;
+pub mod png;
+pub mod preview;
 #[allow(unsafe_code)]
 pub mod raw;
+pub mod record;
+pub mod sha256;
 
 /// The longest side of a plane, in pixels.
 pub const MOST_SIDE: usize = 4096;

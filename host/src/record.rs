@@ -1,0 +1,253 @@
+//! The record that is filed with a cut: a text that says what was cut, how, and to what.
+//!
+//! ```text
+//! stand record 1
+//! rows: 5
+//! columns: 5
+//! alpha_threshold: 128
+//! key_bg: yes
+//! key_bg_fringe: 1
+//! key_bg_tolerance: 0.03125
+//! key_bg_tolerance_bits: 3fa0000000000000
+//! crop_to_alpha: yes
+//! keyed: yes
+//! crop: 1 4 1 4
+//! picture_sha256: (64 digits)
+//! mask_sha256: (64 digits)
+//! weights_sha256: (64 digits)
+//! ```
+//!
+//! The lines stand in this order, each ends with a newline, and after the first each is a key, a
+//! colon, a space and a value. The tolerance is written as the shortest decimal number that gives
+//! the same f64 back, and again as the f64's 64 bits in hexadecimal. The crop box is its first row,
+//! the row after its last, its first column and the column after its last. The sums are of the bytes
+//! of three files: the picture, the mask and the weights.
+
+use crate::{Crop, Settings};
+use std::fmt;
+
+/// What a record says.
+#[derive(Clone, Debug, PartialEq)]
+pub struct Record {
+    /// How many rows the picture has.
+    pub h: usize,
+    /// How many columns the picture has.
+    pub w: usize,
+    /// The settings of the cut.
+    pub settings: Settings,
+    /// Whether a ground was sought and found.
+    pub keyed: bool,
+    /// The crop box.
+    pub crop: Crop,
+    /// The SHA-256 of the picture's file, in hexadecimal.
+    pub picture: String,
+    /// The SHA-256 of the mask's file.
+    pub mask: String,
+    /// The SHA-256 of the weights' file.
+    pub weights: String,
+}
+
+/// The first line of a record.
+const FORM: &str = "stand record 1";
+
+fn yes_or_no(yes: bool) -> &'static str {
+    if yes {
+        "yes"
+    } else {
+        "no"
+    }
+}
+
+/// The text of the record.
+impl fmt::Display for Record {
+    fn fmt(&self, f: &mut fmt::Formatter<'_>) -> fmt::Result {
+        let settings = &self.settings;
+        let tolerance = settings.key_bg_tolerance;
+        let Crop { rows, cols } = &self.crop;
+        writeln!(f, "{FORM}")?;
+        writeln!(f, "rows: {}", self.h)?;
+        writeln!(f, "columns: {}", self.w)?;
+        writeln!(f, "alpha_threshold: {}", settings.alpha_threshold)?;
+        writeln!(f, "key_bg: {}", yes_or_no(settings.key_bg))?;
+        writeln!(f, "key_bg_fringe: {}", settings.key_bg_fringe)?;
+        writeln!(f, "key_bg_tolerance: {tolerance}")?;
+        writeln!(f, "key_bg_tolerance_bits: {:016x}", tolerance.to_bits())?;
+        writeln!(f, "crop_to_alpha: {}", yes_or_no(settings.crop_to_alpha))?;
+        writeln!(f, "keyed: {}", yes_or_no(self.keyed))?;
+        writeln!(
+            f,
+            "crop: {} {} {} {}",
+            rows.start, rows.end, cols.start, cols.end
+        )?;
+        writeln!(f, "picture_sha256: {}", self.picture)?;
+        writeln!(f, "mask_sha256: {}", self.mask)?;
+        writeln!(f, "weights_sha256: {}", self.weights)
+    }
+}
+
+/// The values of a record's lines, taken one after the other.
+struct Values<'a>(std::str::Lines<'a>);
+
+impl<'a> Values<'a> {
+    /// The value of the next line, which must have this key.
+    fn text(&mut self, key: &str) -> Result<&'a str, String> {
+        let line = self.0.next().unwrap_or("");
+        line.strip_prefix(key)
+            .and_then(|rest| rest.strip_prefix(": "))
+            .ok_or_else(|| format!("the record has \"{line}\" where its {key} belongs"))
+    }
+
+    fn number<T: std::str::FromStr>(&mut self, key: &str) -> Result<T, String> {
+        let text = self.text(key)?;
+        text.parse()
+            .map_err(|_| format!("the record's {key} is \"{text}\""))
+    }
+
+    fn yes(&mut self, key: &str) -> Result<bool, String> {
+        Ok(self.text(key)? == "yes")
+    }
+
+    fn crop(&mut self, key: &str) -> Result<Crop, String> {
+        let text = self.text(key)?;
+        let numbers: Vec<usize> = text.split(' ').flat_map(str::parse).collect();
+        match numbers[..] {
+            [y0, y1, x0, x1] => Ok(Crop {
+                rows: y0..y1,
+                cols: x0..x1,
+            }),
+            _ => Err(format!("the record's {key} is \"{text}\"")),
+        }
+    }
+
+    fn sum(&mut self, key: &str) -> Result<String, String> {
+        let text = self.text(key)?;
+        let hex = |c: char| c.is_ascii_digit() || ('a'..='f').contains(&c);
+        if text.len() == 64 && text.chars().all(hex) {
+            Ok(text.into())
+        } else {
+            Err(format!("the record's {key} is \"{text}\""))
+        }
+    }
+}
+
+impl Record {
+    /// Reads a text in the form of a record, or says where it is not.
+    pub fn read(text: &str) -> Result<Record, String> {
+        let mut values = Values(text.lines());
+        let first = values.0.next().unwrap_or("");
+        if first != FORM {
+            return Err(format!("the first line is not \"{FORM}\""));
+        }
+        let record = Record {
+            h: values.number("rows")?,
+            w: values.number("columns")?,
+            settings: Settings {
+                alpha_threshold: values.number("alpha_threshold")?,
+                key_bg: values.yes("key_bg")?,
+                key_bg_fringe: values.number("key_bg_fringe")?,
+                key_bg_tolerance: {
+                    let tolerance = values.number("key_bg_tolerance")?;
+                    values.text("key_bg_tolerance_bits")?;
+                    tolerance
+                },
+                crop_to_alpha: values.yes("crop_to_alpha")?,
+            },
+            keyed: values.yes("keyed")?,
+            crop: values.crop("crop")?,
+            picture: values.sum("picture_sha256")?,
+            mask: values.sum("mask_sha256")?,
+            weights: values.sum("weights_sha256")?,
+        };
+        // What the lines above let pass, such as a second blank, is found here.
+        let own = record.to_string();
+        if own == text {
+            return Ok(record);
+        }
+        let differs = text.lines().zip(own.lines()).find(|(a, b)| a != b);
+        Err(match differs {
+            Some((has, should)) => format!("the record has \"{has}\" for \"{should}\""),
+            None => "the record does not end after its last line".into(),
+        })
+    }
+}
+
+#[cfg(test)]
+mod tests {
+    use super::*;
+
+    fn sample(tolerance: f64) -> Record {
+        Record {
+            h: 5,
+            w: 7,
+            settings: Settings {
+                alpha_threshold: -3,
+                key_bg: false,
+                key_bg_fringe: i64::MAX,
+                key_bg_tolerance: tolerance,
+                crop_to_alpha: true,
+            },
+            keyed: true,
+            crop: Crop {
+                rows: 0..5,
+                cols: 1..4,
+            },
+            picture: "0".repeat(64),
+            mask: "a1".repeat(32),
+            weights: "f".repeat(64),
+        }
+    }
+
+    #[test]
+    fn text() {
+        let text = sample(0.03125).to_string();
+        let want = "stand record 1\nrows: 5\ncolumns: 7\nalpha_threshold: -3\nkey_bg: no\n\
+                    key_bg_fringe: 9223372036854775807\nkey_bg_tolerance: 0.03125\n\
+                    key_bg_tolerance_bits: 3fa0000000000000\ncrop_to_alpha: yes\nkeyed: yes\n\
+                    crop: 0 5 1 4\npicture_sha256: 0000";
+        assert!(text.starts_with(want), "{text}");
+    }
+
+    /// The tolerance comes back bit for bit.
+    #[test]
+    fn read_back() {
+        let mut tolerances = vec![
+            0.0,
+            -0.0,
+            0.1,
+            1.0 / 3.0,
+            f64::MAX,
+            f64::MIN_POSITIVE,
+            5e-324,
+        ];
+        let mut bits = 1u64;
+        for _ in 0..10_000 {
+            bits = bits.wrapping_mul(6364136223846793005).wrapping_add(99);
+            tolerances.push(f64::from_bits(bits));
+        }
+        for tolerance in tolerances.into_iter().filter(|t| t.is_finite()) {
+            let text = sample(tolerance).to_string();
+            let back = Record::read(&text).unwrap();
+            assert_eq!(
+                back.settings.key_bg_tolerance.to_bits(),
+                tolerance.to_bits()
+            );
+            assert_eq!(back, sample(tolerance));
+        }
+    }
+
+    /// A record with any byte changed or left out is another record or none.
+    #[test]
+    fn changed() {
+        let record = sample(0.03125);
+        let text = record.to_string();
+        for at in 0..text.len() {
+            let (before, after) = (&text[..at], &text[at + 1..]);
+            for between in ["", " ", "0", "yes", "\n", "\r", "+"] {
+                let changed = format!("{before}{between}{after}");
+                assert!(changed == text || Record::read(&changed).as_ref() != Ok(&record));
+            }
+        }
+        assert!(Record::read(&format!("{text}\n")).is_err());
+        assert!(Record::read("").is_err());
+    }
+}
