@@ -58,16 +58,17 @@ pub fn bits(x: f64) -> u64 {
     0
 }
 
-// The number that is n below 0.
-fn below_zero(n: u32) -> i64 {
-    0 - (n as i64)
+// The number that is n below -1; n is taken below 2^63.
+fn below(n: u64) -> i64 {
+    -1 - ((n % 0x8000_0000_0000_0000) as i64)
 }
 
-// The signed number that starts here: above -2^32 and below 2^63.
+// The signed number that starts here, from -2^63 to 2^63 - 1.
 pub fn signed(text: &[u8], from: usize) -> i64 {
     if from < text.len() {
         if text[from] == b'-' {
-            return below_zero((replay::read::value(text, from + 1) % 0x1_0000_0000) as u32);
+            let n = replay::read::value(text, from + 1);
+            return if n == 0 { 0 } else { below(n - 1) };
         }
     }
     (replay::read::value(text, from) % 0x8000_0000_0000_0000) as i64
