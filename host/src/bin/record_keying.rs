@@ -444,6 +444,19 @@ mod with {
             list.add(&cut(1, 1, Settings::default(), 'C', |_, _| WHITE));
         }
 
+        /// A body whose difference from the card is about 1e-6, with a rim of a tenth of it.
+        pub fn faint(list: &mut List) {
+            for body in [1e-7, below(1e-6), 1e-6, above(1e-6), 2e-6] {
+                list.add(&cut(9, 9, passes(2, 0.0), 'C', |y, x| {
+                    match y.min(x).min(8 - y).min(8 - x) {
+                        0 | 1 => [0.0, -0.0, 0.0],
+                        2 => [0.0, body / 10.0, 0.0],
+                        _ => [0.0, body, body / 2.0],
+                    }
+                }));
+            }
+        }
+
         /// Discs and rings with a soft rim: each p, keying and cropping on and off.
         pub fn shapes(list: &mut List) {
             let bodies = [[0.55, 0.2, 0.15], [0.0; 3], [0.9, 0.9, 0.85]];
@@ -589,6 +602,7 @@ mod with {
 
         let mut list = List::default();
         cuts::document(&mut list);
+        cuts::faint(&mut list);
         cuts::shapes(&mut list);
         cuts::rising(&mut list);
         cuts::alphas(&mut list);
