@@ -20,6 +20,9 @@ fn main() {
 #[path = "../../support/cases.rs"]
 mod cases;
 #[cfg(mask_rs)]
+#[path = "../../support/drawings.rs"]
+mod drawings;
+#[cfg(mask_rs)]
 #[path = "../../support/masks.rs"]
 mod masks;
 #[cfg(mask_rs)]
@@ -35,6 +38,7 @@ fn main() {
 mod with {
     use crate::cases::{Answers, Case, Outline};
     use crate::config::Config;
+    use crate::drawings::{self, mix, Colour, Disc};
     use crate::mask;
     use crate::masks::{bools, Random};
     use crate::pictures::{self, PASSES, THRESHOLDS, TOLERANCES};
@@ -183,7 +187,6 @@ mod with {
         }
     }
 
-    type Colour = [f64; 3];
     const WHITE: Colour = [1.0; 3];
     const BLACK: Colour = [0.0; 3];
 
@@ -227,6 +230,38 @@ mod with {
         }
     }
 
+    /// A picture and settings of a fixed seed.
+    fn drawn(random: &mut Random, h: usize, w: usize, op: char) -> Case {
+        let (colours, suiting) = drawings::colours(random, h, w);
+        let mut one_in = |n: usize| random.below(n) == 0;
+        let (threshold, key_bg, tolerance, crop_to_alpha) =
+            (one_in(4), !one_in(10), one_in(4), !one_in(4));
+        let mut any = |of: usize| random.below(of);
+        let settings = Settings {
+            alpha_threshold: if threshold { THRESHOLDS[any(8)] } else { 128 },
+            key_bg,
+            key_bg_fringe: PASSES[any(9)],
+            key_bg_tolerance: if tolerance {
+                TOLERANCES[any(11)]
+            } else {
+                suiting
+            },
+            crop_to_alpha,
+        };
+        let alpha = match op {
+            'G' => vec![255; h * w],
+            _ => drawings::alpha(random, h * w),
+        };
+        Case {
+            op,
+            h,
+            w,
+            pictures: vec![colours],
+            alpha,
+            settings,
+        }
+    }
+
     fn passes(p: i64, tolerance: f64) -> Settings {
         Settings {
             key_bg_fringe: p,
@@ -239,7 +274,7 @@ mod with {
         use super::*;
 
         /// The cases of document 01, and grounds that only a corner joins.
-        pub fn drawn(list: &mut List) {
+        pub fn by_hand(list: &mut List) {
             list.add(&ground(1, 1, 0.0, |_, _| WHITE));
             for last in [0, 1] {
                 let black = |y, x| y == 0 && x <= last;
@@ -383,15 +418,7 @@ mod with {
             let (mut added, mut absent) = (0, 0);
             while added < 120 {
                 let (h, w) = pictures::sides(&mut random, if added % 8 == 0 { 24 } else { 9 });
-                let drawn = pictures::draw(&mut random, h, w);
-                let case = Case {
-                    op: 'G',
-                    h,
-                    w,
-                    alpha: vec![255; h * w],
-                    settings: drawn.settings,
-                    pictures: vec![drawn.colours],
-                };
+                let case = drawn(&mut random, h, w, 'G');
                 let there = case.answer(&MaskRs).contains("found");
                 let kept = there || absent < 40;
                 if kept && case.text().is_some_and(|text| text.len() < 1500) && list.add(&case) {
@@ -404,24 +431,6 @@ mod with {
 
     mod cuts {
         use super::*;
-
-        /// A disc or a ring with a rim of `soft` pixels in sixteenths.
-        fn cover(h: usize, w: usize, ring: bool, soft: f64, y: usize, x: usize) -> f64 {
-            let side = h.min(w) as f64;
-            let (dy, dx) = (y as f64 - h as f64 / 2.0, x as f64 - w as f64 / 2.0);
-            let d = dy.hypot(dx);
-            let outer = side * 0.38 - d;
-            let gap = if ring {
-                outer.min(d - side * 0.15)
-            } else {
-                outer
-            };
-            ((gap / soft + 0.5).clamp(0.0, 1.0) * 16.0).round() / 16.0
-        }
-
-        fn mix(a: Colour, b: Colour, part: f64) -> Colour {
-            [0, 1, 2].map(|c| a[c] * (1.0 - part) + b[c] * part)
-        }
 
         /// The cases of document 01.
         pub fn document(list: &mut List) {
@@ -464,7 +473,14 @@ mod with {
             let mut round = 0;
             for p in PASSES {
                 for (h, w, soft) in sides {
-                    let ring = round % 2 == 0;
+                    let side = h.min(w) as f64;
+                    let disc = Disc {
+                        cy: h as f64 / 2.0,
+                        cx: w as f64 / 2.0,
+                        outer: side * 0.38,
+                        inner: (round % 2 == 0).then_some(side * 0.15),
+                        soft,
+                    };
                     let body = bodies[round % 3];
                     let settings = Settings {
                         key_bg: round % 7 != 3,
@@ -473,7 +489,7 @@ mod with {
                         ..passes(p, [0.03125, 0.0][round % 2])
                     };
                     list.add(&cut(h, w, settings, 'C', |y, x| {
-                        mix(WHITE, body, cover(h, w, ring, soft, y, x))
+                        mix(WHITE, body, disc.cover(y, x))
                     }));
                     round += 1;
                 }
@@ -529,15 +545,7 @@ mod with {
             while added < 110 {
                 let most = if added % 6 == 0 { 26 } else { 12 };
                 let (h, w) = pictures::sides(&mut random, most);
-                let drawn = pictures::draw(&mut random, h, w);
-                let case = Case {
-                    op: 'C',
-                    h,
-                    w,
-                    alpha: drawn.alpha,
-                    settings: drawn.settings,
-                    pictures: vec![drawn.colours],
-                };
+                let case = drawn(&mut random, h, w, 'C');
                 let grown = passes_with_a_join(&case, &case.pictures[0]) > 0;
                 let kept = grown || others < 55;
                 if kept && case.text().is_some_and(|text| text.len() < 2600) && list.add(&case) {
@@ -593,7 +601,7 @@ mod with {
             .map(PathBuf::from)
             .unwrap_or_else(|| PathBuf::from(env!("CARGO_MANIFEST_DIR")).join("../crates"));
         let mut list = List::default();
-        grounds::drawn(&mut list);
+        grounds::by_hand(&mut list);
         grounds::nine_tenths(&mut list);
         grounds::neighbours(&mut list);
         grounds::tolerances(&mut list);
