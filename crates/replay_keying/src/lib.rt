@@ -379,7 +379,7 @@ fn cases(text: &[u8]) {
     }
 }
 
-// The whole of standard input, up to 262,144 bytes.
+// All of standard input, up to 262,144 bytes.
 pub fn run() {
     let mut text = [0u8; 262144];
     let n = io::read_full(libc::STDIN_FILENO, &mut text);

@@ -1,5 +1,7 @@
 // Numbers in the text: floats by their bits, as 16 hexadecimal digits; signed numbers in decimal.
 ghost use mathlib.Core.Path.{_≡_};
+ghost use mathlib.Core.Bool.{true, cond};
+ghost use lib.Ieee.{binary64, ofBits, toBits, nanBits, eq};
 
 // The value of a hexadecimal digit, 0 to 9 and a to f; 16 for any other byte.
 fn digit_value(b: u8) -> u64 {
@@ -43,7 +45,9 @@ pub fn hex(text: &[u8], from: usize) -> u64 {
 }
 
 // The float of these bits; 0 for the bits of a NaN.
-pub fn float(bits: u64) -> f64 {
+pub fn float(bits: u64) -> f64
+    ensures { λ r. ⌜ r ≡ cond (nanBits binary64 bits) (ofBits binary64 0) (ofBits binary64 bits) ⌝ }
+{
     if 0x7ff0_0000_0000_0000 < bits % 0x8000_0000_0000_0000 {
         return 0.0;
     }
@@ -51,7 +55,9 @@ pub fn float(bits: u64) -> f64 {
 }
 
 // The bits of a float; 0 for a NaN.
-pub fn bits(x: f64) -> u64 {
+pub fn bits(x: f64) -> u64
+    ensures { λ r. ⌜ (eq x x ≡ true → r ≡ toBits binary64 x) ⌝ }
+{
     if x == x {
         return f64::to_bits(x);
     }

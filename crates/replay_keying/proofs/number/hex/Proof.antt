@@ -1,13 +1,11 @@
 -- `replay_keying::number::hex` is safe and ends.
 -- Assumes nothing.
-use mathlib.Core.Path.{_≡_, refl, _∙_}
 use Prim.Native.Nat.{_-_}
 use native.Mathlib.Omega.{arith}
 use borrow.Author.Needs.{needs}
 use lib.ListN.{length}
 use Rattle.replay_keying.proofs.number.hex.Statement.{statement}
 use Rattle.replay_keying.proofs.number.hex.Tie as tie
-use Rattle.replay_keying.proofs.number.digit_value.Reads as digit-value-reads
 
 abbrev Inv-loop : tie.InvT-loop
 Inv-loop text from n₀ i₀ n i = Unit {0}

@@ -1,13 +1,11 @@
 -- `replay_keying::number::put_hex` is safe and ends.
 -- Assumes nothing.
-use mathlib.Core.Path.{_≡_, refl, _∙_}
-use Prim.Native.Nat.{_-_}
+use mathlib.Core.Path.{_≡_}
 use native.Mathlib.Omega.{arith}
 use borrow.Author.Needs.{needs}
 use lib.ListN.{length}
 use Rattle.replay_keying.proofs.number.put_hex.Statement.{statement}
 use Rattle.replay_keying.proofs.number.put_hex.Tie as tie
-use Rattle.replay_keying.proofs.number.hex_digit.Reads as hex-digit-reads
 
 abbrev Inv-loop : tie.InvT-loop
 Inv-loop out₀ start n unit₀ at₀ out unit at = length out ≡ length out₀

@@ -1,10 +1,7 @@
 -- `replay_keying::picture::words` is safe and ends.
 -- Assumes nothing.
-use mathlib.Core.Path.{_≡_, refl, _∙_}
 use Prim.Native.Nat.{_-_}
-use native.Mathlib.Omega.{arith}
 use borrow.Author.Needs.{needs}
-use lib.ListN.{length, length-set}
 use Rattle.replay_keying.proofs.picture.words.Statement.{statement}
 use Rattle.replay_keying.proofs.picture.words.Tie as tie
 
