@@ -17,8 +17,9 @@ mod picture;
 
 use colour::Settings;
 
-pub const MOST_PIXELS: usize = 1024;
+const MOST_PIXELS: usize = 1024;
 
+// The most entries of a palette.
 const MOST_COLOURS: usize = 80;
 
 // What a work buffer of such a plane holds at least: 2 × h × w + 2 × (h + w) + 16 numbers.
@@ -285,7 +286,7 @@ fn replay_case(
         return next;
     }
     let n = replay::read::area(h, w);
-    let mut other = [0.0f64; 3072];
+    let mut other = [0.0f64; 3 * MOST_PIXELS];
     let seconds = &mut other[0..3 * n];
     pair_case(
         text,
@@ -323,7 +324,7 @@ fn sized_case(
     let line = picture::floats(text, palette, shades);
     let body = picture::bytes(text, line, levels);
     let mut codes = [0u8; MOST_PIXELS];
-    let mut colours = [0.0f64; 3072];
+    let mut colours = [0.0f64; 3 * MOST_PIXELS];
     let mut alpha = [0u8; MOST_PIXELS];
     replay_case(
         text,
@@ -352,7 +353,7 @@ fn one_case(text: &[u8], from: usize) -> usize {
     if MOST_COLOURS < k {
         return text.len();
     }
-    let mut shades = [0.0f64; 240];
+    let mut shades = [0.0f64; 3 * MOST_COLOURS];
     let mut levels = [0u8; MOST_COLOURS];
     sized_case(
         text,
