@@ -79,8 +79,8 @@ impl Disc {
 }
 
 /// The colours of each pixel, from a function of its index.
-fn plane(n: usize, mut of: impl FnMut(usize) -> Colour) -> Vec<f64> {
-    (0..n).flat_map(|i| of(i)).collect()
+fn plane(n: usize, of: impl FnMut(usize) -> Colour) -> Vec<f64> {
+    (0..n).flat_map(of).collect()
 }
 
 /// A few colours, one of them on most of the border.

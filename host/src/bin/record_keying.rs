@@ -299,31 +299,35 @@ mod with {
             }
         }
 
+        /// Sides with borders of many lengths, one row or column and more.
+        const LINES: [(usize, usize); 9] = [
+            (1, 9),
+            (1, 10),
+            (1, 20),
+            (1, 30),
+            (1, 200),
+            (10, 1),
+            (11, 1),
+            (21, 1),
+            (101, 1),
+        ];
+        const SIDES: [(usize, usize); 10] = [
+            (2, 2),
+            (2, 4),
+            (2, 9),
+            (3, 4),
+            (4, 3),
+            (6, 6),
+            (5, 8),
+            (12, 10),
+            (7, 30),
+            (32, 32),
+        ];
+
         /// As many border entries off as nine tenths allow, and one pixel more.
         pub fn nine_tenths(list: &mut List) {
-            let sides = [
-                (1, 10),
-                (1, 20),
-                (1, 30),
-                (1, 200),
-                (1, 9),
-                (11, 1),
-                (21, 1),
-                (101, 1),
-                (10, 1),
-                (2, 2),
-                (2, 4),
-                (2, 9),
-                (3, 4),
-                (4, 3),
-                (6, 6),
-                (5, 8),
-                (12, 10),
-                (7, 30),
-                (32, 32),
-            ];
             let mut random = Random(31);
-            for (h, w) in sides {
+            for (h, w) in LINES.into_iter().chain(SIDES) {
                 let border = pictures::border(h, w);
                 let mut off = vec![false; h * w];
                 // A pixel inside, so that not all is ground.
