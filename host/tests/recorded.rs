@@ -1,5 +1,10 @@
 //! The recorded lists of mask.rs's and SciPy's answers, replayed through the C interface.
 
+#[path = "../support/cases.rs"]
+mod cases;
+
+use cases::{Answers, Case, Outline};
+use stand::{Picture, Settings};
 use std::fmt::Write as _;
 use std::fs;
 use std::io::Write as _;
@@ -69,17 +74,22 @@ fn answered(stdin: &str) -> (String, usize) {
     (out, cases)
 }
 
-fn replay(name: &str) {
-    let stdin = fs::read_to_string(folder(name).join("stdin")).expect("stdin");
-    let stdout = fs::read_to_string(folder(name).join("stdout")).expect("stdout");
-    let (ours, cases) = answered(&stdin);
+/// Holds our answers to be the recorded ones.
+fn compare(name: &str, folder: &Path, ours: &str, cases: usize) {
+    let stdout = fs::read_to_string(folder.join("stdout")).expect("stdout");
     for (at, (a, b)) in ours.lines().zip(stdout.lines()).enumerate() {
-        assert_eq!(a, b, "line {} of recorded/{name}/stdout", at + 1);
+        assert_eq!(a, b, "line {} of {name}/stdout", at + 1);
     }
-    assert_eq!(ours.len(), stdout.len(), "recorded/{name}/stdout");
-    assert!(cases >= 200, "{cases} cases");
+    assert_eq!(ours.len(), stdout.len(), "{name}/stdout");
     let line = format!("recorded list {name}: {cases} cases equal\n");
     std::io::stderr().write_all(line.as_bytes()).unwrap();
+}
+
+fn replay(name: &str) {
+    let stdin = fs::read_to_string(folder(name).join("stdin")).expect("stdin");
+    let (ours, cases) = answered(&stdin);
+    compare(name, &folder(name), &ours, cases);
+    assert!(cases >= 200, "{cases} cases");
 }
 
 #[test]
@@ -92,15 +102,81 @@ fn scipys_answers() {
     replay("scipy");
 }
 
-/// The list in the repository is what the generator writes today.
+/// Where the lists of ground and cut are: beside the programs that are run on them.
+fn program_folder(name: &str) -> PathBuf {
+    Path::new(env!("CARGO_MANIFEST_DIR"))
+        .join("../crates")
+        .join(name)
+}
+
+struct Ours;
+
+impl Answers for Ours {
+    fn ground(&self, colours: &[f64], h: usize, w: usize, tolerance: f64) -> Option<Vec<u8>> {
+        let found = stand::ground(colours, h, w, tolerance).unwrap();
+        found.map(|ground| ground.plane)
+    }
+
+    fn squares(&self, mask: &[u8], h: usize, w: usize, k: u64) -> Vec<u8> {
+        stand::squares(mask, h, w, k).unwrap()
+    }
+
+    fn cut(
+        &self,
+        colours: &[f64],
+        alpha: &[u8],
+        h: usize,
+        w: usize,
+        s: &Settings,
+    ) -> Result<Outline, u32> {
+        let picture = Picture {
+            colours,
+            alpha,
+            h,
+            w,
+        };
+        let cut = stand::cut(&picture, s).map_err(|refusal| refusal.number())?;
+        let (rows, cols) = (cut.crop.rows, cut.crop.cols);
+        Ok(Outline {
+            mask: cut.mask,
+            weights: cut.weights,
+            keyed: cut.keyed,
+            crop: [rows.start, rows.end, cols.start, cols.end],
+        })
+    }
+}
+
+fn replay_keying(name: &str, least: usize) {
+    let stdin = fs::read_to_string(program_folder(name).join("stdin")).expect("stdin");
+    let mut lines = stdin.lines();
+    let (mut ours, mut cases) = (String::new(), 0);
+    while let Some(case) = Case::read(&mut lines) {
+        ours += &case.answer(&Ours);
+        cases += 1;
+    }
+    compare(name, &program_folder(name), &ours, cases);
+    assert!(cases >= least, "{cases} cases");
+}
+
 #[test]
-#[cfg_attr(
-    not(mask_rs),
-    ignore = "mask.rs is not there: PIXELFORGE_MASK_RS names its place"
-)]
-fn the_rusts_list_is_what_record_writes() {
-    let made = Path::new(env!("CARGO_TARGET_TMPDIR")).join("recorded");
-    let run = std::process::Command::new(env!("CARGO_BIN_EXE_record"))
+fn the_rusts_grounds() {
+    replay_keying("replay_ground", 300);
+}
+
+#[test]
+fn the_rusts_cuts() {
+    replay_keying("replay_cut", 200);
+}
+
+#[test]
+fn the_rusts_pairs() {
+    replay_keying("replay_pair", 9);
+}
+
+/// Runs a generator, and holds what it writes to be what the repository has.
+fn same_lists(generator: &str, made: &str, lists: &[(&str, PathBuf)]) {
+    let made = Path::new(env!("CARGO_TARGET_TMPDIR")).join(made);
+    let run = std::process::Command::new(generator)
         .arg(&made)
         .output()
         .unwrap();
@@ -109,11 +185,28 @@ fn the_rusts_list_is_what_record_writes() {
         "{}",
         String::from_utf8_lossy(&run.stderr)
     );
-    for file in ["stdin", "stdout"] {
-        let kept = fs::read(folder("rust").join(file)).unwrap();
-        assert!(
-            fs::read(made.join(file)).unwrap() == kept,
-            "recorded/rust/{file}"
-        );
+    for (name, kept) in lists {
+        for file in ["stdin", "stdout"] {
+            let same =
+                fs::read(made.join(name).join(file)).unwrap() == fs::read(kept.join(file)).unwrap();
+            assert!(same, "{}", kept.join(file).display());
+        }
     }
+}
+
+/// The lists in the repository are what the generators write today.
+#[test]
+#[cfg_attr(
+    not(mask_rs),
+    ignore = "mask.rs is not there: PIXELFORGE_MASK_RS names its place"
+)]
+fn the_rusts_lists_are_what_the_generators_write() {
+    let planes = env!("CARGO_BIN_EXE_record");
+    same_lists(planes, "recorded", &[("", folder("rust"))]);
+    let names = ["replay_ground", "replay_cut", "replay_pair"];
+    same_lists(
+        env!("CARGO_BIN_EXE_record_keying"),
+        "recorded_keying",
+        &names.map(|name| (name, program_folder(name))),
+    );
 }

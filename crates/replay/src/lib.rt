@@ -2,8 +2,8 @@
 // A case is a line `op h w k`, with op L for labels, S for squares or N for nearest, and then h lines of w digits, 0 for off.
 // Its answer is the same line and then, for L, the number of parts and h lines of w labels; for S, h lines of w digits; for N,
 // h lines of w pairs `row,column`. A plane has at most MOST_PIXELS pixels.
-mod read;
-mod write;
+pub mod read;
+pub mod write;
 
 pub const MOST_PIXELS: usize = 1024;
 

@@ -25,7 +25,7 @@ fn wide(b: u8) -> u64
     b as u64
 }
 
-// The number that starts here, of at most 17 digits.
+// The number that starts here, below 2^64; digits that would lead beyond are left out.
 pub fn value(text: &[u8], from: usize) -> u64 {
     let mut n = 0u64;
     let mut i = from;
@@ -37,7 +37,7 @@ pub fn value(text: &[u8], from: usize) -> u64 {
         if b'9' < b {
             return n;
         }
-        if 1000000000000000 < n {
+        if 1844674407370955160 < n {
             return n;
         }
         n = n * 10 + wide(b - b'0');
