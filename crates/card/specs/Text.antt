@@ -1,0 +1,90 @@
+-- What cutcard prints, byte for byte.
+-- Assumes nothing.
+use Prim.Native.Nat.{ℕ, zero, suc, _+_, _*_, _/_, _%_}
+use mathlib.Core.Bool.{Bool, cond, _||_}
+use mathlib.Core.List.{List, [], _∷_, _++_}
+use lib.Dec.{eqb, leb}
+use lib.ListN.{length, drop}
+use Rattle.labels.specs.Labels.{isOn}
+use Rattle.outline.specs.Cut.{Box, isKeyed, cutMask, cropOf}
+use Rattle.card.specs.Header.{widthOf, heightOf}
+use Rattle.card.specs.Card.{settings, coloursOf, alphaOf, cardNumber}
+
+-- "P1\n# crop ", " keyed ", "refused "
+abbrev pub cropText : List ℕ
+cropText = 80 ∷ 49 ∷ 10 ∷ 35 ∷ 32 ∷ 99 ∷ 114 ∷ 111 ∷ 112 ∷ 32 ∷ []
+
+abbrev pub keyedText : List ℕ
+keyedText = 32 ∷ 107 ∷ 101 ∷ 121 ∷ 101 ∷ 100 ∷ 32 ∷ []
+
+abbrev pub refusedText : List ℕ
+refusedText = 114 ∷ 101 ∷ 102 ∷ 117 ∷ 115 ∷ 101 ∷ 100 ∷ 32 ∷ []
+
+abbrev pub space : List ℕ
+space = 32 ∷ []
+
+abbrev pub newline : List ℕ
+newline = 10 ∷ []
+
+-- the digit '0' or '1' for no or yes
+unfoldable pub bitByte : Bool → ℕ
+bitByte t = cond t 49 48
+
+-- the digit of n at the power of ten d; nothing where n is less than d
+unfoldable pub digitFrom : ℕ → ℕ → List ℕ
+digitFrom d n = cond (leb d n) ((48 + n / d % 10) ∷ []) []
+
+-- a number below 10000 in decimal
+unfoldable pub decimal : ℕ → List ℕ
+decimal n = digitFrom 1000 n ++ digitFrom 100 n ++ digitFrom 10 n ++ ((48 + n % 10) ∷ [])
+
+-- the most digits in a line
+abbrev pub lineLength : ℕ
+lineLength = 70
+
+-- whether a line ends after column x of a row of w pixels
+unfoldable pub endsLine : ℕ → ℕ → Bool
+endsLine w x = eqb ((x + 1) % lineLength) 0 || eqb (x + 1) w
+
+-- pixel i: its digit, 1 for on, and the newline after it where a line ends
+unfoldable pub pixelText : List ℕ → ℕ → ℕ → List ℕ
+pixelText mask w i = bitByte (isOn mask i) ∷ cond (endsLine w (i % w)) newline []
+
+-- the first n pixels in raster order
+unfoldable pub pixelsText : List ℕ → ℕ → ℕ → List ℕ
+pixelsText mask w zero = []
+pixelsText mask w (suc n) = pixelsText mask w n ++ pixelText mask w n
+
+-- P1; # crop y0 y1 x0 x1 keyed k; width and height; the pixels
+unfoldable pub headText : ℕ → ℕ → Bool → Box → List ℕ
+headText h w keyed crop =
+    cropText ++ decimal (crop .y0) ++ space ++ decimal (crop .y1) ++ space ++ decimal (crop .x0) ++ space ++ decimal (crop .x1)
+    ++ keyedText ++ (bitByte keyed ∷ []) ++ newline
+    ++ decimal w ++ space ++ decimal h ++ newline
+
+unfoldable pub maskText : List ℕ → ℕ → ℕ → Bool → Box → List ℕ
+maskText mask h w keyed crop = headText h w keyed crop ++ pixelsText mask w (h * w)
+
+-- the picture's mask in this text
+unfoldable pub acceptedText : List ℕ → List ℕ
+acceptedText input =
+    let h = heightOf input in
+    let w = widthOf input in
+    let mask = cutMask (coloursOf input) (alphaOf input) h w settings in
+    maskText mask h w (isKeyed (coloursOf input) (alphaOf input) h w settings) (cropOf mask h w settings)
+
+-- refused, a space, the number and a newline
+unfoldable pub refusalText : ℕ → List ℕ
+refusalText number = refusedText ++ decimal number ++ newline
+
+-- what is printed for an input
+unfoldable pub cardText : List ℕ → List ℕ
+cardText input = cond (eqb (cardNumber input) 0) (acceptedText input) (refusalText (cardNumber input))
+
+-- the length of the longest text: the lines before the pixels, and two bytes for each of 2304 pixels
+abbrev pub mostText : ℕ
+mostText = 4656
+
+-- a buffer after a text was written at its front
+abbrev pub over : List ℕ → List ℕ → List ℕ
+over text old = text ++ drop (length text) old

@@ -1,0 +1,2 @@
+// The work of cutcard.
+pub fn none() {}
