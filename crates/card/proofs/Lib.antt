@@ -1,2 +1,3 @@
 pub mod Cases
 mod Reading
+mod Written

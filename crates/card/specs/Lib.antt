@@ -1,3 +1,4 @@
 pub mod Header
 pub mod Card
 pub mod Text
+pub mod Writing

@@ -1,0 +1,12 @@
+-- What a function that writes a piece of text ensures. Cited by inner functions only.
+-- Assumes nothing.
+use Prim.Native.Nat.{ℕ, _+_}
+use mathlib.Core.Path.{_≡_}
+use mathlib.Core.List.{List}
+use lib.ListN.{length}
+use lib.Seq.{sets}
+
+-- a piece was written from a place on, its end was answered, and no other byte has changed
+pub record Wrote (piece old new : List ℕ) (at end : ℕ) : Type 0 where
+  pub end-is : end ≡ at + length piece
+  pub bytes-are : new ≡ sets old at piece
