@@ -10,7 +10,7 @@ use native.Mathlib.Omega.{arith}
 use lib.Dec.{leb}
 use lib.ListN.{length, take, drop, getD, set, length-append}
 use lib.Seq.{sets, sets-eq, take-suc, length-take-le}
-use Rattle.card.specs.Text.{newline, digitFrom, decimal, endsLine, pixelText, pixelsText}
+use Rattle.card.specs.Text.{newline, digitFrom, decimal, endsLine, pixelText, pixelsText, pairText, cropLines, sizeLine}
 use Rattle.card.specs.Writing.{Wrote}
 
 -- ---- one piece after the other
@@ -70,6 +70,18 @@ module _ (n : ℕ) where
   pub decimal-short : length (decimal n) ≤ 4
   unfolding decimal
   decimal-short = simp length-append (omega (arith, digit-short 1000, digit-short 100, digit-short 10))
+
+pub pair-short : (a b : ℕ) → length (pairText a b) ≤ 9
+unfolding pairText
+pair-short a b = simp length-append (omega (arith, decimal-short a, decimal-short b))
+
+pub crop-short : (y0 y1 x0 x1 : ℕ) (keyed : Bool) → length (cropLines y0 y1 x0 x1 keyed) ≤ 38
+unfolding cropLines
+crop-short y0 y1 x0 x1 keyed = simp length-append (omega (arith, pair-short y0 y1, pair-short x0 x1))
+
+pub size-short : (h w : ℕ) → length (sizeLine h w) ≤ 10
+unfolding sizeLine
+size-short h w = simp length-append (omega (arith, pair-short w h))
 
 module _ (mask : List ℕ) (w : ℕ) where
   pixel-short : (i : ℕ) → length (pixelText mask w i) ≤ 2

@@ -6,7 +6,7 @@ use mathlib.Core.List.{List, [], _∷_, _++_}
 use lib.Dec.{eqb, leb}
 use lib.ListN.{length, drop}
 use Rattle.labels.specs.Labels.{isOn}
-use Rattle.outline.specs.Cut.{Box, isKeyed, cutMask, cropOf}
+use Rattle.outline.specs.Cut.{isKeyed, cutMask, cropOf}
 use Rattle.card.specs.Header.{widthOf, heightOf}
 use Rattle.card.specs.Card.{settings, coloursOf, alphaOf, cardNumber}
 
@@ -55,23 +55,30 @@ unfoldable pub pixelsText : List ℕ → ℕ → ℕ → List ℕ
 pixelsText mask w zero = []
 pixelsText mask w (suc n) = pixelsText mask w n ++ pixelText mask w n
 
--- P1; # crop y0 y1 x0 x1 keyed k; width and height; the pixels
-unfoldable pub headText : ℕ → ℕ → Bool → Box → List ℕ
-headText h w keyed crop =
-    cropText ++ decimal (crop .y0) ++ space ++ decimal (crop .y1) ++ space ++ decimal (crop .x0) ++ space ++ decimal (crop .x1)
-    ++ keyedText ++ (bitByte keyed ∷ []) ++ newline
-    ++ decimal w ++ space ++ decimal h ++ newline
+-- two numbers with a space between them
+unfoldable pub pairText : ℕ → ℕ → List ℕ
+pairText a b = decimal a ++ space ++ decimal b
 
-unfoldable pub maskText : List ℕ → ℕ → ℕ → Bool → Box → List ℕ
-maskText mask h w keyed crop = headText h w keyed crop ++ pixelsText mask w (h * w)
+-- P1; # crop y0 y1 x0 x1 keyed k
+unfoldable pub cropLines : ℕ → ℕ → ℕ → ℕ → Bool → List ℕ
+cropLines y0 y1 x0 x1 keyed = cropText ++ pairText y0 y1 ++ space ++ pairText x0 x1 ++ keyedText ++ (bitByte keyed ∷ newline)
 
--- the picture's mask in this text
+-- width and height
+unfoldable pub sizeLine : ℕ → ℕ → List ℕ
+sizeLine h w = pairText w h ++ newline
+
+-- a mask with its crop box and keyed flag
+unfoldable pub maskText : List ℕ → ℕ → ℕ → ℕ → ℕ → ℕ → ℕ → Bool → List ℕ
+maskText mask h w y0 y1 x0 x1 keyed = cropLines y0 y1 x0 x1 keyed ++ sizeLine h w ++ pixelsText mask w (h * w)
+
+-- the mask of the input's picture
 unfoldable pub acceptedText : List ℕ → List ℕ
 acceptedText input =
     let h = heightOf input in
     let w = widthOf input in
     let mask = cutMask (coloursOf input) (alphaOf input) h w settings in
-    maskText mask h w (isKeyed (coloursOf input) (alphaOf input) h w settings) (cropOf mask h w settings)
+    let crop = cropOf mask h w settings in
+    maskText mask h w (crop .y0) (crop .y1) (crop .x0) (crop .x1) (isKeyed (coloursOf input) (alphaOf input) h w settings)
 
 -- refused, a space, the number and a newline
 unfoldable pub refusalText : ℕ → List ℕ

@@ -2,11 +2,9 @@
 ghost use mathlib.Core.Path.{_≡_};
 ghost use mathlib.Core.Bool.{cond};
 ghost use mathlib.Core.List.{[], _∷_};
-ghost use Prim.Native.Nat.{ℕ, _+_, _*_, _<_, _≤_};
+ghost use Prim.Native.Nat.{_+_, _*_, _<_, _≤_};
 ghost use lib.ListN.{length};
-ghost use Rattle.outline.specs.Cut.{Box};
-ghost use Rattle.labels.specs.Labels.{isOn};
-ghost use Rattle.card.specs.Text.{bitByte, digitFrom, decimal, endsLine, newline, pixelText, pixelsText, headText, maskText, refusalText};
+ghost use Rattle.card.specs.Text.{bitByte, digitFrom, decimal, endsLine, newline, pixelText, pixelsText, pairText, cropLines, sizeLine, maskText, refusalText};
 ghost use Rattle.card.specs.Writing.{Wrote};
 use keying::crop::Crop;
 
@@ -56,6 +54,16 @@ fn number(out: &mut [u8], at: usize, n: usize) -> usize
     put(out, ones, 48 + (n % 10) as u8)
 }
 
+// Two numbers with a space between them.
+fn pair(out: &mut [u8], at: usize, a: usize, b: usize) -> usize
+    requires { ⌜ at + 9 ≤ length (now out) ⌝ }
+    ensures { λ r. ⌜ Wrote (pairText a b) (now (out .entry)) (now (out .exit)) at r ⌝ }
+{
+    let first = number(out, at, a);
+    let second = put(out, first, b' ');
+    number(out, second, b)
+}
+
 fn bit_byte(t: bool) -> u8
     ensures { λ r. ⌜ r ≡ bitByte t ⌝ }
 {
@@ -102,4 +110,47 @@ fn pixels(out: &mut [u8], at: usize, mask: &[u8], w: usize) -> usize
         i += 1;
     }
     next
+}
+
+// The lines before the size, with the crop box and the keyed flag.
+fn crop_lines(out: &mut [u8], at: usize, crop: Crop, keyed: bool) -> usize
+    requires { ⌜ at + 38 ≤ length (now out) ⌝ }
+    ensures { λ r. ⌜ Wrote (cropLines (crop .y0) (crop .y1) (crop .x0) (crop .x1) keyed) (now (out .entry)) (now (out .exit)) at r ⌝ }
+{
+    let rows = copy(out, at, b"P1\n# crop ");
+    let between = pair(out, rows, crop.y0, crop.y1);
+    let columns = put(out, between, b' ');
+    let word = pair(out, columns, crop.x0, crop.x1);
+    let flag = copy(out, word, b" keyed ");
+    let end = put(out, flag, bit_byte(keyed));
+    put(out, end, b'\n')
+}
+
+// Width and height.
+fn size_line(out: &mut [u8], at: usize, h: usize, w: usize) -> usize
+    requires { ⌜ at + 10 ≤ length (now out) ⌝ }
+    ensures { λ r. ⌜ Wrote (sizeLine h w) (now (out .entry)) (now (out .exit)) at r ⌝ }
+{
+    let end = pair(out, at, w, h);
+    put(out, end, b'\n')
+}
+
+// A mask with its crop box and keyed flag, from the front of the buffer.
+pub fn accepted(out: &mut [u8], mask: &[u8], h: usize, w: usize, crop: Crop, keyed: bool) -> usize
+    requires { ⌜ (0 < w) × (length (now mask) ≡ h * w) × (48 + 2 * (h * w) ≤ length (now out)) ⌝ }
+    ensures { λ r. ⌜ Wrote (maskText (now (mask .entry)) h w (crop .y0) (crop .y1) (crop .x0) (crop .x1) keyed) (now (out .entry)) (now (out .exit)) 0 r ⌝ }
+{
+    let size = crop_lines(out, 0, crop, keyed);
+    let body = size_line(out, size, h, w);
+    pixels(out, body, mask, w)
+}
+
+// A refusal, from the front of the buffer.
+pub fn refused(out: &mut [u8], n: u32) -> usize
+    requires { ⌜ 13 ≤ length (now out) ⌝ }
+    ensures { λ r. ⌜ Wrote (refusalText n) (now (out .entry)) (now (out .exit)) 0 r ⌝ }
+{
+    let at = copy(out, 0, b"refused ");
+    let end = number(out, at, n as usize);
+    put(out, end, b'\n')
 }
