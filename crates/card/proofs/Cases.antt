@@ -27,7 +27,7 @@ use Rattle.outline.specs.Refusal.{firstOf}
 use Rattle.outline.specs.Cut.{alphaMask, isSought, isKeyed, grownGround, cutMask, firstBelow, lastBelow, rowHas, columnHas, lesserOf, boxOf, cropOf}
 use Rattle.card.specs.Header.{widthText, heightText, tailText, startsAt, isDigit, digitsUpto, valueAt, isNumber, middleAt, heightAt, tailAt, bodyAt, widthOf, heightOf, headerOk}
 use Rattle.card.specs.Card.{pixelsOf, sampleAt, coloursFrom, alphaFrom, coloursOf, alphaOf, fileNumber, alphaNumber, cardNumber}
-use Rattle.card.specs.Text.{bitByte, digitFrom, decimal, endsLine, pixelText, pixelsText, pairText, cropLines, sizeLine, maskText, acceptedText, refusalText, cardText}
+use Rattle.card.specs.Text.{bitByte, digitFrom, decimal, endsLine, pixelText, pixelsText, pairText, cropLines, sizeLine, maskText, cutText, refusalText, cardText}
 
 all : List Bool → Bool
 all [] = true
@@ -83,5 +83,5 @@ cases =
     ∷ []
 
 cases-hold : T (all cases)
-unfolding cases all same header white badge badgeText refused on bit onAt apart within table rowsUpto planeOf someBelow countBelow lower valueOf walk upto grid plus rowCost nearest rowOf columnOf rowsPlane columnsPlane away distanceTo larger reach inSquare squaresPlane isOn beside lesser renamed merge joinTwo joinWith joinUpto firstPixel isFirst parts labelOf labelAt labelsPlane absOf Rattle.colour.specs.Number.larger plusZero halfOf differenceOf closeTo joinsOf passesOf onOf insert sorted placed lowerMiddle upperMiddle medianOf rowPixels innerColumn borderList listed onBorder channelAt colourAt referenceChannel referenceOf isClose closePlane isGround groundFrom groundOf countOn someOff foundFrom isFound nearGround isEdge isShallow isDeep maskOf indexOf isReach bodyFrom joinsFrom isJoining passOf growthOf alphaMask isSought isKeyed grownGround cutMask firstBelow lastBelow rowHas columnHas lesserOf boxOf cropOf lt le eq add sub mul div neg ofInt ofBits startsAt isDigit digitsUpto valueAt isNumber middleAt heightAt tailAt bodyAt widthOf heightOf headerOk pixelsOf sampleAt coloursFrom alphaFrom coloursOf alphaOf fileNumber alphaNumber cardNumber bitByte digitFrom decimal endsLine pixelText pixelsText pairText cropLines sizeLine maskText acceptedText refusalText cardText firstOf weightOf
+unfolding cases all same header white badge badgeText refused on bit onAt apart within table rowsUpto planeOf someBelow countBelow lower valueOf walk upto grid plus rowCost nearest rowOf columnOf rowsPlane columnsPlane away distanceTo larger reach inSquare squaresPlane isOn beside lesser renamed merge joinTwo joinWith joinUpto firstPixel isFirst parts labelOf labelAt labelsPlane absOf Rattle.colour.specs.Number.larger plusZero halfOf differenceOf closeTo joinsOf passesOf onOf insert sorted placed lowerMiddle upperMiddle medianOf rowPixels innerColumn borderList listed onBorder channelAt colourAt referenceChannel referenceOf isClose closePlane isGround groundFrom groundOf countOn someOff foundFrom isFound nearGround isEdge isShallow isDeep maskOf indexOf isReach bodyFrom joinsFrom isJoining passOf growthOf alphaMask isSought isKeyed grownGround cutMask firstBelow lastBelow rowHas columnHas lesserOf boxOf cropOf lt le eq add sub mul div neg ofInt ofBits startsAt isDigit digitsUpto valueAt isNumber middleAt heightAt tailAt bodyAt widthOf heightOf headerOk pixelsOf sampleAt coloursFrom alphaFrom coloursOf alphaOf fileNumber alphaNumber cardNumber bitByte digitFrom decimal endsLine pixelText pixelsText pairText cropLines sizeLine maskText cutText refusalText cardText firstOf weightOf
 cases-hold = tt

@@ -1,3 +1,4 @@
 pub mod Cases
 mod Reading
 mod Written
+mod Pictures

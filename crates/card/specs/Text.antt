@@ -5,6 +5,7 @@ use mathlib.Core.Bool.{Bool, cond, _||_}
 use mathlib.Core.List.{List, [], _∷_, _++_}
 use lib.Dec.{eqb, leb}
 use lib.ListN.{length, drop}
+use lib.Ieee.{Float}
 use Rattle.labels.specs.Labels.{isOn}
 use Rattle.outline.specs.Cut.{isKeyed, cutMask, cropOf}
 use Rattle.card.specs.Header.{widthOf, heightOf}
@@ -71,14 +72,12 @@ sizeLine h w = pairText w h ++ newline
 unfoldable pub maskText : List ℕ → ℕ → ℕ → ℕ → ℕ → ℕ → ℕ → Bool → List ℕ
 maskText mask h w y0 y1 x0 x1 keyed = cropLines y0 y1 x0 x1 keyed ++ sizeLine h w ++ pixelsText mask w (h * w)
 
--- the mask of the input's picture
-unfoldable pub acceptedText : List ℕ → List ℕ
-acceptedText input =
-    let h = heightOf input in
-    let w = widthOf input in
-    let mask = cutMask (coloursOf input) (alphaOf input) h w settings in
+-- the text of a picture that is accepted: its mask, cut with the settings of cutcard
+unfoldable pub cutText : List Float → List ℕ → ℕ → ℕ → List ℕ
+cutText colours alpha h w =
+    let mask = cutMask colours alpha h w settings in
     let crop = cropOf mask h w settings in
-    maskText mask h w (crop .y0) (crop .y1) (crop .x0) (crop .x1) (isKeyed (coloursOf input) (alphaOf input) h w settings)
+    maskText mask h w (crop .y0) (crop .y1) (crop .x0) (crop .x1) (isKeyed colours alpha h w settings)
 
 -- refused, a space, the number and a newline
 unfoldable pub refusalText : ℕ → List ℕ
@@ -86,7 +85,7 @@ refusalText number = refusedText ++ decimal number ++ newline
 
 -- what is printed for an input
 unfoldable pub cardText : List ℕ → List ℕ
-cardText input = cond (eqb (cardNumber input) 0) (acceptedText input) (refusalText (cardNumber input))
+cardText input = cond (eqb (cardNumber input) 0) (cutText (coloursOf input) (alphaOf input) (heightOf input) (widthOf input)) (refusalText (cardNumber input))
 
 -- the length of the longest text: the lines before the pixels, and two bytes for each of 2304 pixels
 abbrev pub mostText : ℕ
