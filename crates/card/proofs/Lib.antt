@@ -2,3 +2,4 @@ pub mod Cases
 mod Reading
 mod Written
 mod Pictures
+pub mod Files

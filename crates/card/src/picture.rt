@@ -89,7 +89,7 @@ fn cut(
 }
 
 // The picture is read from its bytes and cut.
-fn read_and_cut(
+pub fn read_and_cut(
     input: &[u8],
     body: usize,
     h: usize,
