@@ -3,3 +3,4 @@ mod Reading
 mod Written
 mod Pictures
 pub mod Files
+pub mod Laws
