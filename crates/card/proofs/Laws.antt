@@ -12,7 +12,7 @@ use lib.Seq.{take-all, length-take-le, getD-take}
 use borrow.Author.Tests.{ne-eqb, leb-true}
 use Rattle.plane.proofs.Search.{which, either}
 use Rattle.card.specs.Header.{widthText, heightText, tailText, startsAt, isDigit, mostDigits, digitsUpto, digitsAt, valueAt, isNumber, widthAt, middleAt, heightAt, tailAt, bodyAt, widthOf, heightOf, headerOk}
-use Rattle.card.specs.Card.{mostPixels, pixelsOf, fileNumber}
+use Rattle.card.specs.Card.{mostPixels, mostInput, pixelsOf, fileNumber}
 use Rattle.card.specs.Text.{cardText, refusalText}
 use Rattle.card.proofs.Reading.{digits-most}
 use Rattle.card.proofs.Files.{card-declined}
@@ -106,7 +106,7 @@ module _ (a b : List ℕ) (same : (i : ℕ) → i < 73 → getD a i 0 ≡ getD b
 longNumber : List ℕ → ℕ
 longNumber input = cond (headerOk input) (cond (leb (pixelsOf input) mostPixels) 9 10) 8
 
-long-number : (input : List ℕ) → 9290 ≤ length input → fileNumber input ≡ longNumber input
+long-number : (input : List ℕ) → mostInput ≤ length input → fileNumber input ≡ longNumber input
 unfolding fileNumber longNumber
 long-number input l =
     ⊎-elim {C = fileNumber input ≡ longNumber input}
@@ -124,19 +124,19 @@ long-some true true e = let z : _≡_ {A = ℕ} 9 0 = e in omega arith
 long-some true false e = let z : _≡_ {A = ℕ} 10 0 = e in omega arith
 long-some false b e = let z : _≡_ {A = ℕ} 8 0 = e in omega arith
 
-long-text : (input : List ℕ) → 9290 ≤ length input → cardText input ≡ refusalText (longNumber input)
+long-text : (input : List ℕ) → mostInput ≤ length input → cardText input ≡ refusalText (longNumber input)
 unfolding longNumber
 long-text input l =
     sym (card-declined input (longNumber input) (sym (long-number input l)) (long-some (headerOk input) (leb (pixelsOf input) mostPixels)))
 
-pub first-bytes : (input : List ℕ) → cardText (take 9290 input) ≡ cardText input
+pub first-bytes : (input : List ℕ) → cardText (take mostInput input) ≡ cardText input
 first-bytes input =
-    ⊎-elim {C = cardText (take 9290 input) ≡ cardText input}
-    (λ (l : length input < 9290). ap cardText (take-all 9290 input (omega arith)))
-    (λ (l : 9290 ≤ length input).
-    let t = take 9290 input in
-    let k : length t ≡ 9290 = length-take-le 9290 input l in
+    ⊎-elim {C = cardText (take mostInput input) ≡ cardText input}
+    (λ (l : length input < mostInput). ap cardText (take-all mostInput input (omega arith)))
+    (λ (l : mostInput ≤ length input).
+    let t = take mostInput input in
+    let k : length t ≡ mostInput = length-take-le mostInput input l in
     long-text t (omega arith)
-    ∙ ap refusalText (long-same t input (λ i g. getD-take 9290 input i 0 (omega arith)))
+    ∙ ap refusalText (long-same t input (λ i g. getD-take mostInput input i 0 (omega arith)))
     ∙ sym (long-text input l))
-    (which (length input) 9290)
+    (which (length input) mostInput)

@@ -4,3 +4,4 @@ mod Written
 mod Pictures
 pub mod Files
 pub mod Laws
+pub mod HeaderLaws

@@ -18,11 +18,15 @@ use Rattle.card.specs.Header.{headerOk, widthOf, heightOf, bodyAt}
 abbrev pub mostPixels : ℕ
 mostPixels = 2304
 
+-- more bytes than any accepted file has: at most 73 of header and 4 * 2304 of pixels
+abbrev pub mostInput : ℕ
+mostInput = 9290
+
 -- the number of pixels
 unfoldable pub pixelsOf : List ℕ → ℕ
 pixelsOf input = heightOf input * widthOf input
 
--- red, green, blue and alpha of pixel i stand at 4 * i and the three places after it
+-- byte k of the pixels, which stand from body on: red, green, blue and alpha of pixel i are bytes 4 * i to 4 * i + 3
 unfoldable pub sampleAt : List ℕ → ℕ → ℕ → ℕ
 sampleAt input body k = getD input (body + k) 0
 

@@ -87,7 +87,7 @@ refusalText number = refusedText ++ decimal number ++ newline
 unfoldable pub cardText : List ℕ → List ℕ
 cardText input = cond (eqb (cardNumber input) 0) (cutText (coloursOf input) (alphaOf input) (heightOf input) (widthOf input)) (refusalText (cardNumber input))
 
--- the length of the longest text: the lines before the pixels, and two bytes for each of 2304 pixels
+-- no text is longer than this: 48 bytes for the lines before the pixels, and two for each of 2304 pixels
 abbrev pub mostText : ℕ
 mostText = 4656
 

@@ -20,10 +20,10 @@ const MOST_COLOURS: usize = 6912;
 
 const WORK: usize = 9234;
 
-// The length of the longest text.
+// No text is longer than this.
 pub const MOST_TEXT: usize = 4656;
 
-// One byte more than the largest file that is accepted: the text depends on no byte after these.
+// No accepted file is as long, and the text depends on no byte after these (`first-bytes` in proofs/Laws.antt).
 pub const MOST_INPUT: usize = 9290;
 
 // 8, 10 or 9 where the file is declined, else 0.
