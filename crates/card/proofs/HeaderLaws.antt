@@ -15,6 +15,7 @@ use Rattle.plane.proofs.Search.{which, either, not-both}
 use Rattle.plane.proofs.Refusal.{and-true}
 use Rattle.card.specs.Header.{widthText, heightText, tailText, startsAt, isDigit, mostDigits, digitsUpto, digitsAt, valueAt, isNumber, widthAt, middleAt, heightAt, tailAt, bodyAt, widthOf, heightOf, headerOk}
 use Rattle.card.specs.HeaderText.{allDigits, Numeral, valueFrom, headerText}
+use Rattle.card.proofs.Reading.{digits-most}
 
 -- ---- what stands at a place
 
@@ -159,4 +160,121 @@ header-accepted w h rest m n =
       width-is = width-value input ∙ number-value input w r2 widthAt e1 m newline-ends;
       height-is = height-value input ∙ number-value input h r4 (heightAt input) e3 n newline-ends;
       body-is = omega (arith, header-long w h, height-place input, body-place input);
+    }
+
+-- ---- an input that is accepted starts with a header
+
+noZero : List ℕ → Bool
+noZero [] = true
+noZero (b ∷ l) = not (eqb b 0) && noZero l
+
+-- digits that stand at a place of the input
+record Stands (input : List ℕ) (k at : ℕ) : Type 0 where
+  digits : List ℕ
+  input-is : drop at input ≡ digits ++ drop (at + digitsUpto k input at) input
+  all : allDigits digits ≡ true
+  long : length digits ≡ digitsUpto k input at
+
+module _ (input : List ℕ) where
+  -- past the end there is no byte but 0
+  inside : (at b : ℕ) → getD input at 0 ≡ b → (b ≡ 0 → ⊥) → at < length input
+  inside at b e z =
+      ⊎-elim {C = at < length input} (λ (l : at < length input). l) (λ (l : length input ≤ at). absurd (z (sym e ∙ List·getD-eq-default input 0 l))) (which at (length input))
+
+  starts-split : (text : List ℕ) (at : ℕ) → noZero text ≡ true → startsAt input at text ≡ true → drop at input ≡ text ++ drop (at + length text) input
+  unfolding noZero startsAt
+  starts-split [] at t e = ap (λ (k : ℕ). drop k input) (sym (add-zero at))
+  starts-split (b ∷ text) at t e =
+      let z = and-true (not (eqb b 0)) (noZero text) t in
+      let a = and-true (eqb (getD input at 0) b) (startsAt input (suc at) text) e in
+      let i = eqb-true (getD input at 0) b (a .0) in
+      let s : suc at + length text ≡ at + suc (length text) = omega arith in
+      drop-cons input at 0 (inside at b i (eqb-false b 0 (not-true (eqb b 0) (z .0))))
+      ∙ ap (λ (q : List ℕ). getD input at 0 ∷ q) (starts-split text (suc at) (z .1) (a .1))
+      ∙ ap (λ (c : ℕ). c ∷ (text ++ drop (suc at + length text) input)) i
+      ∙ ap (λ (k : ℕ). b ∷ (text ++ drop k input)) s
+
+  digit-some : (b : ℕ) → isDigit b ≡ true → b ≡ 0 → ⊥
+  unfolding isDigit
+  digit-some b d e = let l = leb-true 48 b (and-true (leb 48 b) (leb b 57) d .0) in omega arith
+
+  digits-stand : (k at : ℕ) → Stands input k at
+  unfolding digitsUpto allDigits
+  digits-stand zero at = record { digits = []; input-is = ap (λ (j : ℕ). drop j input) (sym (add-zero at)); all = refl; long = refl }
+  digits-stand (suc k) at =
+      ⊎-elim {C = Stands input (suc k) at}
+      (λ (d : isDigit (getD input at 0) ≡ true).
+      let r = digits-stand k (suc at) in
+      let b = getD input at 0 in
+      let s : suc at + digitsUpto k input (suc at) ≡ at + suc (digitsUpto k input (suc at)) = omega arith in
+      record {
+        digits = b ∷ r .digits;
+        input-is =
+            rw d
+            (drop-cons input at 0 (inside at b refl (digit-some b d))
+            ∙ ap (λ (q : List ℕ). b ∷ q) (r .input-is)
+            ∙ ap (λ (j : ℕ). b ∷ (r .digits ++ drop j input)) s);
+        all = rw d (r .all);
+        long = rw d (ap suc (r .long));
+      })
+      (λ (d : isDigit (getD input at 0) ≡ false).
+      record { digits = []; input-is = rw d (ap (λ (j : ℕ). drop j input) (sym (add-zero at))); all = refl; long = rw d })
+      (either (isDigit (getD input at 0)))
+
+  numeral : (at : ℕ) → isNumber input at ≡ true → Numeral (digits-stand mostDigits at .digits)
+  unfolding isNumber
+  numeral at e =
+      let s = digits-stand mostDigits at in
+      let a = and-true (leb 1 (digitsAt input at)) (not (eqb (getD input at 0) 48)) e in
+      let l : 1 ≤ length (s .digits) = rw (s .long) (leb-true 1 (digitsAt input at) (a .0)) in
+      let b : getD input at 0 ≡ getD (s .digits) 0 0 = byte-first input at ∙ ap (λ (q : List ℕ). getD q 0 0) (s .input-is) ∙ List·getD-append (s .digits) (drop (at + digitsAt input at) input) 0 0 l in
+      record {
+        digits = s .all;
+        some = l;
+        few = omega (arith, s .long, digits-most input 0 mostDigits at);
+        first = λ z. eqb-false (getD input at 0) 48 (not-true (eqb (getD input at 0) 48) (a .1)) (b ∙ z);
+      }
+
+-- the input starts with document 01's header, for some width and height
+pub record HasHeader (input : List ℕ) : Type 0 where
+  pub width : List ℕ
+  pub height : List ℕ
+  pub rest : List ℕ
+  pub width-numeral : Numeral width
+  pub height-numeral : Numeral height
+  pub input-is : input ≡ headerText width height ++ rest
+
+texts-some : (noZero widthText ≡ true) × (noZero heightText ≡ true) × (noZero tailText ≡ true)
+unfolding noZero
+texts-some = (refl, refl, refl)
+
+pub header-means : (input : List ℕ) → headerOk input ≡ true → HasHeader input
+unfolding headerOk
+header-means input o =
+    let a = and-true (startsAt input 0 widthText && isNumber input widthAt && startsAt input (middleAt input) heightText && isNumber input (heightAt input)) (startsAt input (tailAt input) tailText) o in
+    let b = and-true (startsAt input 0 widthText && isNumber input widthAt && startsAt input (middleAt input) heightText) (isNumber input (heightAt input)) (a .0) in
+    let c = and-true (startsAt input 0 widthText && isNumber input widthAt) (startsAt input (middleAt input) heightText) (b .0) in
+    let d = and-true (startsAt input 0 widthText) (isNumber input widthAt) (c .0) in
+    let w = digits-stand input mostDigits widthAt in
+    let h = digits-stand input mostDigits (heightAt input) in
+    let rest = drop (tailAt input + 46) input in
+    let e4 : drop (tailAt input) input ≡ tailText ++ rest = starts-split input tailText (tailAt input) (texts-some .2) (a .1) in
+    let e3 : drop (heightAt input) input ≡ h .digits ++ (tailText ++ rest) =
+    h .input-is ∙ ap (λ (k : ℕ). h .digits ++ drop k input) (sym (tail-place input)) ∙ ap (λ (q : List ℕ). h .digits ++ q) e4 in
+    let e2 : drop (middleAt input) input ≡ heightText ++ (h .digits ++ (tailText ++ rest)) =
+    starts-split input heightText (middleAt input) (texts-some .1) (c .1)
+    ∙ ap (λ (k : ℕ). heightText ++ drop k input) (sym (height-place input))
+    ∙ ap (λ (q : List ℕ). heightText ++ q) e3 in
+    let e1 : drop widthAt input ≡ w .digits ++ (heightText ++ (h .digits ++ (tailText ++ rest))) =
+    w .input-is ∙ ap (λ (k : ℕ). w .digits ++ drop k input) (sym (middle-place input)) ∙ ap (λ (q : List ℕ). w .digits ++ q) e2 in
+    record {
+      width = w .digits;
+      height = h .digits;
+      rest = rest;
+      width-numeral = numeral input widthAt (d .1);
+      height-numeral = numeral input (heightAt input) (b .1);
+      input-is =
+          starts-split input widthText 0 (texts-some .0) (d .0)
+          ∙ ap (λ (q : List ℕ). widthText ++ q) e1
+          ∙ sym (split (w .digits) (h .digits) rest);
     }
