@@ -5,3 +5,4 @@ mod Pictures
 pub mod Files
 pub mod Laws
 pub mod HeaderLaws
+pub mod Printed
