@@ -1,12 +1,11 @@
 -- Document 01's example, one input for each number, and the lines of a row of 71 pixels, computed from the definitions.
 -- Assumes nothing.
-use mathlib.Core.Bool.{Bool, true, false, cond, not, _&&_}
+use mathlib.Core.Bool.{Bool, true, false, _&&_}
 use mathlib.Core.List.{List, [], _∷_, _++_}
-use Prim.Native.Nat.{ℕ, _*_}
-use lib.IntN.{ℤ, pos, negsuc}
-use lib.Dec.{T, eqb, leb}
-use lib.ListN.{length, getD, replicate}
-use lib.Ieee.{Float, fin, lt, le, eq, add, sub, mul, div, neg, ofInt, ofBits}
+use Prim.Native.Nat.{ℕ}
+use lib.Dec.{T, eqb}
+use lib.ListN.{replicate}
+use lib.Ieee.{lt, le, eq, add, sub, mul, div, neg, ofInt, ofBits}
 use Rattle.plane.specs.Plane.{on, bit, onAt, apart, within, table, rowsUpto, planeOf}
 use Rattle.plane.specs.Search.{someBelow, countBelow}
 use Rattle.line.specs.Walk.{lower}
@@ -14,7 +13,7 @@ use Rattle.line.specs.Grid.{valueOf, walk, upto, grid, plus}
 use Rattle.nearest.specs.Nearest.{rowCost, nearest, rowOf, columnOf, rowsPlane, columnsPlane, away, distanceTo}
 use Rattle.squares.specs.Squares.{larger, reach, inSquare, squaresPlane}
 use Rattle.labels.specs.Labels.{isOn, beside, lesser, renamed, merge, joinTwo, joinWith, joinUpto, firstPixel, isFirst, parts, labelOf, labelAt, labelsPlane}
-use Rattle.colour.specs.Number.{zero64, one64, absOf, plusZero, halfOf}
+use Rattle.colour.specs.Number.{absOf, plusZero, halfOf}
 use Rattle.colour.specs.Colour.{differenceOf, closeTo}
 use Rattle.colour.specs.Join.{joinsOf}
 use Rattle.colour.specs.Settings.{passesOf, onOf}

@@ -1,18 +1,18 @@
 -- From the parts to the whole: what an accepted file is like, how long the text is, and that it is the text of the input.
 -- Assumes nothing.
-use mathlib.Core.Path.{_≡_, refl, sym, ap, _∙_}
+use mathlib.Core.Path.{_≡_, refl, ap, _∙_}
 use mathlib.Core.Bool.{Bool, true, false, cond, not, _&&_}
-use mathlib.Core.List.{List, [], _++_}
+use mathlib.Core.List.{List, _++_}
 use mathlib.Core.Logic.{⊎-elim}
 use Prim.Native.Nat.{ℕ, zero, suc, _+_, _-_, _*_, _≤_, _<_}
-use native.Mathlib.Nat.{add-zero, zero-add, suc-mul, mul-suc, mul-comm}
+use native.Mathlib.Nat.{add-zero, zero-add, mul-suc, mul-comm}
 use native.Mathlib.Omega.{arith}
 use lib.Dec.{eqb, leb}
 use lib.ListN.{length, getD, take, drop, length-append}
-use lib.Seq.{sets, sets-eq, length-take-le}
+use lib.Seq.{sets-eq, length-take-le}
 use borrow.Author.Tests.{eq-eqb, ne-eqb, le-leb, lt-leb, leb-true, eqb-true, eqb-false, not-true}
 use Rattle.plane.specs.Plane.{Sides}
-use Rattle.plane.proofs.Search.{either, not-both}
+use Rattle.plane.proofs.Search.{either}
 use Rattle.plane.proofs.Refusal.{and-true}
 use Rattle.outline.specs.Cut.{isKeyed, cutMask, cropOf}
 use Rattle.outline.specs.Refusal.{firstOf}

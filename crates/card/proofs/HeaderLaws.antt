@@ -1,7 +1,7 @@
 -- `headerOk` accepts the inputs that start with document 01's header, for any width and height of 1 to 5 digits, and no other.
 -- Assumes nothing.
 use mathlib.Core.Path.{_≡_, refl, sym, ap, _∙_}
-use mathlib.Core.Bool.{Bool, true, false, cond, not, _&&_}
+use mathlib.Core.Bool.{Bool, true, false, not, _&&_}
 use mathlib.Core.List.{List, [], _∷_, _++_, append-assoc}
 use mathlib.Core.Logic.{⊎-elim}
 use Prim.Native.Nat.{ℕ, zero, suc, _+_, _-_, _*_, _≤_, _<_}
@@ -11,7 +11,7 @@ use lib.Dec.{eqb, leb}
 use lib.ListN.{length, getD, drop, length-append, List·getD-append, List·getD-eq-default}
 use lib.Seq.{drop-cons, drop-drop, drop-at, getD-drop}
 use borrow.Author.Tests.{eq-eqb, ne-eqb, le-leb, leb-true, eqb-true, eqb-false, not-true}
-use Rattle.plane.proofs.Search.{which, either, not-both}
+use Rattle.plane.proofs.Search.{which, either}
 use Rattle.plane.proofs.Refusal.{and-true}
 use Rattle.card.specs.Header.{widthText, heightText, tailText, startsAt, isDigit, mostDigits, digitsUpto, digitsAt, valueAt, isNumber, widthAt, middleAt, heightAt, tailAt, bodyAt, widthOf, heightOf, headerOk}
 use Rattle.card.specs.HeaderText.{allDigits, Numeral, valueFrom, headerText}

@@ -1,17 +1,17 @@
 -- The text depends on the first 9290 bytes of the input alone, so a program that reads no more answers for an input of any length.
 -- Assumes nothing.
 use mathlib.Core.Path.{_≡_, refl, sym, ap, _∙_}
-use mathlib.Core.Bool.{Bool, true, false, cond, not, _&&_}
+use mathlib.Core.Bool.{Bool, true, false, cond}
 use mathlib.Core.List.{List, [], _∷_}
 use mathlib.Core.Logic.{⊎-elim}
 use Prim.Native.Nat.{ℕ, zero, suc, _+_, _-_, _*_, _≤_, _<_}
 use native.Mathlib.Omega.{arith}
-use lib.Dec.{eqb, leb}
+use lib.Dec.{leb}
 use lib.ListN.{length, getD, take}
 use lib.Seq.{take-all, length-take-le, getD-take}
 use borrow.Author.Tests.{ne-eqb, leb-true}
 use Rattle.plane.proofs.Search.{which, either}
-use Rattle.card.specs.Header.{widthText, heightText, tailText, startsAt, isDigit, mostDigits, digitsUpto, digitsAt, valueAt, isNumber, widthAt, middleAt, heightAt, tailAt, bodyAt, widthOf, heightOf, headerOk}
+use Rattle.card.specs.Header.{widthText, heightText, tailText, startsAt, mostDigits, digitsUpto, digitsAt, valueAt, isNumber, widthAt, middleAt, heightAt, tailAt, bodyAt, widthOf, heightOf, headerOk}
 use Rattle.card.specs.Card.{mostPixels, mostInput, pixelsOf, fileNumber}
 use Rattle.card.specs.Text.{cardText, refusalText}
 use Rattle.card.proofs.Reading.{digits-most}

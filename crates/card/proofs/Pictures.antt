@@ -1,7 +1,7 @@
 -- A picture of bytes is accepted by the cut or declined for its alpha alone; and its text, from the answer of the cut.
 -- Assumes nothing.
-use mathlib.Core.Path.{_≡_, refl, sym, ap, _∙_}
-use mathlib.Core.Bool.{Bool, true, false, cond, not, _&&_}
+use mathlib.Core.Path.{_≡_, refl}
+use mathlib.Core.Bool.{Bool, true, false, not, _&&_}
 use mathlib.Core.List.{List}
 use Prim.Native.Nat.{ℕ, zero, suc, _+_, _*_, _≤_, _<_}
 use native.Mathlib.Nat.{suc-mul, mul-suc}
@@ -16,7 +16,6 @@ use Rattle.plane.specs.Refusal.{roomFor, sidesOk, numberFor}
 use Rattle.plane.proofs.Search.{none-found, some-same}
 use Rattle.plane.proofs.Refusal.{sides-accepted}
 use Rattle.labels.specs.Labels.{isOn}
-use Rattle.colour.specs.declared.Settings.{Settings}
 use Rattle.colour.specs.Colour.{colourOk, coloursOk}
 use Rattle.colour.specs.Settings.{onOf}
 use Rattle.colour.specs.Weight.{weightOf}

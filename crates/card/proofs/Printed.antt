@@ -1,19 +1,19 @@
 -- The numbers that are printed: each is below 10000, and what is printed for such a number has its value.
 -- Assumes nothing.
-use mathlib.Core.Path.{_≡_, refl, sym, ap, _∙_}
+use mathlib.Core.Path.{_≡_, sym, ap, _∙_}
 use mathlib.Core.Bool.{Bool, true, false, cond, _&&_}
 use mathlib.Core.List.{List}
 use mathlib.Core.Logic.{⊎-elim}
 use Prim.Native.Nat.{ℕ, zero, suc, _+_, _-_, _*_, _/_, _%_, _≤_, _<_}
 use native.Mathlib.Nat.{div-add-mod', div-div-eq-div-mul, div-lt-iff-lt-mul, mod-eq-of-lt}
 use native.Mathlib.Omega.{arith}
-use lib.Dec.{eqb, leb}
+use lib.Dec.{leb}
 use borrow.Author.Tests.{le-leb, lt-leb, leb-false}
 use Rattle.plane.specs.Search.{someBelow}
 use Rattle.plane.proofs.Search.{which, either}
 use Rattle.colour.specs.declared.Settings.{Settings}
 use Rattle.outline.specs.Ground.{someOff}
-use Rattle.outline.specs.Cut.{Box, firstBelow, lesserOf, rowHas, columnHas, boxOf, cropOf, isKeyed, cutMask}
+use Rattle.outline.specs.Cut.{Box, firstBelow, lesserOf, rowHas, columnHas, boxOf, cropOf, cutMask}
 use Rattle.outline.proofs.CutLaws.{first-zero}
 use Rattle.card.specs.Header.{widthOf, heightOf}
 use Rattle.card.specs.Card.{settings, coloursOf, alphaOf, fileNumber, alphaNumber, cardNumber}

@@ -8,8 +8,8 @@ use native.Mathlib.Nat.{add-zero}
 use native.Mathlib.Numerals.{add-one}
 use native.Mathlib.Omega.{arith}
 use lib.Dec.{leb}
-use lib.ListN.{length, take, drop, getD, set, length-append}
-use lib.Seq.{sets, sets-eq, take-suc, length-take-le}
+use lib.ListN.{length, take, getD, set, length-append}
+use lib.Seq.{sets, take-suc, length-take-le}
 use Rattle.card.specs.Text.{newline, digitFrom, decimal, endsLine, pixelText, pixelsText, pairText, cropLines, sizeLine}
 use Rattle.card.specs.Writing.{Wrote}
 

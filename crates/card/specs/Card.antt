@@ -1,7 +1,7 @@
 -- The picture in a PAM file, the settings of cutcard, and the number by which it declines.
 -- Assumes nothing.
 use Prim.Native.Nat.{ℕ, _+_, _*_, _/_, _%_}
-use mathlib.Core.Bool.{Bool, true, false, cond}
+use mathlib.Core.Bool.{true, false, cond}
 use mathlib.Core.List.{List}
 use lib.Dec.{eqb, leb}
 use lib.IntN.{pos, negsuc}

@@ -1,6 +1,6 @@
 // Reading the header of a PAM file. Past the end of the input every byte is 0.
 ghost use mathlib.Core.Path.{_≡_};
-ghost use Prim.Native.Nat.{ℕ, _-_, _<_, _≤_};
+ghost use Prim.Native.Nat.{_-_, _<_, _≤_};
 ghost use lib.ListN.{length, getD};
 ghost use Rattle.card.specs.Header.{startsAt, isDigit, digitsAt, valueAt, isNumber, middleAt, heightAt, tailAt, bodyAt, widthOf, heightOf, headerOk};
 

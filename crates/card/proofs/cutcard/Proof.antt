@@ -1,6 +1,6 @@
 -- `card::cutcard` meets its contract.
 -- Assumes nothing.
-use mathlib.Core.Path.{_≡_, refl, sym, ap, _∙_}
+use mathlib.Core.Path.{refl, sym, _∙_}
 use borrow.Author.Tests.{lt-leb}
 use Rattle.card.specs.Text.{mostText}
 use Rattle.card.proofs.Files.{card-declined, card-picture, whole}

@@ -1,15 +1,14 @@
 -- `card::file_number` meets its contract.
 -- Assumes nothing.
-use mathlib.Core.Path.{_≡_, refl, sym, ap, _∙_}
+use mathlib.Core.Path.{_≡_, sym, _∙_}
 use mathlib.Core.Bool.{true}
-use Prim.Native.Nat.{ℕ, _+_, _*_}
+use Prim.Native.Nat.{_+_, _*_}
 use native.Mathlib.Nat.{mul-le-mul}
 use mir.Facts.{fits-le, fits-lit}
 use borrow.Author.Tests.{not-true, not-false}
 use Rattle.card.specs.Header.{bodyAt, headerOk}
 use Rattle.card.specs.Card.{pixelsOf}
 use Rattle.card.proofs.Files.{number-8, number-10, number-9, number-0}
-use native.Mathlib.Omega.{arith}
 use borrow.Author.Needs.{needs}
 use Rattle.card.proofs.file_number.Statement.{statement}
 use Rattle.card.proofs.file_number.Tie as tie

@@ -1,7 +1,7 @@
 -- `card::write_picture` meets its contract.
 -- Assumes nothing.
-use mathlib.Core.Path.{_≡_, refl, sym, ap, _∙_}
-use Prim.Native.Nat.{ℕ, _+_, _*_, _≤_}
+use mathlib.Core.Path.{_≡_}
+use Prim.Native.Nat.{_*_, _≤_}
 use native.Mathlib.Omega.{arith}
 use mir.Facts.{fits-le, fits-lit}
 use Rattle.plane.specs.Plane.{Sides}

@@ -1,7 +1,7 @@
 -- `card::header::digits` meets its contract.
 -- Assumes nothing.
-use mathlib.Core.Path.{_≡_, refl, sym, ap, _∙_}
-use Prim.Native.Nat.{ℕ, _+_, _-_, _≤_}
+use mathlib.Core.Path.{_≡_, sym, ap, _∙_}
+use Prim.Native.Nat.{_+_, _-_, _≤_}
 use native.Mathlib.Nat.{add-zero}
 use native.Mathlib.Omega.{arith}
 use borrow.Author.Tests.{not-true, not-false}
@@ -10,7 +10,6 @@ use Rattle.card.proofs.Reading.{digits-more, digits-end, digits-most}
 use borrow.Author.Needs.{needs}
 use Rattle.card.proofs.header.digits.Statement.{statement}
 use Rattle.card.proofs.header.digits.Tie as tie
-use Rattle.card.proofs.header.is_digit.Reads as is-digit-reads
 
 abbrev Inv-loop : tie.InvT-loop
 Inv-loop input at i₀ i = (i ≤ mostDigits) × (digitsUpto mostDigits input at ≡ i + digitsUpto (mostDigits - i) input (at + i))

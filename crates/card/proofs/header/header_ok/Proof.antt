@@ -1,8 +1,5 @@
 -- `card::header::header_ok` meets its contract.
 -- Assumes nothing.
-use mathlib.Core.Path.{_≡_, refl, sym, ap, _∙_}
-use Prim.Native.Nat.{ℕ, _+_}
-use native.Mathlib.Omega.{arith}
 use Rattle.card.specs.Header.{headerOk}
 use borrow.Author.Needs.{needs}
 use Rattle.card.proofs.header.header_ok.Statement.{statement}

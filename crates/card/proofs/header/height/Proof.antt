@@ -1,9 +1,7 @@
 -- `card::header::height` meets its contract.
 -- Assumes nothing.
-use mathlib.Core.Path.{_≡_, refl, sym, ap, _∙_}
-use Prim.Native.Nat.{ℕ, _+_}
-use native.Mathlib.Omega.{arith}
-use Rattle.card.specs.Header.{heightOf, valueAt}
+use mathlib.Core.Path.{_∙_}
+use Rattle.card.specs.Header.{heightOf}
 use borrow.Author.Needs.{needs}
 use Rattle.card.proofs.header.height.Statement.{statement}
 use Rattle.card.proofs.header.height.Tie as tie

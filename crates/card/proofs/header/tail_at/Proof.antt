@@ -1,7 +1,6 @@
 -- `card::header::tail_at` meets its contract.
 -- Assumes nothing.
-use mathlib.Core.Path.{_≡_, refl, sym, ap, _∙_}
-use Prim.Native.Nat.{ℕ, _+_}
+use mathlib.Core.Path.{_≡_, ap, _∙_}
 use native.Mathlib.Omega.{arith}
 use Rattle.card.specs.Header.{heightAt, tailAt, digitsAt}
 use borrow.Author.Needs.{needs}

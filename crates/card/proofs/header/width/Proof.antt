@@ -1,9 +1,7 @@
 -- `card::header::width` meets its contract.
 -- Assumes nothing.
-use mathlib.Core.Path.{_≡_, refl, sym, ap, _∙_}
-use Prim.Native.Nat.{ℕ, _+_}
-use native.Mathlib.Omega.{arith}
-use Rattle.card.specs.Header.{widthOf, valueAt}
+use mathlib.Core.Path.{_∙_}
+use Rattle.card.specs.Header.{widthOf}
 use borrow.Author.Needs.{needs}
 use Rattle.card.proofs.header.width.Statement.{statement}
 use Rattle.card.proofs.header.width.Tie as tie

@@ -1,10 +1,10 @@
 -- `card::picture::alpha` meets its contract.
 -- Assumes nothing.
-use mathlib.Core.Path.{_≡_, refl, sym, ap, _∙_}
-use Prim.Native.Nat.{ℕ, _+_, _*_, _/_, _%_, _-_, _≤_, _<_}
+use mathlib.Core.Path.{_≡_, refl, _∙_}
+use Prim.Native.Nat.{ℕ, _+_, _*_, _-_, _≤_, _<_}
 use native.Mathlib.Nat.{not-suc-le-zero}
 use lib.ListN.{length, getD, length-set}
-use Rattle.plane.proofs.Plane.{table-length, table-at, filled, table-is}
+use Rattle.plane.proofs.Plane.{filled, table-is}
 use Rattle.card.specs.Card.{sampleAt, alphaFrom}
 use native.Mathlib.Omega.{arith}
 use borrow.Author.Needs.{needs}

@@ -1,14 +1,14 @@
 -- `card::picture::colours` meets its contract.
 -- Assumes nothing.
-use mathlib.Core.Path.{_≡_, refl, sym, ap, _∙_}
+use mathlib.Core.Path.{_≡_, refl, ap, _∙_}
 use mathlib.Core.List.{List}
 use Prim.Native.Nat.{ℕ, _+_, _*_, _/_, _%_, _-_, _≤_, _<_}
 use native.Mathlib.Nat.{not-suc-le-zero}
 use lib.ListN.{length, getD, length-set}
-use Rattle.plane.proofs.Plane.{table-length, table-at, filled, table-is}
+use Rattle.plane.proofs.Plane.{filled, table-is}
 use Rattle.card.specs.Card.{sampleAt, coloursFrom}
 use lib.Ieee.{Float, nan}
-use Rattle.colour.specs.Colour.{colourOk, coloursOk}
+use Rattle.colour.specs.Colour.{colourOk}
 use Rattle.colour.specs.Weight.{weightOf}
 use Rattle.colour.proofs.Range.{colours-all}
 use Rattle.card.proofs.Pictures.{byte-ok}

@@ -1,7 +1,6 @@
 -- `card::picture::cut` meets its contract.
 -- Assumes nothing.
-use mathlib.Core.Path.{_≡_, refl, sym, ap, _∙_}
-use Prim.Native.Nat.{ℕ}
+use mathlib.Core.Path.{_≡_, sym, ap, _∙_}
 use native.Mathlib.Omega.{arith}
 use lib.ListN.{length}
 use denote.Ref.{now}
@@ -11,7 +10,7 @@ use Rattle.outline.specs.Cut.{isKeyed, cutMask, cropOf}
 use Rattle.outline.specs.Refusal.{cutNumber}
 use Rattle.keying.specs.Answer.{cropAs, cutNumberOf, cutKeyed, cutCrop}
 use Rattle.keying.proofs.Cuts.{cut-number-of, cut-keyed-of, cut-crop-of}
-use Rattle.card.specs.Card.{settings, alphaNumber}
+use Rattle.card.specs.Card.{alphaNumber}
 use Rattle.card.proofs.Written.{wrote-as}
 use Rattle.card.proofs.Pictures.{number-is, text-declined, text-accepted}
 use borrow.Author.Needs.{needs}

@@ -1,6 +1,6 @@
 -- `card::picture::read_and_cut` meets its contract.
 -- Assumes nothing.
-use mathlib.Core.Path.{_≡_, refl, sym, ap, _∙_}
+use mathlib.Core.Path.{_∙_}
 use Rattle.card.proofs.Written.{wrote-as}
 use borrow.Author.Needs.{needs}
 use Rattle.card.proofs.picture.read_and_cut.Statement.{statement}

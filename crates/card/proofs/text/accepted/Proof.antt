@@ -1,9 +1,7 @@
 -- `card::text::accepted` meets its contract.
 -- Assumes nothing.
 use native.Mathlib.Omega.{arith}
-use mathlib.Core.Path.{_≡_, refl, sym, ap, _∙_}
-use Prim.Native.Nat.{ℕ}
-use Rattle.card.specs.Text.{maskText, pixelsText}
+use Rattle.card.specs.Text.{maskText}
 use Rattle.card.proofs.Written.{wrote-more, wrote-as, crop-short, size-short}
 use borrow.Author.Needs.{needs}
 use Rattle.card.proofs.text.accepted.Statement.{statement}

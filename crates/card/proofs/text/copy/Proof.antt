@@ -1,12 +1,11 @@
 -- `card::text::copy` meets its contract.
 -- Assumes nothing.
-use mathlib.Core.Path.{_≡_, refl, sym, ap, _∙_}
-use Prim.Native.Nat.{ℕ, _+_, _-_, _≤_}
+use mathlib.Core.Path.{_≡_, refl, ap, _∙_}
+use Prim.Native.Nat.{_+_, _-_, _≤_}
 use lib.ListN.{length, getD, take, length-set}
 use lib.Seq.{sets, take-all}
 use native.Mathlib.Omega.{arith}
 use Rattle.card.proofs.Written.{copy-more}
-use borrow.Author.Needs.{needs}
 use Rattle.card.proofs.text.copy.Statement.{statement}
 use Rattle.card.proofs.text.copy.Tie as tie
 

@@ -1,7 +1,7 @@
 -- `card::text::crop_lines` meets its contract.
 -- Assumes nothing.
 use native.Mathlib.Omega.{arith}
-use Rattle.card.specs.Text.{bitByte, cropLines}
+use Rattle.card.specs.Text.{cropLines}
 use Rattle.card.proofs.Written.{wrote-more, wrote-as, pair-short}
 use borrow.Author.Needs.{needs}
 use Rattle.card.proofs.text.crop_lines.Statement.{statement}

@@ -1,12 +1,9 @@
 -- `card::text::pixel` meets its contract.
 -- Assumes nothing.
-use native.Mathlib.Omega.{arith}
-use mathlib.Core.Path.{_≡_, refl, sym, ap, _∙_}
-use mathlib.Core.List.{_∷_}
 use native.Mathlib.Nat.{mod-lt}
 use Rattle.plane.specs.Plane.{on}
 use Rattle.labels.specs.Labels.{isOn}
-use Rattle.card.specs.Text.{bitByte, pixelText}
+use Rattle.card.specs.Text.{pixelText}
 use Rattle.card.proofs.Written.{wrote-more, wrote-as}
 use borrow.Author.Needs.{needs}
 use Rattle.card.proofs.text.pixel.Statement.{statement}

@@ -1,13 +1,12 @@
 -- `card::text::pixels` meets its contract.
 -- Assumes nothing.
-use mathlib.Core.Path.{_≡_, refl, sym, ap, _∙_}
-use Prim.Native.Nat.{ℕ, _+_, _*_, _-_, _≤_}
+use mathlib.Core.Path.{_≡_, refl, ap, _∙_}
+use Prim.Native.Nat.{_-_, _≤_}
 use lib.ListN.{length}
 use native.Mathlib.Omega.{arith}
 use Rattle.card.specs.Text.{pixelsText}
 use Rattle.card.specs.Writing.{Wrote}
 use Rattle.card.proofs.Written.{wrote-none, wrote-more, wrote-as, pixels-more, pixels-short}
-use borrow.Author.Needs.{needs}
 use Rattle.card.proofs.text.pixels.Statement.{statement}
 use Rattle.card.proofs.text.pixels.Tie as tie
 
