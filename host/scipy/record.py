@@ -4,9 +4,8 @@
     apt-get install python3-scipy        # Debian
     /usr/bin/python3 host/scipy/record.py [FOLDER]
 
-FOLDER (by default recorded/scipy beside this script's folder) gets `stdin` and
-`stdout` in the format that src/bin/record.rs describes, and `version`, which names
-the SciPy and numpy that answered. The calls are
+FOLDER (by default crates/replay_scipy of the repository) gets `stdin` and `stdout` in
+the format that host/src/bin/record.rs describes. The calls are
 
     N  distance_transform_edt(1 - mask, return_indices=True)
     L  label(mask)
@@ -177,7 +176,7 @@ def scattered(out):
 
 def main():
     here = pathlib.Path(__file__).resolve().parent
-    default = here.parent / "recorded" / "scipy"
+    default = here.parents[1] / "crates" / "replay_scipy"
     folder = pathlib.Path(sys.argv[1]) if len(sys.argv) > 1 else default
     out = List()
     document(out)
@@ -196,7 +195,6 @@ def main():
     folder.mkdir(parents=True, exist_ok=True)
     (folder / "stdin").write_text(stdin)
     (folder / "stdout").write_text(stdout)
-    (folder / "version").write_text(version)
     print(version + f"# {len(stdin)} and {len(stdout)} bytes in {folder}")
 
 

@@ -10,9 +10,10 @@ use std::fs;
 use std::io::Write as _;
 use std::path::{Path, PathBuf};
 
+/// Where a program's list stands.
 fn folder(name: &str) -> PathBuf {
     Path::new(env!("CARGO_MANIFEST_DIR"))
-        .join("recorded")
+        .join("../crates")
         .join(name)
 }
 
@@ -94,19 +95,12 @@ fn replay(name: &str) {
 
 #[test]
 fn the_rusts_answers() {
-    replay("rust");
+    replay("replay_rust");
 }
 
 #[test]
 fn scipys_answers() {
-    replay("scipy");
-}
-
-/// Where the lists of ground and cut are: beside the programs that are run on them.
-fn program_folder(name: &str) -> PathBuf {
-    Path::new(env!("CARGO_MANIFEST_DIR"))
-        .join("../crates")
-        .join(name)
+    replay("replay_scipy");
 }
 
 struct Ours;
@@ -147,14 +141,14 @@ impl Answers for Ours {
 }
 
 fn replay_keying(name: &str, least: usize) {
-    let stdin = fs::read_to_string(program_folder(name).join("stdin")).expect("stdin");
+    let stdin = fs::read_to_string(folder(name).join("stdin")).expect("stdin");
     let mut lines = stdin.lines();
     let (mut ours, mut cases) = (String::new(), 0);
     while let Some(case) = Case::read(&mut lines) {
         ours += &case.answer(&Ours);
         cases += 1;
     }
-    compare(name, &program_folder(name), &ours, cases);
+    compare(name, &folder(name), &ours, cases);
     assert!(cases >= least, "{cases} cases");
 }
 
@@ -202,11 +196,11 @@ fn same_lists(generator: &str, made: &str, lists: &[(&str, PathBuf)]) {
 )]
 fn the_rusts_lists_are_what_the_generators_write() {
     let planes = env!("CARGO_BIN_EXE_record");
-    same_lists(planes, "recorded", &[("", folder("rust"))]);
+    same_lists(planes, "recorded", &[("", folder("replay_rust"))]);
     let names = ["replay_ground", "replay_cut", "replay_pair"];
     same_lists(
         env!("CARGO_BIN_EXE_record_keying"),
         "recorded_keying",
-        &names.map(|name| (name, program_folder(name))),
+        &names.map(|name| (name, folder(name))),
     );
 }

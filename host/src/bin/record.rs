@@ -4,7 +4,7 @@
 //! cargo run --release --manifest-path host/Cargo.toml --bin record [-- FOLDER]
 //! ```
 //!
-//! FOLDER (by default recorded/rust beside Cargo.toml) gets two files. `stdin` has for each case a
+//! FOLDER (by default crates/replay_rust of the repository) gets two files. `stdin` has for each case a
 //! line `op h w k` and then h lines of w digits, 1 for on; op is L for labels, S for squares with k
 //! iterations, N for nearest (k is 0 where it is not used). `stdout` has for each case the same
 //! first line and then, for L, the count on a line and h lines of w labels; for S, h lines of w
@@ -207,9 +207,7 @@ mod with {
             .nth(1)
             .map(PathBuf::from)
             .unwrap_or_else(|| {
-                PathBuf::from(env!("CARGO_MANIFEST_DIR"))
-                    .join("recorded")
-                    .join("rust")
+                PathBuf::from(env!("CARGO_MANIFEST_DIR")).join("../crates/replay_rust")
             });
         let mut list = List::default();
         document(&mut list);
