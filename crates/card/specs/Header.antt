@@ -4,7 +4,7 @@ use Prim.Native.Nat.{ℕ, zero, suc, _+_, _-_, _*_}
 use mathlib.Core.Bool.{Bool, true, cond, not, _&&_}
 use mathlib.Core.List.{List, [], _∷_}
 use lib.Dec.{eqb, leb}
-use lib.ListN.{getD}
+use lib.ListN.{length, getD}
 
 -- "P7\nWIDTH "
 abbrev pub widthText : List ℕ
@@ -55,19 +55,19 @@ isNumber input at = leb 1 (digitsAt input at) && not (eqb (getD input at 0) 48)
 
 -- where the width, the text after it, the height, the text after it and the pixels stand
 abbrev pub widthAt : ℕ
-widthAt = 9
+widthAt = length widthText
 
 unfoldable pub middleAt : List ℕ → ℕ
 middleAt input = widthAt + digitsAt input widthAt
 
 unfoldable pub heightAt : List ℕ → ℕ
-heightAt input = middleAt input + 8
+heightAt input = middleAt input + length heightText
 
 unfoldable pub tailAt : List ℕ → ℕ
 tailAt input = heightAt input + digitsAt input (heightAt input)
 
 unfoldable pub bodyAt : List ℕ → ℕ
-bodyAt input = tailAt input + 46
+bodyAt input = tailAt input + length tailText
 
 -- the width and the height that the header gives
 unfoldable pub widthOf : List ℕ → ℕ
