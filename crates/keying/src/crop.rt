@@ -8,6 +8,7 @@ ghost use Rattle.plane.specs.Search.{someBelow};
 ghost use Rattle.labels.specs.Labels.{isOn};
 ghost use Rattle.outline.specs.Cut.{firstBelow, lastBelow, lesserOf, margin, boxOf};
 ghost use Rattle.keying.specs.Survey.{rowsLine, columnsLine, markedLine, Masked, Lent, IsBox};
+use super::masks::byte;
 
 // Rows y0 to y1 and columns x0 to x1, ends excluded.
 #[repr(C)]
@@ -16,13 +17,6 @@ pub struct Crop {
     pub y1: usize,
     pub x0: usize,
     pub x1: usize,
-}
-
-// A truth as the byte that is written.
-fn flag(t: bool) -> u8
-    ensures { λ r. ⌜ r ≡ bit t ⌝ }
-{
-    if t { 1 } else { 0 }
 }
 
 // Whether some byte of a row is on.
@@ -45,7 +39,7 @@ fn mark(row: &[u8], across: &mut [u8])
 {
     let mut x = 0usize;
     while x < across.len() {
-        across[x] = flag((across[x] != 0) | (row[x] != 0));
+        across[x] = byte((across[x] != 0) | (row[x] != 0));
         x += 1;
     }
 }
@@ -60,7 +54,7 @@ fn survey(mask: &[u8], h: usize, w: usize, down: &mut [u8], across: &mut [u8])
     while y < h {
         let a = y * w;
         let e = a + w;
-        down[y] = flag(row_has(&mask[a..e]));
+        down[y] = byte(row_has(&mask[a..e]));
         mark(&mask[a..e], across);
         y += 1;
     }

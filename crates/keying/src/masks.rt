@@ -39,7 +39,7 @@ pub fn some_off(mask: &[u8]) -> bool
 }
 
 // A truth as the byte that is written.
-fn byte(t: bool) -> u8
+pub fn byte(t: bool) -> u8
     ensures { λ r. ⌜ r ≡ bit t ⌝ }
 {
     if t { 1 } else { 0 }

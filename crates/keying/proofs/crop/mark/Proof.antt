@@ -25,14 +25,14 @@ abbrev μ-loop : tie.MeasureT-loop
 loop-holds : tie.Need-loop-holds Inv-loop μ-loop
 loop-holds c = (omega arith, refl, (λ k l. absurd (not-suc-le-zero l)), λ k l. refl)
 
-slice-read-flag : tie.Need-slice-read-flag Inv-loop μ-loop
-slice-read-flag c = omega arith
+slice-read-byte : tie.Need-slice-read-byte Inv-loop μ-loop
+slice-read-byte c = omega arith
 
-shared-slice-read-flag : tie.Need-shared-slice-read-flag Inv-loop μ-loop
-shared-slice-read-flag c = omega arith
+shared-slice-read-byte : tie.Need-shared-slice-read-byte Inv-loop μ-loop
+shared-slice-read-byte c = omega arith
 
-flag-requires : tie.Need-flag-requires Inv-loop μ-loop
-flag-requires c κs = search needs
+byte-requires : tie.Need-byte-requires Inv-loop μ-loop
+byte-requires c κs = search needs
 
 slice-write-across : tie.Need-slice-write-across Inv-loop μ-loop
 slice-write-across c = omega arith
@@ -50,8 +50,8 @@ loop-again c =
     let a = c .before .before .before .before .before .before .before .args in
     let old = a .across .now in
     let row = a .row .now in
-    let v = c .flag .result in
-    let e : v ≡ bit (isOn old (l .x) || isOn row (l .x)) = c .flag .ensures ∙ ap (λ (n : ℕ). bit (on n || isOn row (l .x))) (l .inv .3 (l .x) (omega arith)) in (
+    let v = c .byte .result in
+    let e : v ≡ bit (isOn old (l .x) || isOn row (l .x)) = c .byte .ensures ∙ ap (λ (n : ℕ). bit (on n || isOn row (l .x))) (l .inv .3 (l .x) (omega arith)) in (
       omega arith,
       length-set (l .across) (l .x) v ∙ l .inv .1,
       filled (λ (k : ℕ). bit (isOn old k || isOn row k)) (l .across) (l .x) v 0 (omega arith) (l .inv .2) e,
@@ -69,4 +69,4 @@ returns c =
     table-is (λ (k : ℕ). bit (isOn (a .across .now) k || isOn (a .row .now) k)) (length (a .across .now)) (l .across) 0 (l .inv .1) (λ k g. l .inv .2 k (omega arith))
 
 pub mark-spec : {M : Type 1} → statement M
-mark-spec = tie.close (tie.spec Inv-loop μ-loop loop-holds slice-read-flag shared-slice-read-flag flag-requires slice-write-across add-x loop-less loop-again same-length returns)
+mark-spec = tie.close (tie.spec Inv-loop μ-loop loop-holds slice-read-byte shared-slice-read-byte byte-requires slice-write-across add-x loop-less loop-again same-length returns)

@@ -49,8 +49,8 @@ part-row-has-end c = let r = row-here c in omega arith
 row-has-requires : tie.Need-row-has-requires Inv-loop μ-loop
 row-has-requires c κs = search needs
 
-flag-requires : tie.Need-flag-requires Inv-loop μ-loop
-flag-requires c κs = search needs
+byte-requires : tie.Need-byte-requires Inv-loop μ-loop
+byte-requires c κs = search needs
 
 slice-write-down : tie.Need-slice-write-down Inv-loop μ-loop
 slice-write-down c =
@@ -89,8 +89,8 @@ loop-again c =
     let m = a .mask .now in
     let n = l .y * a .w + a .w - l .y * a .w in
     let q : n ≡ a .w = omega arith in
-    let v = c .before .before .before .before .before .flag .result in
-    let e : v ≡ bit (rowHas m (a .w) (l .y)) = c .before .before .before .before .before .flag .ensures ∙ ap bit (c .before .before .before .before .before .before .row-has .ensures ∙ row-part m (a .h) (a .w) (l .y) n (o .pre .masked .size) (t .loop-test .taken) q) in
+    let v = c .before .before .before .before .before .byte .result in
+    let e : v ≡ bit (rowHas m (a .w) (l .y)) = c .before .before .before .before .before .byte .ensures ∙ ap bit (c .before .before .before .before .before .before .row-has .ensures ∙ row-part m (a .h) (a .w) (l .y) n (o .pre .masked .size) (t .loop-test .taken) q) in
     let call = c .before .before .mark in
     let columns = column-more m (a .h) (a .w) (l .y) n (o .pre .masked .size) (t .loop-test .taken) q (l .across) (l .inv .2 ∙ o .pre .across-long) (l .inv .4) in (
       omega (arith, t .loop-test .taken),
@@ -131,7 +131,7 @@ survey-spec =
     part-row-has-start
     part-row-has-end
     row-has-requires
-    flag-requires
+    byte-requires
     slice-write-down
     sub-mark
     part-mark-start
