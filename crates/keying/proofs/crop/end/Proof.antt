@@ -1,8 +1,10 @@
 -- `keying::crop::end` meets its contract.
 -- Assumes nothing.
+use Prim.Native.Nat.{_+_}
+use native.Mathlib.Omega.{arith}
 use borrow.Author.Needs.{needs}
 use borrow.Author.Tests.{le-leb, lt-leb}
-use Rattle.outline.specs.Cut.{lesserOf}
+use Rattle.outline.specs.Cut.{lesserOf, margin}
 use Rattle.keying.proofs.crop.end.Statement.{statement}
 use Rattle.keying.proofs.crop.end.Tie as tie
 
@@ -14,11 +16,15 @@ add-past-2 c = search needs
 
 returns : tie.Need-returns
 unfolding lesserOf
-returns c = rw (le-leb _ _ (c .if1 .taken))
+returns c =
+    let a = c .before .args in
+    rw (le-leb (a .side) (a .at + 1 + margin) (omega arith))
 
 returns-2 : tie.Need-returns-2
 unfolding lesserOf
-returns-2 c = rw (lt-leb _ _ (c .if1 .left))
+returns-2 c =
+    let a = c .before .args in
+    rw (lt-leb (a .side) (a .at + 1 + margin) (omega arith)) (omega arith)
 
 pub end-spec : {M : Type 1} → statement M
 end-spec = tie.close (tie.spec add-past add-past-2 returns returns-2)
