@@ -53,7 +53,7 @@ valueAt input at (suc n) = 10 * valueAt input at n + (getD input (at + n) 0 - 48
 unfoldable pub isNumber : List ℕ → ℕ → Bool
 isNumber input at = leb 1 (digitsAt input at) && not (eqb (getD input at 0) 48)
 
--- where the width, the text after it, the height, the text after it and the pixels stand
+-- where the width, the text after it, the height, the text after it and the pixels stand: the three texts have 9, 8 and 46 bytes
 abbrev pub widthAt : ℕ
 widthAt = length widthText
 
