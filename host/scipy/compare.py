@@ -2,10 +2,10 @@
 """Compares the library with SciPy itself.
 
     apt-get install python3-scipy        # Debian
-    /usr/bin/python3 host/scipy/compare.py [SEED]
+    /usr/bin/python3 host/scipy/compare.py [ARCHIVE]
 
-Makes a shared object of target/staticlib/libstand.a with `cc`, calls it, and compares
-every value of
+Makes a shared object of ARCHIVE (by default target/staticlib/libstand.a) with `cc`,
+calls it, and compares every value of
 
     nearest  distance_transform_edt(1 - mask, return_indices=True)
     labels   label(mask), with their number
@@ -34,9 +34,8 @@ class Labels(ctypes.Structure):
     _fields_ = [("number", ctypes.c_uint32), ("parts", ctypes.c_uint32)]
 
 
-def library(folder):
+def library(archive, folder):
     """The library as a shared object."""
-    archive = ROOT / "target/staticlib/libstand.a"
     shared = pathlib.Path(folder) / "libstand.so"
     whole = ["-Wl,--whole-archive", str(archive), "-Wl,--no-whole-archive"]
     subprocess.run(["cc", "-shared", "-o", str(shared), *whole], check=True)
@@ -106,9 +105,10 @@ def small():
 
 
 def main():
-    random = np.random.default_rng(int(sys.argv[1]) if len(sys.argv) > 1 else 1)
+    random = np.random.default_rng(1)
+    archive = sys.argv[1] if len(sys.argv) > 1 else ROOT / "target/staticlib/libstand.a"
     with tempfile.TemporaryDirectory() as folder:
-        comparison = Comparison(library(folder))
+        comparison = Comparison(library(archive, folder))
         for mask in small():
             comparison.mask(mask, (0, 1, 2))
         for _ in range(3000):

@@ -19,7 +19,11 @@ fn library_and_scipy() {
     let said = match python {
         Some(python) if runs("cc", &["--version"]) => {
             let script = Path::new(env!("CARGO_MANIFEST_DIR")).join("scipy/compare.py");
-            let output = Command::new(python).arg(script).output().expect("python3");
+            let output = Command::new(python)
+                .arg(script)
+                .arg(env!("STAND_ARCHIVE"))
+                .output()
+                .expect("python3");
             let text = [output.stdout, output.stderr].concat();
             let text = String::from_utf8_lossy(&text).into_owned();
             assert!(output.status.success(), "{text}");
