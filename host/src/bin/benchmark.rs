@@ -503,11 +503,13 @@ fn cuts(side: usize, random: &mut Random, lents: &mut Lents, how: How, lines: &m
             lines.push(measure(call, &picture, lents, how));
         }
     }
-    let colours = pictures::noise(random, side, side, 970);
-    let background = random.mask(side * side, 30);
-    let picture = Plane::mask(side, "3 % noise", background, &colours);
-    for call in [Call::Growth(1), Call::Growth(3)] {
-        lines.push(measure(call, &picture, lents, how));
+    for (name, share) in [("3 % noise", 30), ("12 % noise", 120)] {
+        let colours = pictures::noise(random, side, side, 1000 - share);
+        let background = random.mask(side * side, share);
+        let picture = Plane::mask(side, name, background, &colours);
+        for call in [Call::Growth(1), Call::Growth(3)] {
+            lines.push(measure(call, &picture, lents, how));
+        }
     }
 }
 
