@@ -41,6 +41,8 @@ mod with {
         passes: [u64; 5],
         deep_empty: u64,
         deep_beyond: u64,
+        few_edges: u64,
+        many_edges: u64,
         exactly: u64,
         one_below: u64,
         ground_found: u64,
@@ -57,7 +59,8 @@ mod with {
                  \x20 cuts: {} refused for alpha, {} of partial alpha, {} opaque; ground sought {}, \
                  keyed {}, cropped {}\n\
                  \x20 keyed, passes with a join: none {none}, 1: {one}, 2: {two}, 3: {three}, more: \
-                 {more}; deep empty in a pass {}, an edge pixel's deep beyond 36 {}\n\
+                 {more}; deep empty in a pass {}, an edge pixel's deep beyond 36 {}; edge \
+                 pixels few {}, many {}\n\
                  \x20 border exactly nine tenths close {}, one entry below {}; ground found {}, all \
                  ground {}; growths of any background {}, with a join {}\n",
                 self.pictures,
@@ -71,6 +74,8 @@ mod with {
                 self.cropped,
                 self.deep_empty,
                 self.deep_beyond,
+                self.few_edges,
+                self.many_edges,
                 self.exactly,
                 self.one_below,
                 self.ground_found,
@@ -83,19 +88,20 @@ mod with {
     }
 
     /// Growth pass by pass, by mask.rs's own functions: in how many passes pixels join, whether deep
-    /// is empty in one, and whether an edge pixel's nearest deep pixel is beyond 36 in one.
+    /// is empty in one, whether an edge pixel's nearest deep pixel is beyond 36 in one, and whether,
+    /// beside a deep pixel, at most one pixel in 32 is edge in one, or more are: ours has a way for
+    /// each.
+    #[derive(Default)]
     struct Passes {
         joined: usize,
         deep_empty: bool,
         deep_beyond: bool,
+        few_edges: bool,
+        many_edges: bool,
     }
 
     fn passes(colours: &[f64], ground: &[bool], h: usize, w: usize, r: Rgb, most: i64) -> Passes {
-        let mut seen = Passes {
-            joined: 0,
-            deep_empty: false,
-            deep_beyond: false,
-        };
+        let mut seen = Passes::default();
         let mut back = ground.to_vec();
         for _ in 0..most {
             let near = mask::binary_dilation8(&back, h, w, 1);
@@ -108,6 +114,8 @@ mod with {
                 .map(|&d| !d)
                 .collect();
             if deep.contains(&true) {
+                seen.few_edges |= edge.len() <= h * w / 32;
+                seen.many_edges |= edge.len() > h * w / 32;
                 let (rows, cols) = mask::feature_transform(&deep, h, w);
                 seen.deep_beyond |= edge.iter().any(|&i| {
                     let dy = rows[i] as i64 - (i / w) as i64;
@@ -262,6 +270,8 @@ mod with {
                 self.covered.passes[seen.joined.min(4)] += 1;
                 self.covered.deep_empty += seen.deep_empty as u64;
                 self.covered.deep_beyond += seen.deep_beyond as u64;
+                self.covered.few_edges += seen.few_edges as u64;
+                self.covered.many_edges += seen.many_edges as u64;
             }
             let p = pictures::PASSES[random.below(pictures::PASSES.len())];
             match random.below(4) {
@@ -323,6 +333,7 @@ mod with {
             (more, "joins in more passes"),
             (covered.deep_empty, "deep empty"),
             (covered.deep_beyond, "deep beyond 36"),
+            (covered.many_edges, "many edge pixels"),
             (covered.exactly, "exactly nine tenths"),
             (covered.one_below, "one below nine tenths"),
             (covered.whole_ground, "all ground"),
@@ -384,6 +395,21 @@ mod with {
         }
         all.covered.say("sides to 4096");
         assert!(all.covered.keyed >= 20);
+    }
+
+    /// Badges, of which few pixels are edge.
+    #[test]
+    fn badges() {
+        let mut random = Random(37);
+        let mut all = Comparison::new(256, 256);
+        for turn in 0..300 {
+            let (h, w) = (128 + random.below(129), 128 + random.below(129));
+            let p = pictures::PASSES[random.below(pictures::PASSES.len())];
+            let drawn = badge(&mut random, h, w, turn % 2 == 0, p);
+            all.whole(&mut random, &drawn);
+        }
+        all.covered.say("badges, sides 128 to 256");
+        assert!(all.covered.few_edges >= 100, "{}", all.covered.few_edges);
     }
 
     /// Opaque, by the stand's own settings with p passes.
