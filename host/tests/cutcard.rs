@@ -1,16 +1,17 @@
 //! The program cutcard as a process, on some thousand good, damaged and random inputs of fixed seeds.
 //! What it writes is compared, byte by byte, with document 01 as it is read here: the header by its
-//! lines, the cut by `stand::cut`, the text by `format!`. And the pipe with Netpbm, where that is
-//! installed.
+//! lines, the cut by mask.rs where that is at hand and else by `stand::cut`, the text by `format!`.
+//! And the pipe with Netpbm, where that is installed.
 //!
 //! The program is `target/bin/cutcard` of the repository, which `rt check cutcard` proves and builds.
 //! Where it is not there, the tests say so and are left out.
+
+include!(concat!(env!("OUT_DIR"), "/the_rust.rs"));
 
 #[path = "../support/masks.rs"]
 mod masks;
 
 use masks::Random;
-use stand::{Picture, Settings};
 use std::io::{ErrorKind, Write};
 use std::path::{Path, PathBuf};
 use std::process::{Command, Output, Stdio};
@@ -96,6 +97,49 @@ fn header(input: &[u8]) -> Option<(u64, u64, &[u8])> {
     Some((w, h, rest))
 }
 
+/// Mask, keyed flag and crop box with the settings 128, yes, 1, 0.03125, yes; `None` where no alpha
+/// reaches the threshold.
+type Cut = Option<(Vec<bool>, bool, [usize; 4])>;
+
+#[cfg(mask_rs)]
+fn cut(colours: &[f64], alpha: &[u8], h: usize, w: usize) -> Cut {
+    let config = config::Config {
+        alpha_threshold: 128,
+        key_bg: true,
+        key_bg_fringe: 1,
+        key_bg_tolerance: 0.03125,
+        crop_to_alpha: true,
+    };
+    let cut = mask::subject(colours, alpha, h, w, &config).ok()?;
+    let (y0, y1, x0, x1) = cut.crop;
+    Some((cut.mask, cut.background_keyed, [y0, y1, x0, x1]))
+}
+
+#[cfg(not(mask_rs))]
+fn cut(colours: &[f64], alpha: &[u8], h: usize, w: usize) -> Cut {
+    let picture = stand::Picture {
+        colours,
+        alpha,
+        h,
+        w,
+    };
+    let settings = stand::Settings {
+        alpha_threshold: 128,
+        key_bg: true,
+        key_bg_fringe: 1,
+        key_bg_tolerance: 0.03125,
+        crop_to_alpha: true,
+    };
+    let cut = stand::cut(&picture, &settings).ok()?;
+    let (rows, cols) = (cut.crop.rows, cut.crop.cols);
+    let mask = cut.mask.iter().map(|&m| m != 0).collect();
+    Some((
+        mask,
+        cut.keyed,
+        [rows.start, rows.end, cols.start, cols.end],
+    ))
+}
+
 /// The text, or the number of the refusal.
 fn answer(input: &[u8]) -> Result<String, u32> {
     let (w, h, body) = header(input).ok_or(8u32)?;
@@ -113,32 +157,12 @@ fn answer(input: &[u8]) -> Result<String, u32> {
         .map(|v| f64::from(v) / 255.0)
         .collect();
     let alpha: Vec<u8> = pixels.map(|p| p[3]).collect();
-    let picture = Picture {
-        colours: &colours,
-        alpha: &alpha,
-        h,
-        w,
-    };
-    let settings = Settings {
-        alpha_threshold: 128,
-        key_bg: true,
-        key_bg_fringe: 1,
-        key_bg_tolerance: 0.03125,
-        crop_to_alpha: true,
-    };
-    let cut = stand::cut(&picture, &settings).map_err(|refusal| refusal.number())?;
-    let (rows, cols) = (cut.crop.rows, cut.crop.cols);
-    let mut text = format!(
-        "P1\n# crop {} {} {} {} keyed {}\n{w} {h}\n",
-        rows.start,
-        rows.end,
-        cols.start,
-        cols.end,
-        u8::from(cut.keyed)
-    );
-    for row in cut.mask.chunks(w) {
+    let (mask, keyed, [y0, y1, x0, x1]) = cut(&colours, &alpha, h, w).ok_or(6u32)?;
+    let keyed = u8::from(keyed);
+    let mut text = format!("P1\n# crop {y0} {y1} {x0} {x1} keyed {keyed}\n{w} {h}\n");
+    for row in mask.chunks(w) {
         for line in row.chunks(70) {
-            text.extend(line.iter().map(|&m| if m == 0 { '0' } else { '1' }));
+            text.extend(line.iter().map(|&m| if m { '1' } else { '0' }));
             text.push('\n');
         }
     }
