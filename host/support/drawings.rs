@@ -2,30 +2,7 @@
 //! roots and bits only, so that a seed gives the same numbers on every machine.
 
 use crate::masks::Random;
-use crate::pictures;
-
-pub type Colour = [f64; 3];
-
-fn pick<T: Copy>(random: &mut Random, of: &[T]) -> T {
-    of[random.below(of.len())]
-}
-
-/// From 0 to 1.
-fn unit(random: &mut Random) -> f64 {
-    (random.next() >> 11) as f64 / ((1u64 << 53) - 1) as f64
-}
-
-fn colour(random: &mut Random) -> Colour {
-    match random.below(8) {
-        0 => [1.0; 3],
-        1 => [0.0; 3],
-        2 => [-0.0; 3],
-        3 => [-0.0, 0.0, 1.0],
-        4 => [0.5; 3],
-        5 => [random.below(256) as f64 / 255.0; 3],
-        _ => [0; 3].map(|_: u8| unit(random)),
-    }
-}
+use crate::pictures::{self, colour, mix, pick, unit, Colour};
 
 /// A number up to two units in the last place away, from 0 to 1.
 fn beside(random: &mut Random, x: f64) -> f64 {
@@ -35,15 +12,6 @@ fn beside(random: &mut Random, x: f64) -> f64 {
         steps => bits.saturating_sub(steps - 2),
     };
     f64::from_bits(moved).min(1.0)
-}
-
-/// `part` of the way from a to b; the ends themselves at 0 and 1.
-pub fn mix(a: Colour, b: Colour, part: f64) -> Colour {
-    match part {
-        0.0 => a,
-        1.0 => b,
-        _ => [0, 1, 2].map(|c| (a[c] * (1.0 - part) + b[c] * part).clamp(0.0, 1.0)),
-    }
 }
 
 /// How much of a pixel a disc or ring covers, in sixteenths: radii in pixels about (cy, cx), with a

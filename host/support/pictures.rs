@@ -52,18 +52,18 @@ pub const TOLERANCES: [f64; 11] = [
     f64::MAX,
 ];
 
-fn pick<T: Copy>(random: &mut Random, of: &[T]) -> T {
+pub fn pick<T: Copy>(random: &mut Random, of: &[T]) -> T {
     of[random.below(of.len())]
 }
 
 /// From 0 to 1.
-fn unit(random: &mut Random) -> f64 {
+pub fn unit(random: &mut Random) -> f64 {
     (random.next() >> 11) as f64 / ((1u64 << 53) - 1) as f64
 }
 
-type Colour = [f64; 3];
+pub type Colour = [f64; 3];
 
-fn colour(random: &mut Random) -> Colour {
+pub fn colour(random: &mut Random) -> Colour {
     match random.below(8) {
         0 => [1.0; 3],
         1 => [0.0; 3],
@@ -76,7 +76,7 @@ fn colour(random: &mut Random) -> Colour {
 }
 
 /// `part` of the way from a to b; the ends themselves at 0 and 1.
-fn mix(a: Colour, b: Colour, part: f64) -> Colour {
+pub fn mix(a: Colour, b: Colour, part: f64) -> Colour {
     match part {
         p if p <= 0.0 => a,
         p if p >= 1.0 => b,

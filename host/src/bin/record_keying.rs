@@ -38,10 +38,10 @@ fn main() {
 mod with {
     use crate::cases::{Answers, Case, Outline};
     use crate::config::Config;
-    use crate::drawings::{self, mix, Colour, Disc};
+    use crate::drawings::{self, Disc};
     use crate::mask;
     use crate::masks::{bools, Random};
-    use crate::pictures::{self, PASSES, THRESHOLDS, TOLERANCES};
+    use crate::pictures::{self, mix, Colour, PASSES, THRESHOLDS, TOLERANCES};
     use stand::Settings;
     use std::path::PathBuf;
 
