@@ -6,6 +6,8 @@
  *
  *     cc program.c -I include target/staticlib/libstand.a -o program
  *
+ * docs/RULES.md has every rule in full; R1 and so on are its numbers.
+ *
  * Planes. A plane has h rows and w columns, each from 1 to STAND_MOST_SIDE.
  * Pixel (y, x) is element y * w + x. In a mask a byte 0 is off and any other
  * byte is on; the masks written here hold 0 and 1 only. "Within k" means at most
@@ -15,24 +17,33 @@
  * of pixel i is element 3 * i + c.
  *
  * Buffers. The caller lends every buffer as a pointer and its length, counted in
- * elements and not in bytes. There are three kinds:
+ * elements and not in bytes (R45, R46). There are three kinds:
  *   inputs        are read only;
  *   outputs       have exactly the length of their plane, and every element of
  *                 them is written;
  *   work buffers  hold at least stand_work_len(h, w) elements. What they hold
  *                 before the call has no effect, and after an accepted call it is
  *                 not defined.
- * Nothing is allocated and nothing is kept after the call returns.
+ * Nothing is allocated and nothing is kept after the call returns. Every call runs
+ * in a thread that has 64 KiB of stack, whatever the sides are.
  *
  * What the caller sees to: every pointer is aligned for its type and is not
  * NULL, even where the length is 0; length elements can be read there, and in
  * outputs and work buffers also written; an output or a work buffer overlaps no
  * other buffer of the same call; no other thread writes any of them, nor reads
- * the outputs and work buffers, before the call returns.
+ * the outputs and work buffers, before the call returns; a bool that is lent is a
+ * byte 0 or 1 and no other.
+ *
+ * Floating point. The calls that read double (ground, growth, cut) expect the
+ * environment that a program starts with: rounding to nearest, and subnormal
+ * numbers neither flushed to zero nor read as zero (on x86-64 FTZ and DAZ of MXCSR
+ * are off). With either changed the answers are not those promised here: a colour of
+ * -5e-324, say, would be accepted.
  *
  * Answers. Each call answers STAND_ACCEPTED or the number of the refusal. Where
- * several things are wrong the lowest number is answered. After a refusal every
- * buffer that was lent, work buffers included, is as it was.
+ * several things are wrong the lowest number is answered (R54 to R57). After a
+ * refusal every buffer that was lent, work buffers included, is as it was. Sides are
+ * judged first, then lengths, and nothing that is lent is read before both are right.
  */
 #ifndef STAND_H
 #define STAND_H
@@ -45,68 +56,81 @@
 extern "C" {
 #endif
 
-/* The longest side of a plane, in pixels. */
+/* The version of this header, and of the crate in host/. */
+#define STAND_VERSION "0.1.0"
+#define STAND_VERSION_MAJOR 0
+#define STAND_VERSION_MINOR 1
+#define STAND_VERSION_PATCH 0
+
+/* The longest side of a plane, in pixels (R1). */
 #define STAND_MOST_SIDE 4096
 
 /* Done: every output is complete. */
 #define STAND_ACCEPTED 0
-/* h or w is 0 or more than STAND_MOST_SIDE. */
+/* h or w is 0 or more than STAND_MOST_SIDE (R44). */
 #define STAND_SIDE 1
-/* The length of an input is not that of its plane: h * w, for colours 3 * h * w. */
+/* The length of an input is not that of its plane: h * w, for colours 3 * h * w
+ * (R45). */
 #define STAND_INPUT_LENGTH 2
 /* The length of an output is not that of its plane, or a work buffer holds fewer
- * than stand_work_len(h, w) elements. */
+ * than stand_work_len(h, w) elements (R46). */
 #define STAND_ROOM 3
-/* A colour, or the reference that is given, is below 0, above 1 or no number. */
+/* A colour, or the reference that is given, is below 0, above 1 or no number
+ * (R47). */
 #define STAND_COLOUR 4
-/* The tolerance is infinite or no number. */
+/* The tolerance is infinite or no number (R48). */
 #define STAND_TOLERANCE 5
-/* No alpha reaches the threshold: the mask would be empty. */
+/* No alpha reaches the threshold: the mask would be empty (R49). */
 #define STAND_ALPHA 6
 
-/* How many elements a work buffer needs, for sides from 1 to STAND_MOST_SIDE. */
+/* How many elements a work buffer needs. It is 0 where a side is 0 or more than
+ * STAND_MOST_SIDE: every call with such sides answers STAND_SIDE and uses no
+ * buffer. */
 static inline size_t stand_work_len(size_t h, size_t w)
 {
+    if (h < 1 || h > STAND_MOST_SIDE || w < 1 || w > STAND_MOST_SIDE) return 0;
     return 2 * h * w + 2 * (h + w) + 16;
 }
 
-/* Nearest: for each pixel the row and the column of the on-pixel at the least
- * dy * dy + dx * dx; among equals the one in the least column, and within that
- * column the least row. An on-pixel gets itself. Where no pixel is on, every
+/* Nearest (R10 to R12): for each pixel the row and the column of the on-pixel
+ * at the least dy * dy + dx * dx; among equals the one in the least column, and within
+ * that column the least row. An on-pixel gets itself. Where no pixel is on, every
  * pixel gets row -1 and column 0.
  *
  *   mask   input, h * w bytes
+ *   work   work buffer
  *   rows   output, h * w
  *   cols   output, h * w
  */
 uint32_t stand_nearest(
     const uint8_t *mask, size_t mask_len,
     size_t h, size_t w,
+    uint32_t *work, size_t work_len,
     int32_t *rows, size_t rows_len,
     int32_t *cols, size_t cols_len);
 
 /* What stand_labels answers. */
 typedef struct {
-    uint32_t number; /* STAND_ACCEPTED or the number of the refusal */
-    uint32_t parts;  /* how many parts the mask has; 0 when refused */
+    uint32_t refusal; /* STAND_ACCEPTED or the number of the refusal */
+    uint32_t parts;   /* how many parts the mask has; 0 when refused */
 } StandLabels;
 
-/* Labels: on-pixels that are joined by steps up, down, left or right form a part.
- * Each pixel gets the number of its part, from 1 on in the order in which a part
+/* Labels (R6, R7): on-pixels that are joined by steps up, down, left or right form a
+ * part. Each pixel gets the number of its part, from 1 on in the order in which a part
  * is first met, row by row from the left; a pixel that is off gets 0.
  *
- *   mask    input, h * w bytes
- *   stack   work buffer
- *   labels  output, h * w
+ *   mask     input, h * w bytes
+ *   parents  work buffer
+ *   labels   output, h * w
  */
 StandLabels stand_labels(
     const uint8_t *mask, size_t mask_len,
     size_t h, size_t w,
-    uint32_t *stack, size_t stack_len,
+    uint32_t *parents, size_t parents_len,
     uint32_t *labels, size_t labels_len);
 
-/* Squares: a pixel of the output is 1 exactly when an on-pixel of the mask is at
- * most k rows and at most k columns away, else 0. k is the number of iterations,
+/* Squares (R8, R9): a pixel of the output is 1 exactly when an on-pixel of the mask
+ * is at most k rows and at most k columns away, else 0. k is the number of iterations,
  * but never more than the larger side; 0 iterations mean the larger side. An
  * empty mask stays empty.
  *
@@ -121,39 +145,35 @@ uint32_t stand_squares(
     uint8_t *work, size_t work_len,
     uint8_t *out, size_t out_len);
 
-/* Square distance: dy * dy + dx * dx from each pixel to its nearest on-pixel, 0 at
- * an on-pixel. Where no pixel is on, pixel (y, x) gets (y + 1) * (y + 1) + x * x,
+/* Square distance (R13): dy * dy + dx * dx from each pixel to its nearest on-pixel,
+ * 0 at an on-pixel. Where no pixel is on, pixel (y, x) gets (y + 1) * (y + 1) + x * x,
  * which is its square distance from row -1, column 0.
  *
  *   mask   input, h * w bytes
- *   rows   work buffer
- *   cols   work buffer
+ *   work   work buffer
  *   out    output, h * w
  */
 uint32_t stand_distance(
     const uint8_t *mask, size_t mask_len,
     size_t h, size_t w,
-    int32_t *rows, size_t rows_len,
-    int32_t *cols, size_t cols_len,
+    uint32_t *work, size_t work_len,
     uint32_t *out, size_t out_len);
 
-/* Fill: each pixel takes the colour of its nearest on-pixel, bit for bit; an
+/* Fill (R14): each pixel takes the colour of its nearest on-pixel, bit for bit; an
  * on-pixel keeps its own. Where no pixel is on, every pixel takes the colour of
  * the first pixel of the last row. A colour here is three 64-bit patterns (of
  * double, say): any bits are taken, and only moved.
  *
  *   colours  input, 3 * h * w
  *   mask     input, h * w bytes
- *   rows     work buffer
- *   cols     work buffer
+ *   work     work buffer
  *   out      output, 3 * h * w
  */
 uint32_t stand_fill(
     const uint64_t *colours, size_t colours_len,
     const uint8_t *mask, size_t mask_len,
     size_t h, size_t w,
-    int32_t *rows, size_t rows_len,
-    int32_t *cols, size_t cols_len,
+    uint32_t *work, size_t work_len,
     uint64_t *out, size_t out_len);
 
 /* A colour. */
@@ -163,12 +183,12 @@ typedef struct {
 
 /* What stand_ground answers. */
 typedef struct {
-    uint32_t number;    /* STAND_ACCEPTED or the number of the refusal */
+    uint32_t refusal;   /* STAND_ACCEPTED or the number of the refusal */
     bool found;         /* whether the ground was found; false when refused */
     StandRgb reference; /* the border's colour, a zero as +0; all +0 when not found */
 } StandGround;
 
-/* Ground: the plain card around the object.
+/* Ground (R15 to R22): the plain card around the object.
  *
  * The border list is row 0, row h - 1, then column 0 and then column w - 1 of rows
  * 1 to h - 2, repeats included. The reference is, for each channel, half the sum
@@ -181,17 +201,18 @@ typedef struct {
  * the output is all 0. A negative tolerance is accepted: nothing is close then.
  *
  *   colours  input, 3 * h * w
- *   stack    work buffer
+ *   work     work buffer
  *   out      output, h * w bytes, 1 on the ground and 0 elsewhere
  */
 StandGround stand_ground(
     const double *colours, size_t colours_len,
     size_t h, size_t w,
     double tolerance,
-    uint32_t *stack, size_t stack_len,
+    uint32_t *work, size_t work_len,
     uint8_t *out, size_t out_len);
 
-/* Growth: passes that take the anti-aliased rim of the object into the background.
+/* Growth (R23 to R29): passes that take the anti-aliased rim of the object into the
+ * background.
  *
  * A pass works on the background that it starts with. Edge is what is not
  * background and within 1 of it; shallow is neither background nor edge; deep is
@@ -206,8 +227,8 @@ StandGround stand_ground(
  *
  *   colours               input, 3 * h * w
  *   background            input, h * w bytes
- *   near                  work buffer
- *   first, second, third  work buffers
+ *   nearest               work buffer
+ *   shallow, deep, marks  work buffers
  *   out                   output, h * w bytes, 1 on the background and 0 elsewhere
  */
 uint32_t stand_growth(
@@ -216,13 +237,13 @@ uint32_t stand_growth(
     size_t h, size_t w,
     StandRgb reference,
     int64_t passes,
-    uint32_t *near, size_t near_len,
-    uint8_t *first, size_t first_len,
-    uint8_t *second, size_t second_len,
-    uint8_t *third, size_t third_len,
+    uint32_t *nearest, size_t nearest_len,
+    uint8_t *shallow, size_t shallow_len,
+    uint8_t *deep, size_t deep_len,
+    uint8_t *marks, size_t marks_len,
     uint8_t *out, size_t out_len);
 
-/* The five settings of a cut. The stand's own are 128, true, 1, 0.03125, true. */
+/* The five settings of a cut (R30). */
 typedef struct {
     int64_t alpha_threshold; /* the mask is on where alpha is at least this */
     bool key_bg;             /* whether a ground is sought where that mask is full */
@@ -231,14 +252,17 @@ typedef struct {
     bool crop_to_alpha;      /* whether the crop box is the mask's */
 } StandSettings;
 
+/* The stand's own settings. */
+static const StandSettings STAND_DEFAULT_SETTINGS = {128, true, 1, 0.03125, true};
+
 /* What stand_cut answers. */
 typedef struct {
-    uint32_t number;       /* STAND_ACCEPTED or the number of the refusal */
+    uint32_t refusal;      /* STAND_ACCEPTED or the number of the refusal */
     bool keyed;            /* whether a ground was sought and found */
     size_t y0, y1, x0, x1; /* the crop box, ends excluded; all 0 when refused */
 } StandCut;
 
-/* Cut: the outline that is filed.
+/* Cut (R30 to R36): the outline that is filed.
  *
  * The mask is on where alpha is at least the threshold. If it is on everywhere and
  * key_bg asks for it, the ground is sought, and where it is found it grows and the
@@ -252,8 +276,8 @@ typedef struct {
  *
  *   colours               input, 3 * h * w
  *   alpha                 input, h * w bytes
- *   near                  work buffer
- *   first, second, third  work buffers
+ *   nearest               work buffer
+ *   shallow, deep, marks  work buffers
  *   mask                  output, h * w bytes, each 0 or 1
  *   weights               output, h * w
  */
@@ -262,10 +286,10 @@ StandCut stand_cut(
     const uint8_t *alpha, size_t alpha_len,
     size_t h, size_t w,
     StandSettings settings,
-    uint32_t *near, size_t near_len,
-    uint8_t *first, size_t first_len,
-    uint8_t *second, size_t second_len,
-    uint8_t *third, size_t third_len,
+    uint32_t *nearest, size_t nearest_len,
+    uint8_t *shallow, size_t shallow_len,
+    uint8_t *deep, size_t deep_len,
+    uint8_t *marks, size_t marks_len,
     uint8_t *mask, size_t mask_len,
     double *weights, size_t weights_len);
 

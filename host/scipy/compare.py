@@ -31,7 +31,7 @@ SQUARE = np.ones((3, 3))
 
 
 class Labels(ctypes.Structure):
-    _fields_ = [("number", ctypes.c_uint32), ("parts", ctypes.c_uint32)]
+    _fields_ = [("refusal", ctypes.c_uint32), ("parts", ctypes.c_uint32)]
 
 
 def library(archive, folder):
@@ -61,19 +61,21 @@ class Comparison:
             print(f"{what} differs on a mask of {mask.shape}:\n{mask}")
             sys.exit(1)
 
-    def nearest(self, mask, sides):
+    def nearest(self, mask, sides, room):
+        work = np.zeros(room, np.uint32)
         rows, columns = np.zeros(mask.shape, np.int32), np.zeros(mask.shape, np.int32)
-        number = self.lib.stand_nearest(*lent(mask), *sides, *lent(rows), *lent(columns))
-        assert number == 0
+        planes = *lent(rows), *lent(columns)
+        refusal = self.lib.stand_nearest(*lent(mask), *sides, *lent(work), *planes)
+        assert refusal == 0
         _, (y, x) = ndimage.distance_transform_edt(mask == 0, return_indices=True)
         self.same("rows of nearest", mask, rows, y)
         self.same("columns of nearest", mask, columns, x)
 
     def labels(self, mask, sides, room):
-        stack, plane = np.zeros(room, np.uint32), np.zeros(mask.shape, np.uint32)
-        answer = self.lib.stand_labels(*lent(mask), *sides, *lent(stack), *lent(plane))
+        parents, plane = np.zeros(room, np.uint32), np.zeros(mask.shape, np.uint32)
+        answer = self.lib.stand_labels(*lent(mask), *sides, *lent(parents), *lent(plane))
         theirs, parts = ndimage.label(mask)
-        assert answer.number == 0
+        assert answer.refusal == 0
         self.same("labels", mask, plane, theirs)
         self.same("the number of parts", mask, np.array(answer.parts), np.array(parts))
 
@@ -89,7 +91,7 @@ class Comparison:
         h, w = mask.shape
         sides = ctypes.c_size_t(h), ctypes.c_size_t(w)
         room = 2 * h * w + 2 * (h + w) + 16
-        self.nearest(mask, sides)
+        self.nearest(mask, sides, room)
         self.labels(mask, sides, room)
         for k in iterations:
             self.squares(mask, sides, room, k)

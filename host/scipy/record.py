@@ -76,7 +76,7 @@ def drawn(text):
 
 
 def document(out):
-    """The cases of document 01."""
+    """The proved cases (R73 to R76)."""
     for text in ("101", "1/0/1", "01/10", "00/00"):
         out.nearest(drawn(text))
     for text in ("10/01", "101/111"):

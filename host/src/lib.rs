@@ -218,9 +218,10 @@ impl Nearest {
 /// ```
 pub fn nearest(mask: &[u8], h: usize, w: usize) -> Result<Nearest, Refusal> {
     let plane = plane_len(h, w);
+    let mut work = zeros(work_len(h, w));
     let mut rows = zeros(plane);
     let mut cols = zeros(plane);
-    Refusal::check(raw::nearest(mask, h, w, &mut rows, &mut cols))?;
+    Refusal::check(raw::nearest(mask, h, w, &mut work, &mut rows, &mut cols))?;
     Ok(Nearest { rows, cols })
 }
 
@@ -242,10 +243,10 @@ pub struct Labels {
 /// # Ok::<(), stand::Refusal>(())
 /// ```
 pub fn labels(mask: &[u8], h: usize, w: usize) -> Result<Labels, Refusal> {
-    let mut stack = zeros(work_len(h, w));
+    let mut parents = zeros(work_len(h, w));
     let mut plane = zeros(plane_len(h, w));
-    let answer = raw::labels(mask, h, w, &mut stack, &mut plane);
-    Refusal::check(answer.number)?;
+    let answer = raw::labels(mask, h, w, &mut parents, &mut plane);
+    Refusal::check(answer.refusal)?;
     Ok(Labels {
         plane,
         count: answer.parts,
@@ -277,10 +278,9 @@ pub fn squares(mask: &[u8], h: usize, w: usize, iterations: u64) -> Result<Vec<u
 /// # Ok::<(), stand::Refusal>(())
 /// ```
 pub fn square_distance(mask: &[u8], h: usize, w: usize) -> Result<Vec<u32>, Refusal> {
-    let mut rows = zeros(work_len(h, w));
-    let mut cols = zeros(work_len(h, w));
+    let mut work = zeros(work_len(h, w));
     let mut out = zeros(plane_len(h, w));
-    Refusal::check(raw::distance(mask, h, w, &mut rows, &mut cols, &mut out))?;
+    Refusal::check(raw::distance(mask, h, w, &mut work, &mut out))?;
     Ok(out)
 }
 
@@ -300,12 +300,9 @@ pub fn fill_transparent(
     h: usize,
     w: usize,
 ) -> Result<Vec<f64>, Refusal> {
-    let mut rows = zeros(work_len(h, w));
-    let mut cols = zeros(work_len(h, w));
+    let mut work = zeros(work_len(h, w));
     let mut out = zeros(plane_len(h, w).map(|n| 3 * n));
-    Refusal::check(raw::fill(
-        colours, mask, h, w, &mut rows, &mut cols, &mut out,
-    ))?;
+    Refusal::check(raw::fill(colours, mask, h, w, &mut work, &mut out))?;
     Ok(out)
 }
 
@@ -357,10 +354,10 @@ pub fn ground(
     w: usize,
     tolerance: f64,
 ) -> Result<Option<Ground>, Refusal> {
-    let mut stack = zeros(work_len(h, w));
+    let mut work = zeros(work_len(h, w));
     let mut plane = zeros(plane_len(h, w));
-    let answer = raw::ground(colours, h, w, tolerance, &mut stack, &mut plane);
-    Refusal::check(answer.number)?;
+    let answer = raw::ground(colours, h, w, tolerance, &mut work, &mut plane);
+    Refusal::check(answer.refusal)?;
     Ok(answer.found.then_some(Ground {
         plane,
         reference: answer.reference,
@@ -369,29 +366,29 @@ pub fn ground(
 
 /// The work buffers of growth and cut.
 struct Buffers {
-    near: Vec<u32>,
-    first: Vec<u8>,
-    second: Vec<u8>,
-    third: Vec<u8>,
+    nearest: Vec<u32>,
+    shallow: Vec<u8>,
+    deep: Vec<u8>,
+    marks: Vec<u8>,
 }
 
 impl Buffers {
     fn new(h: usize, w: usize) -> Buffers {
         let len = work_len(h, w);
         Buffers {
-            near: zeros(len),
-            first: zeros(len),
-            second: zeros(len),
-            third: zeros(len),
+            nearest: zeros(len),
+            shallow: zeros(len),
+            deep: zeros(len),
+            marks: zeros(len),
         }
     }
 
     fn lend(&mut self) -> raw::Work<'_> {
         raw::Work {
-            near: &mut self.near,
-            first: &mut self.first,
-            second: &mut self.second,
-            third: &mut self.third,
+            nearest: &mut self.nearest,
+            shallow: &mut self.shallow,
+            deep: &mut self.deep,
+            marks: &mut self.marks,
         }
     }
 }
@@ -557,7 +554,7 @@ pub fn cut(picture: &Picture<'_>, settings: &Settings) -> Result<Cut, Refusal> {
         &mut mask,
         &mut weights,
     );
-    Refusal::check(answer.number)?;
+    Refusal::check(answer.refusal)?;
     Ok(Cut {
         mask,
         weights,

@@ -16,7 +16,7 @@ use crate::{Rgb, Settings};
 #[derive(Clone, Copy, Debug, PartialEq, Eq)]
 pub struct StandLabels {
     /// 0, or the number of the refusal.
-    pub number: u32,
+    pub refusal: u32,
     /// How many parts the mask has; 0 when refused.
     pub parts: u32,
 }
@@ -26,7 +26,7 @@ pub struct StandLabels {
 #[derive(Clone, Copy, Debug, PartialEq)]
 pub struct StandGround {
     /// 0, or the number of the refusal.
-    pub number: u32,
+    pub refusal: u32,
     /// Whether the ground was found; false when refused.
     pub found: bool,
     /// The border's colour, a zero as +0; all +0 when not found.
@@ -38,7 +38,7 @@ pub struct StandGround {
 #[derive(Clone, Copy, Debug, PartialEq, Eq)]
 pub struct StandCut {
     /// 0, or the number of the refusal.
-    pub number: u32,
+    pub refusal: u32,
     /// Whether a ground was sought and found; false when refused.
     pub keyed: bool,
     /// The first row of the crop box; with the next three, 0 when refused.
@@ -63,136 +63,153 @@ const _: () = {
 /// bytes a pixel in all.
 #[derive(Debug)]
 pub struct Work<'a> {
-    /// Pixels still to be looked at, later indices of pixels.
-    pub near: &'a mut [u32],
-    /// A plane of bytes.
-    pub first: &'a mut [u8],
-    /// A plane of bytes.
-    pub second: &'a mut [u8],
-    /// A plane of bytes.
-    pub third: &'a mut [u8],
+    /// The border's values and the pixels that the flood has still to look at, then the indices of
+    /// nearest pixels.
+    pub nearest: &'a mut [u32],
+    /// The shallow pixels.
+    pub shallow: &'a mut [u8],
+    /// The deep pixels.
+    pub deep: &'a mut [u8],
+    /// What a pass has decided of each pixel; in the end 1 where it joins.
+    pub marks: &'a mut [u8],
 }
 
-extern "C" {
-    fn stand_nearest(
-        mask: *const u8,
-        mask_len: usize,
-        h: usize,
-        w: usize,
-        rows: *mut i32,
-        rows_len: usize,
-        cols: *mut i32,
-        cols_len: usize,
-    ) -> u32;
-    fn stand_labels(
-        mask: *const u8,
-        mask_len: usize,
-        h: usize,
-        w: usize,
-        stack: *mut u32,
-        stack_len: usize,
-        labels: *mut u32,
-        labels_len: usize,
-    ) -> StandLabels;
-    fn stand_squares(
-        mask: *const u8,
-        mask_len: usize,
-        h: usize,
-        w: usize,
-        iterations: u64,
-        work: *mut u8,
-        work_len: usize,
-        out: *mut u8,
-        out_len: usize,
-    ) -> u32;
-    fn stand_distance(
-        mask: *const u8,
-        mask_len: usize,
-        h: usize,
-        w: usize,
-        rows: *mut i32,
-        rows_len: usize,
-        cols: *mut i32,
-        cols_len: usize,
-        out: *mut u32,
-        out_len: usize,
-    ) -> u32;
-    fn stand_fill(
-        colours: *const u64,
-        colours_len: usize,
-        mask: *const u8,
-        mask_len: usize,
-        h: usize,
-        w: usize,
-        rows: *mut i32,
-        rows_len: usize,
-        cols: *mut i32,
-        cols_len: usize,
-        out: *mut u64,
-        out_len: usize,
-    ) -> u32;
-    fn stand_ground(
-        colours: *const f64,
-        colours_len: usize,
-        h: usize,
-        w: usize,
-        tolerance: f64,
-        stack: *mut u32,
-        stack_len: usize,
-        out: *mut u8,
-        out_len: usize,
-    ) -> StandGround;
-    fn stand_growth(
-        colours: *const f64,
-        colours_len: usize,
-        background: *const u8,
-        background_len: usize,
-        h: usize,
-        w: usize,
-        reference: Rgb,
-        passes: i64,
-        near: *mut u32,
-        near_len: usize,
-        first: *mut u8,
-        first_len: usize,
-        second: *mut u8,
-        second_len: usize,
-        third: *mut u8,
-        third_len: usize,
-        out: *mut u8,
-        out_len: usize,
-    ) -> u32;
-    fn stand_cut(
-        colours: *const f64,
-        colours_len: usize,
-        alpha: *const u8,
-        alpha_len: usize,
-        h: usize,
-        w: usize,
-        settings: Settings,
-        near: *mut u32,
-        near_len: usize,
-        first: *mut u8,
-        first_len: usize,
-        second: *mut u8,
-        second_len: usize,
-        third: *mut u8,
-        third_len: usize,
-        mask: *mut u8,
-        mask_len: usize,
-        weights: *mut f64,
-        weights_len: usize,
-    ) -> StandCut;
-}
+/// The exports themselves, on pointers: for what slices cannot say. What the caller sees to is in
+/// `include/stand.h`.
+#[allow(missing_docs)]
+pub mod exports {
+    use super::{StandCut, StandGround, StandLabels};
+    use crate::{Rgb, Settings};
 
-/// `stand_nearest`: `rows` and `cols` are outputs of h × w numbers.
-pub fn nearest(mask: &[u8], h: usize, w: usize, rows: &mut [i32], cols: &mut [i32]) -> u32 {
+    extern "C" {
+        pub fn stand_nearest(
+            mask: *const u8,
+            mask_len: usize,
+            h: usize,
+            w: usize,
+            work: *mut u32,
+            work_len: usize,
+            rows: *mut i32,
+            rows_len: usize,
+            cols: *mut i32,
+            cols_len: usize,
+        ) -> u32;
+        pub fn stand_labels(
+            mask: *const u8,
+            mask_len: usize,
+            h: usize,
+            w: usize,
+            parents: *mut u32,
+            parents_len: usize,
+            labels: *mut u32,
+            labels_len: usize,
+        ) -> StandLabels;
+        pub fn stand_squares(
+            mask: *const u8,
+            mask_len: usize,
+            h: usize,
+            w: usize,
+            iterations: u64,
+            work: *mut u8,
+            work_len: usize,
+            out: *mut u8,
+            out_len: usize,
+        ) -> u32;
+        pub fn stand_distance(
+            mask: *const u8,
+            mask_len: usize,
+            h: usize,
+            w: usize,
+            work: *mut u32,
+            work_len: usize,
+            out: *mut u32,
+            out_len: usize,
+        ) -> u32;
+        pub fn stand_fill(
+            colours: *const u64,
+            colours_len: usize,
+            mask: *const u8,
+            mask_len: usize,
+            h: usize,
+            w: usize,
+            work: *mut u32,
+            work_len: usize,
+            out: *mut u64,
+            out_len: usize,
+        ) -> u32;
+        pub fn stand_ground(
+            colours: *const f64,
+            colours_len: usize,
+            h: usize,
+            w: usize,
+            tolerance: f64,
+            work: *mut u32,
+            work_len: usize,
+            out: *mut u8,
+            out_len: usize,
+        ) -> StandGround;
+        pub fn stand_growth(
+            colours: *const f64,
+            colours_len: usize,
+            background: *const u8,
+            background_len: usize,
+            h: usize,
+            w: usize,
+            reference: Rgb,
+            passes: i64,
+            nearest: *mut u32,
+            nearest_len: usize,
+            shallow: *mut u8,
+            shallow_len: usize,
+            deep: *mut u8,
+            deep_len: usize,
+            marks: *mut u8,
+            marks_len: usize,
+            out: *mut u8,
+            out_len: usize,
+        ) -> u32;
+        pub fn stand_cut(
+            colours: *const f64,
+            colours_len: usize,
+            alpha: *const u8,
+            alpha_len: usize,
+            h: usize,
+            w: usize,
+            settings: Settings,
+            nearest: *mut u32,
+            nearest_len: usize,
+            shallow: *mut u8,
+            shallow_len: usize,
+            deep: *mut u8,
+            deep_len: usize,
+            marks: *mut u8,
+            marks_len: usize,
+            mask: *mut u8,
+            mask_len: usize,
+            weights: *mut f64,
+            weights_len: usize,
+        ) -> StandCut;
+    }
+}
+use exports::*;
+
+/// `stand_nearest`: `work` is a work buffer, `rows` and `cols` are outputs of h × w numbers.
+pub fn nearest(
+    mask: &[u8],
+    h: usize,
+    w: usize,
+    work: &mut [u32],
+    rows: &mut [i32],
+    cols: &mut [i32],
+) -> u32 {
     unsafe {
         stand_nearest(
             mask.as_ptr(),
             mask.len(),
             h,
             w,
+            work.as_mut_ptr(),
+            work.len(),
             rows.as_mut_ptr(),
             rows.len(),
             cols.as_mut_ptr(),
@@ -201,12 +218,12 @@ pub fn nearest(mask: &[u8], h: usize, w: usize, rows: &mut [i32], cols: &mut [i3
     }
 }
 
-/// `stand_labels`: `stack` is a work buffer, `labels` an output of h × w numbers.
+/// `stand_labels`: `parents` is a work buffer, `labels` an output of h × w numbers.
 pub fn labels(
     mask: &[u8],
     h: usize,
     w: usize,
-    stack: &mut [u32],
+    parents: &mut [u32],
     labels: &mut [u32],
 ) -> StandLabels {
     unsafe {
@@ -215,8 +232,8 @@ pub fn labels(
             mask.len(),
             h,
             w,
-            stack.as_mut_ptr(),
-            stack.len(),
+            parents.as_mut_ptr(),
+            parents.len(),
             labels.as_mut_ptr(),
             labels.len(),
         )
@@ -247,40 +264,30 @@ pub fn squares(
     }
 }
 
-/// `stand_distance`: `rows` and `cols` are work buffers, `out` an output of h × w numbers.
-pub fn distance(
-    mask: &[u8],
-    h: usize,
-    w: usize,
-    rows: &mut [i32],
-    cols: &mut [i32],
-    out: &mut [u32],
-) -> u32 {
+/// `stand_distance`: `work` is a work buffer, `out` an output of h × w numbers.
+pub fn distance(mask: &[u8], h: usize, w: usize, work: &mut [u32], out: &mut [u32]) -> u32 {
     unsafe {
         stand_distance(
             mask.as_ptr(),
             mask.len(),
             h,
             w,
-            rows.as_mut_ptr(),
-            rows.len(),
-            cols.as_mut_ptr(),
-            cols.len(),
+            work.as_mut_ptr(),
+            work.len(),
             out.as_mut_ptr(),
             out.len(),
         )
     }
 }
 
-/// `stand_fill` on f64: the library moves the bits of the numbers and nothing else. `rows` and
-/// `cols` are work buffers, `out` an output of 3 × h × w numbers.
+/// `stand_fill` on f64: the library moves the bits of the numbers and nothing else. `work` is a
+/// work buffer, `out` an output of 3 × h × w numbers.
 pub fn fill(
     colours: &[f64],
     mask: &[u8],
     h: usize,
     w: usize,
-    rows: &mut [i32],
-    cols: &mut [i32],
+    work: &mut [u32],
     out: &mut [f64],
 ) -> u32 {
     // f64 and u64 have one size, and any bits are a value of either; that they have one alignment
@@ -294,23 +301,21 @@ pub fn fill(
             mask.len(),
             h,
             w,
-            rows.as_mut_ptr(),
-            rows.len(),
-            cols.as_mut_ptr(),
-            cols.len(),
+            work.as_mut_ptr(),
+            work.len(),
             out.as_mut_ptr().cast(),
             out.len(),
         )
     }
 }
 
-/// `stand_ground`: `stack` is a work buffer, `out` an output of h × w bytes.
+/// `stand_ground`: `work` is a work buffer, `out` an output of h × w bytes.
 pub fn ground(
     colours: &[f64],
     h: usize,
     w: usize,
     tolerance: f64,
-    stack: &mut [u32],
+    work: &mut [u32],
     out: &mut [u8],
 ) -> StandGround {
     unsafe {
@@ -320,8 +325,8 @@ pub fn ground(
             h,
             w,
             tolerance,
-            stack.as_mut_ptr(),
-            stack.len(),
+            work.as_mut_ptr(),
+            work.len(),
             out.as_mut_ptr(),
             out.len(),
         )
@@ -350,14 +355,14 @@ pub fn growth(
             w,
             reference,
             passes,
-            work.near.as_mut_ptr(),
-            work.near.len(),
-            work.first.as_mut_ptr(),
-            work.first.len(),
-            work.second.as_mut_ptr(),
-            work.second.len(),
-            work.third.as_mut_ptr(),
-            work.third.len(),
+            work.nearest.as_mut_ptr(),
+            work.nearest.len(),
+            work.shallow.as_mut_ptr(),
+            work.shallow.len(),
+            work.deep.as_mut_ptr(),
+            work.deep.len(),
+            work.marks.as_mut_ptr(),
+            work.marks.len(),
             out.as_mut_ptr(),
             out.len(),
         )
@@ -385,14 +390,14 @@ pub fn cut(
             h,
             w,
             settings,
-            work.near.as_mut_ptr(),
-            work.near.len(),
-            work.first.as_mut_ptr(),
-            work.first.len(),
-            work.second.as_mut_ptr(),
-            work.second.len(),
-            work.third.as_mut_ptr(),
-            work.third.len(),
+            work.nearest.as_mut_ptr(),
+            work.nearest.len(),
+            work.shallow.as_mut_ptr(),
+            work.shallow.len(),
+            work.deep.as_mut_ptr(),
+            work.deep.len(),
+            work.marks.as_mut_ptr(),
+            work.marks.len(),
             mask.as_mut_ptr(),
             mask.len(),
             weights.as_mut_ptr(),

@@ -1,12 +1,12 @@
 //! The text of recorded cases of ground and cut and of their answers, in the format that
-//! crates/replay_keying/src/lib.rt describes.
+//! crates/replay/src/lib.rt describes.
 #![allow(dead_code)]
 
 use stand::Settings;
 use std::fmt::Write;
 
 /// The most pixels and the most colours of a case.
-pub const MOST_PIXELS: usize = 1024;
+pub const MOST_PIXELS: usize = 1296;
 pub const MOST_COLOURS: usize = 80;
 
 /// The characters of the palette start here.

@@ -7,14 +7,14 @@ use stand::{Rgb, Settings};
 
 /// Outputs and work buffers for planes of up to `n` pixels.
 pub struct Lent {
+    /// The work buffer of nearest, labels, square distance and fill.
+    pub numbers: Vec<u32>,
+    /// The work buffer of squares.
+    pub bytes: Vec<u8>,
     pub rows: Vec<i32>,
     pub cols: Vec<i32>,
-    pub stack: Vec<u32>,
     pub labels: Vec<u32>,
-    pub work: Vec<u8>,
     pub out: Vec<u8>,
-    pub row_work: Vec<i32>,
-    pub col_work: Vec<i32>,
     pub distance: Vec<u32>,
     pub filled: Vec<f64>,
 }
@@ -26,14 +26,12 @@ impl Lent {
         let n = h * w;
         let work = stand::work_len(h, w).expect("sides from 1 to 4096");
         Lent {
+            numbers: vec![7; work],
+            bytes: vec![7; work],
             rows: vec![-7; n],
             cols: vec![-7; n],
-            stack: vec![7; work],
             labels: vec![7; n],
-            work: vec![7; work],
             out: vec![7; n],
-            row_work: vec![-7; work],
-            col_work: vec![-7; work],
             distance: vec![7; n],
             filled: vec![7.5; 3 * n],
         }
@@ -42,53 +40,46 @@ impl Lent {
     pub fn nearest(&mut self, mask: &[u8], h: usize, w: usize) -> (&[i32], &[i32]) {
         let n = h * w;
         let (rows, cols) = (&mut self.rows[..n], &mut self.cols[..n]);
-        assert_eq!(raw::nearest(mask, h, w, rows, cols), 0, "nearest {h} × {w}");
+        let refusal = raw::nearest(mask, h, w, &mut self.numbers, rows, cols);
+        assert_eq!(refusal, 0, "nearest {h} × {w}");
         (rows, cols)
     }
 
     pub fn labels(&mut self, mask: &[u8], h: usize, w: usize) -> (&[u32], u32) {
         let labels = &mut self.labels[..h * w];
-        let answer = raw::labels(mask, h, w, &mut self.stack, labels);
-        assert_eq!(answer.number, 0, "labels {h} × {w}");
+        let answer = raw::labels(mask, h, w, &mut self.numbers, labels);
+        assert_eq!(answer.refusal, 0, "labels {h} × {w}");
         (labels, answer.parts)
     }
 
     pub fn squares(&mut self, mask: &[u8], h: usize, w: usize, iterations: u64) -> &[u8] {
         let out = &mut self.out[..h * w];
-        let answer = raw::squares(mask, h, w, iterations, &mut self.work, out);
-        assert_eq!(answer, 0, "squares {h} × {w}, {iterations} iterations");
+        let refusal = raw::squares(mask, h, w, iterations, &mut self.bytes, out);
+        assert_eq!(refusal, 0, "squares {h} × {w}, {iterations} iterations");
         out
     }
 
     pub fn distance(&mut self, mask: &[u8], h: usize, w: usize) -> &[u32] {
         let out = &mut self.distance[..h * w];
-        let answer = raw::distance(mask, h, w, &mut self.row_work, &mut self.col_work, out);
-        assert_eq!(answer, 0, "distance {h} × {w}");
+        let refusal = raw::distance(mask, h, w, &mut self.numbers, out);
+        assert_eq!(refusal, 0, "distance {h} × {w}");
         out
     }
 
     pub fn fill(&mut self, colours: &[f64], mask: &[u8], h: usize, w: usize) -> &[f64] {
         let out = &mut self.filled[..3 * h * w];
-        let answer = raw::fill(
-            colours,
-            mask,
-            h,
-            w,
-            &mut self.row_work,
-            &mut self.col_work,
-            out,
-        );
-        assert_eq!(answer, 0, "fill {h} × {w}");
+        let refusal = raw::fill(colours, mask, h, w, &mut self.numbers, out);
+        assert_eq!(refusal, 0, "fill {h} × {w}");
         out
     }
 }
 
 /// Outputs and work buffers of ground, growth and cut.
 pub struct CutLent {
-    pub near: Vec<u32>,
-    pub first: Vec<u8>,
-    pub second: Vec<u8>,
-    pub third: Vec<u8>,
+    pub nearest: Vec<u32>,
+    pub shallow: Vec<u8>,
+    pub deep: Vec<u8>,
+    pub marks: Vec<u8>,
     pub mask: Vec<u8>,
     pub weights: Vec<f64>,
 }
@@ -99,10 +90,10 @@ impl CutLent {
         let n = h * w;
         let work = stand::work_len(h, w).expect("sides from 1 to 4096");
         CutLent {
-            near: vec![7; work],
-            first: vec![7; work],
-            second: vec![7; work],
-            third: vec![7; work],
+            nearest: vec![7; work],
+            shallow: vec![7; work],
+            deep: vec![7; work],
+            marks: vec![7; work],
             mask: vec![7; n],
             weights: vec![7.5; n],
         }
@@ -116,8 +107,8 @@ impl CutLent {
         tolerance: f64,
     ) -> (StandGround, &[u8]) {
         let out = &mut self.mask[..h * w];
-        let answer = raw::ground(colours, h, w, tolerance, &mut self.near, out);
-        assert_eq!(answer.number, 0, "ground {h} × {w}");
+        let answer = raw::ground(colours, h, w, tolerance, &mut self.nearest, out);
+        assert_eq!(answer.refusal, 0, "ground {h} × {w}");
         (answer, out)
     }
 
@@ -132,13 +123,13 @@ impl CutLent {
     ) -> &[u8] {
         let out = &mut self.mask[..h * w];
         let mut work = Work {
-            near: &mut self.near,
-            first: &mut self.first,
-            second: &mut self.second,
-            third: &mut self.third,
+            nearest: &mut self.nearest,
+            shallow: &mut self.shallow,
+            deep: &mut self.deep,
+            marks: &mut self.marks,
         };
-        let answer = raw::growth(colours, background, h, w, reference, passes, &mut work, out);
-        assert_eq!(answer, 0, "growth {h} × {w}");
+        let refusal = raw::growth(colours, background, h, w, reference, passes, &mut work, out);
+        assert_eq!(refusal, 0, "growth {h} × {w}");
         out
     }
 
@@ -153,10 +144,10 @@ impl CutLent {
     ) -> (StandCut, &[u8], &[f64]) {
         let (mask, weights) = (&mut self.mask[..h * w], &mut self.weights[..h * w]);
         let mut work = Work {
-            near: &mut self.near,
-            first: &mut self.first,
-            second: &mut self.second,
-            third: &mut self.third,
+            nearest: &mut self.nearest,
+            shallow: &mut self.shallow,
+            deep: &mut self.deep,
+            marks: &mut self.marks,
         };
         let answer = raw::cut(colours, alpha, h, w, settings, &mut work, mask, weights);
         (answer, mask, weights)

@@ -1,4 +1,4 @@
-//! Pictures of known kinds with settings to cut them by, and what document 01 says of their border
+//! Pictures of known kinds with settings to cut them by, and what the rules say of their border
 //! and ground, computed in the plainest way.
 #![allow(dead_code)]
 
@@ -353,7 +353,7 @@ pub fn sides(random: &mut Random, most: usize) -> (usize, usize) {
     }
 }
 
-/// Document 01's border list, repeats included.
+/// The border list (R15), repeats included.
 pub fn border(h: usize, w: usize) -> Vec<usize> {
     let inner = 1..h.saturating_sub(1);
     (0..w)
@@ -372,7 +372,7 @@ pub fn onto_border(h: usize, w: usize) -> Vec<bool> {
     on
 }
 
-/// Document 01's reference, by sorting; a zero as +0.
+/// The reference (R17), by sorting; a zero as +0.
 pub fn reference(colours: &[f64], h: usize, w: usize) -> Rgb {
     let list = border(h, w);
     let [r, g, b] = [0, 1, 2].map(|c| {
@@ -393,7 +393,7 @@ pub fn is_close(colours: &[f64], i: usize, reference: Rgb, tolerance: f64) -> bo
     most <= tolerance
 }
 
-/// Document 01's ground, found or not: 1 on it.
+/// The ground (R20), found or not: 1 on it.
 pub fn ground(colours: &[f64], h: usize, w: usize, tolerance: f64) -> Vec<u8> {
     let reference = reference(colours, h, w);
     let close: Vec<bool> = (0..h * w)

@@ -68,13 +68,20 @@ growth 0: 24
 cut 0, keyed 1, crop 1 4 1 4: 1, weight 1
 bytes 24 32 40 40
 refused 4 5 6, 6 5 4
-";
+room 0 0 0 0 22 33570832
+version ";
+
+/// What the program writes: the version is that of the crate.
+fn every_call() -> String {
+    let version = env!("CARGO_PKG_VERSION");
+    format!("{EVERY_CALL}{version} {}\n", version.replace('.', " "))
+}
 
 #[test]
 fn every_call_in_c() {
     for words in [&["-std=c99"], &["-std=c11"]] {
         if let Some(text) = run("cc", words, "every_call.c") {
-            assert_eq!(text, EVERY_CALL);
+            assert_eq!(text, every_call());
         }
     }
 }
@@ -82,6 +89,6 @@ fn every_call_in_c() {
 #[test]
 fn every_call_in_cpp() {
     if let Some(text) = run("c++", &["-std=c++11", "-x", "c++"], "every_call.c") {
-        assert_eq!(text, EVERY_CALL);
+        assert_eq!(text, every_call());
     }
 }

@@ -187,12 +187,12 @@ mod with {
             let theirs = match mask::subject(colours, alpha, *h, *w, &config) {
                 Ok(theirs) => theirs,
                 Err(_) => {
-                    assert_eq!(answer.number, 6, "{}", drawn.show());
+                    assert_eq!(answer.refusal, 6, "{}", drawn.show());
                     self.covered.refused += 1;
                     return false;
                 }
             };
-            assert_eq!(answer.number, 0, "{}", drawn.show());
+            assert_eq!(answer.refusal, 0, "{}", drawn.show());
             assert_eq!(answer.keyed, theirs.background_keyed, "{}", drawn.show());
             let crop = (answer.y0, answer.y1, answer.x0, answer.x1);
             assert_eq!(crop, theirs.crop, "{}", drawn.show());

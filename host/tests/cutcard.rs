@@ -1,5 +1,5 @@
 //! The program cutcard as a process, on some thousand good, damaged and random inputs of fixed seeds.
-//! What it writes is compared, byte by byte, with document 01 as it is read here: the header by its
+//! What it writes is compared, byte by byte, with the rules as they are read here (R38 to R43): the header by its
 //! lines, the cut by mask.rs where that is at hand and else by `stand::cut`, the text by `format!`.
 //! And the pipe with Netpbm, where that is installed.
 //!
@@ -61,7 +61,7 @@ fn run(program: &Path, input: &[u8]) -> Vec<u8> {
     out.stdout
 }
 
-// ---- document 01, read anew
+// ---- the rules, read anew
 
 const TAIL: [&[u8]; 4] = [b"DEPTH 4", b"MAXVAL 255", b"TUPLTYPE RGB_ALPHA", b"ENDHDR"];
 
@@ -75,7 +75,7 @@ fn number(line: &[u8], word: &str) -> Option<u64> {
     std::str::from_utf8(digits).ok()?.parse().ok()
 }
 
-/// Width, height and the bytes after the header; `None` where the header is not document 01's.
+/// Width, height and the bytes after the header; `None` where the header is not R38's.
 fn header(input: &[u8]) -> Option<(u64, u64, &[u8])> {
     let mut rest = input;
     let mut line = || {
@@ -211,7 +211,7 @@ fn good(random: &mut Random, h: usize, w: usize) -> Vec<u8> {
     file
 }
 
-/// The worked example of document 01: 5 by 5 white with (2, 2) black.
+/// The example of R43: 5 by 5 white with (2, 2) black.
 fn badge() -> Vec<u8> {
     let mut file = header_of("5", "5");
     let mut body = vec![255; 100];
@@ -427,6 +427,24 @@ fn in_pieces() {
     )
     .expect("cutcard");
     assert_eq!(String::from_utf8(out.stdout).unwrap(), text);
+}
+
+/// With 256 KiB of stack, on the largest pictures.
+#[test]
+fn in_little_stack() {
+    let Some(program) = program() else { return };
+    let mut random = Random(8);
+    for (h, w) in [(48, 48), (1, 2304), (2304, 1), (24, 96), (5, 5)] {
+        for _ in 0..4 {
+            let file = good(&mut random, h, w);
+            let text = answer(&file).unwrap_or_else(|number| format!("refused {number}\n"));
+            let mut command = Command::new("sh");
+            command.args(["-c", "ulimit -s 256 && exec \"$0\""]);
+            let out = feed(command.arg(&program), &[&file], Duration::ZERO).expect("sh");
+            assert!(out.status.success(), "{h} × {w}: {:?}", out.status);
+            assert_eq!(String::from_utf8_lossy(&out.stdout), text, "{h} × {w}");
+        }
+    }
 }
 
 #[test]

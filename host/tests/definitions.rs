@@ -1,4 +1,4 @@
-//! Document 01's words, computed pixel by pixel without any algorithm, and its cases; and the safe
+//! The rules on plane geometry (R6 to R14), computed pixel by pixel without any algorithm, and its cases; and the safe
 //! functions. These need no mask.rs.
 
 #[path = "../support/masks.rs"]
@@ -135,7 +135,7 @@ fn square_distance_of_an_empty_mask() {
     }
 }
 
-/// The cases of document 01 on nearest, labels and squares.
+/// The proved cases on nearest, labels and squares (R73 to R76).
 #[test]
 fn document_cases() {
     let planes = stand::nearest(&[1, 0, 1], 1, 3).unwrap();

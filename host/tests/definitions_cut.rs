@@ -1,4 +1,4 @@
-//! Document 01's words on ground, growth and cut, computed pixel by pixel without any algorithm, and
+//! The rules on ground, growth and cut (R15 to R36), computed pixel by pixel without any algorithm, and
 //! its cases. These need no mask.rs.
 
 #[path = "../support/masks.rs"]
@@ -193,7 +193,7 @@ fn greys(h: usize, w: usize, greys: &[f64], p: i64) -> Cut {
     stand::cut(&picture, &settings).unwrap()
 }
 
-/// The cases of document 01 on ground, growth and cut.
+/// The proved cases on ground, growth and cut (R77 to R79).
 #[test]
 fn document_cases() {
     assert_eq!(stand::ground(&[1.0; 3], 1, 1, 0.0), Ok(None));

@@ -1,9 +1,11 @@
 //! The documents speak of what is there: names of definitions, functions, laws and edits that they
-//! cite stand in the crates, files they point to exist, and every must-fail edit has its place in
-//! the table of docs/ARCHITECTURE.md.
+//! cite stand in the crates, files they point to exist, every must-fail edit and every crate has its
+//! place in the tables of docs/ARCHITECTURE.md, and every rule that is cited anywhere is one of
+//! docs/RULES.md.
 
 use std::collections::BTreeSet;
 use std::fs;
+use std::io::Write;
 use std::path::{Path, PathBuf};
 
 fn root() -> PathBuf {
@@ -137,4 +139,107 @@ fn files_pointed_to_exist() {
             }
         }
     }
+}
+
+/// The rules of docs/RULES.md, in its order.
+fn rules() -> Vec<usize> {
+    let text = read(&root().join("docs/RULES.md"));
+    let number = |line: &str| line.strip_prefix("- **R")?.split("**").next()?.parse().ok();
+    text.lines().filter_map(number).collect()
+}
+
+/// The rules that a text cites: words of R and a number.
+fn cited(text: &str) -> Vec<usize> {
+    text.split(|c: char| !(c.is_alphanumeric() || c == '_'))
+        .filter_map(|word| word.strip_prefix('R')?.parse().ok())
+        .collect()
+}
+
+/// What a reader reads of a file: a page whole, of a source its comments.
+fn prose(path: &Path, text: &str) -> String {
+    let comment = match path.extension().and_then(|e| e.to_str()) {
+        Some("antt") => "--",
+        Some("rt" | "rs") => "//",
+        Some("py") => "#",
+        _ => return text.to_string(),
+    };
+    let after = |line: &str| {
+        line.split_once(comment)
+            .map(|(_, said)| said.to_string() + "\n")
+    };
+    text.lines().filter_map(after).collect()
+}
+
+/// The pages and sources of the repository.
+fn texts() -> Vec<(PathBuf, String)> {
+    let mut found = vec![root().join("README.md")];
+    for folder in ["crates", "docs", "examples", "host", "include"] {
+        found.extend(all_files(folder));
+    }
+    let kinds = ["antt", "rt", "rs", "md", "h", "c", "py", "edit"];
+    found.retain(|p| p.extension().is_some_and(|e| kinds.iter().any(|k| e == *k)));
+    found.into_iter().map(|p| (p.clone(), read(&p))).collect()
+}
+
+#[test]
+fn rules_are_numbered_in_order() {
+    let rules = rules();
+    assert!(rules.len() >= 79, "{} rules", rules.len());
+    let distinct: BTreeSet<usize> = rules.iter().copied().collect();
+    let expected: BTreeSet<usize> = (1..=rules.len()).collect();
+    assert_eq!(distinct, expected, "a number is missing or stands twice");
+}
+
+#[test]
+fn cited_rules_exist() {
+    let rules = rules();
+    let (mut count, mut specs, mut missing) = (0, BTreeSet::new(), Vec::new());
+    for (path, text) in texts() {
+        let all = cited(&prose(&path, &text));
+        count += all.len();
+        let wrong = all.iter().filter(|rule| !rules.contains(rule));
+        missing.extend(wrong.map(|rule| format!("{}: R{rule}", path.display())));
+        if path.components().any(|part| part.as_os_str() == "specs") {
+            specs.extend(all);
+        }
+    }
+    let line = format!(
+        "{count} citations of rules; definitions cite {} of them\n",
+        specs.len()
+    );
+    std::io::stderr().write_all(line.as_bytes()).unwrap();
+    assert!(missing.is_empty(), "no rule of docs/RULES.md: {missing:#?}");
+}
+
+/// The papers that the rules replace are named in docs/RULES.md and nowhere else.
+#[test]
+fn the_old_name_is_gone() {
+    let old = ["00", "01"].map(|number| format!("ocument {number}"));
+    let left: Vec<PathBuf> = texts()
+        .into_iter()
+        .filter(|(_, text)| old.iter().any(|name| text.contains(name)))
+        .filter(|(path, _)| !path.ends_with("docs/RULES.md"))
+        .map(|(path, _)| path)
+        .collect();
+    assert!(
+        left.is_empty(),
+        "cite a rule of docs/RULES.md instead: {left:#?}"
+    );
+}
+
+#[test]
+fn every_crate_has_its_place() {
+    let page: BTreeSet<String> = quoted(&read(&root().join("docs/ARCHITECTURE.md")))
+        .into_iter()
+        .collect();
+    let list = read(&root().join("crates.txt"));
+    let crates = list.lines().filter_map(|line| line.split_once(':'));
+    let left_out: Vec<&str> = crates
+        .map(|(name, _)| name)
+        .filter(|name| !name.starts_with('#') && !page.contains(*name))
+        .collect();
+    assert!(
+        left_out.is_empty(),
+        "not in docs/ARCHITECTURE.md: {left_out:?}"
+    );
 }

@@ -44,11 +44,11 @@ impl Call {
     /// The slices of the call, in the order of the parameters.
     fn kinds(self) -> &'static [Kind] {
         match self {
-            Call::Nearest => &[Input(1), Output(1), Output(1)],
+            Call::Nearest => &[Input(1), Work, Output(1), Output(1)],
             Call::Labels => &[Input(1), Work, Output(1)],
             Call::Squares => &[Input(1), Work, Output(1)],
-            Call::Distance => &[Input(1), Work, Work, Output(1)],
-            Call::Fill => &[Input(3), Input(1), Work, Work, Output(3)],
+            Call::Distance => &[Input(1), Work, Output(1)],
+            Call::Fill => &[Input(3), Input(1), Work, Output(3)],
         }
     }
 
@@ -67,7 +67,7 @@ impl Call {
             .collect()
     }
 
-    /// Document 01's number.
+    /// The number of RULES.
     fn number(self, h: usize, w: usize, lengths: &[usize]) -> u32 {
         if !(1..=4096).contains(&h) || !(1..=4096).contains(&w) {
             return 1;
@@ -97,27 +97,32 @@ impl Call {
         let (number, refused_ok, accepted_ok) = match self {
             Call::Nearest => {
                 let mut mask = bytes(lengths[0]);
-                let mut rows = Buffer::new(lengths[1], || random.next() as i32);
-                let mut cols = Buffer::new(lengths[2], || random.next() as i32);
-                let number = raw::nearest(mask.lent(), h, w, rows.lent(), cols.lent());
+                let mut work = Buffer::new(lengths[1], || random.next() as u32);
+                let mut rows = Buffer::new(lengths[2], || random.next() as i32);
+                let mut cols = Buffer::new(lengths[3], || random.next() as i32);
+                let (lent, planes) = (work.lent(), (rows.lent(), cols.lent()));
+                let number = raw::nearest(mask.lent(), h, w, lent, planes.0, planes.1);
                 (
                     number,
-                    mask.unchanged() && rows.unchanged() && cols.unchanged(),
-                    mask.unchanged() && rows.unchanged_beside() && cols.unchanged_beside(),
+                    mask.unchanged() && work.unchanged() && rows.unchanged() && cols.unchanged(),
+                    mask.unchanged()
+                        && work.unchanged_beside()
+                        && rows.unchanged_beside()
+                        && cols.unchanged_beside(),
                 )
             }
             Call::Labels => {
                 let mut mask = bytes(lengths[0]);
-                let mut stack = Buffer::new(lengths[1], || random.next() as u32);
+                let mut parents = Buffer::new(lengths[1], || random.next() as u32);
                 let mut labels = Buffer::new(lengths[2], || random.next() as u32);
-                let answer = raw::labels(mask.lent(), h, w, stack.lent(), labels.lent());
-                if answer.number != 0 {
+                let answer = raw::labels(mask.lent(), h, w, parents.lent(), labels.lent());
+                if answer.refusal != 0 {
                     assert_eq!(answer.parts, 0, "parts of a refusal");
                 }
                 (
-                    answer.number,
-                    mask.unchanged() && stack.unchanged() && labels.unchanged(),
-                    mask.unchanged() && stack.unchanged_beside() && labels.unchanged_beside(),
+                    answer.refusal,
+                    mask.unchanged() && parents.unchanged() && labels.unchanged(),
+                    mask.unchanged() && parents.unchanged_beside() && labels.unchanged_beside(),
                 )
             }
             Call::Squares => {
@@ -133,42 +138,27 @@ impl Call {
             }
             Call::Distance => {
                 let mut mask = bytes(lengths[0]);
-                let mut rows = Buffer::new(lengths[1], || random.next() as i32);
-                let mut cols = Buffer::new(lengths[2], || random.next() as i32);
-                let mut out = Buffer::new(lengths[3], || random.next() as u32);
-                let number = raw::distance(mask.lent(), h, w, rows.lent(), cols.lent(), out.lent());
+                let mut work = Buffer::new(lengths[1], || random.next() as u32);
+                let mut out = Buffer::new(lengths[2], || random.next() as u32);
+                let number = raw::distance(mask.lent(), h, w, work.lent(), out.lent());
                 (
                     number,
-                    mask.unchanged() && rows.unchanged() && cols.unchanged() && out.unchanged(),
-                    mask.unchanged()
-                        && rows.unchanged_beside()
-                        && cols.unchanged_beside()
-                        && out.unchanged_beside(),
+                    mask.unchanged() && work.unchanged() && out.unchanged(),
+                    mask.unchanged() && work.unchanged_beside() && out.unchanged_beside(),
                 )
             }
             Call::Fill => {
                 let mut mask = bytes(lengths[1]);
-                let mut colours = Buffer::new(lengths[0], || random.next() as f64);
-                let mut rows = Buffer::new(lengths[2], || random.next() as i32);
-                let mut cols = Buffer::new(lengths[3], || random.next() as i32);
-                let mut out = Buffer::new(lengths[4], || random.next() as f64);
-                let number = raw::fill(
-                    colours.lent(),
-                    mask.lent(),
-                    h,
-                    w,
-                    rows.lent(),
-                    cols.lent(),
-                    out.lent(),
-                );
+                let mut colours = Buffer::new(lengths[0], || f64::from_bits(random.next()));
+                let mut work = Buffer::new(lengths[2], || random.next() as u32);
+                let mut out = Buffer::new(lengths[3], || f64::from_bits(random.next()));
+                let (all, lent) = (colours.lent(), work.lent());
+                let number = raw::fill(all, mask.lent(), h, w, lent, out.lent());
                 let inputs = colours.unchanged() && mask.unchanged();
                 (
                     number,
-                    inputs && rows.unchanged() && cols.unchanged() && out.unchanged(),
-                    inputs
-                        && rows.unchanged_beside()
-                        && cols.unchanged_beside()
-                        && out.unchanged_beside(),
+                    inputs && work.unchanged() && out.unchanged(),
+                    inputs && work.unchanged_beside() && out.unchanged_beside(),
                 )
             }
         };
@@ -348,7 +338,12 @@ fn sides_at_the_limit() {
         }
     }
     let (h, w) = (4096, 4096);
-    for lengths in [[h * w, h * w, h * w - 1], [h * w - 1, h * w, h * w - 1]] {
+    let room = stand::work_len(h, w).expect("sides that are accepted");
+    for lengths in [
+        [h * w, room, h * w, h * w - 1],
+        [h * w - 1, room, h * w, h * w - 1],
+        [h * w, room - 1, h * w, h * w],
+    ] {
         let number = Call::Nearest.hold(&mut random, h, w, 0, &lengths);
         count.0[number as usize] += 1;
     }

@@ -88,7 +88,7 @@ impl Given {
         }
     }
 
-    /// Document 01's number.
+    /// The number of RULES.
     fn number(&self) -> u32 {
         let side = |side| (1..=4096).contains(&side);
         if !side(self.h) || !side(self.w) {
@@ -150,7 +150,7 @@ impl Given {
             Call::Cut => [lengths[3], lengths[4], lengths[5], lengths[6], 0, 0].map(bytes),
         };
         let mut words = |len| Buffer::new(len, || random.next() as u32);
-        let mut near = match call {
+        let mut nearest = match call {
             Call::Ground => words(lengths[1]),
             _ => words(lengths[2]),
         };
@@ -167,25 +167,26 @@ impl Given {
             });
         }
         let mut weights = match call {
-            Call::Cut => Buffer::new(lengths[7], || random.next() as f64),
+            // Any bits, also of what is no number.
+            Call::Cut => Buffer::new(lengths[7], || f64::from_bits(random.next())),
             _ => Buffer::new(0, || 0.5),
         };
         let mut work = Work {
-            near: near.lent(),
-            first: b1.lent(),
-            second: b2.lent(),
-            third: b3.lent(),
+            nearest: nearest.lent(),
+            shallow: b1.lent(),
+            deep: b2.lent(),
+            marks: b3.lent(),
         };
         let number = match call {
             Call::Ground => {
                 let tolerance = settings.key_bg_tolerance;
-                let answer = raw::ground(&inside, h, w, tolerance, work.near, b5.lent());
+                let answer = raw::ground(&inside, h, w, tolerance, work.nearest, b5.lent());
                 if !answer.found {
                     let Rgb { r, g, b } = answer.reference;
                     assert_eq!([r, g, b].map(f64::to_bits), [0; 3], "{self:?}");
                 }
-                assert!(answer.number == 0 || !answer.found, "{self:?}");
-                answer.number
+                assert!(answer.refusal == 0 || !answer.found, "{self:?}");
+                answer.refusal
             }
             Call::Growth => {
                 let (reference, p) = (self.reference, settings.key_bg_fringe);
@@ -205,11 +206,11 @@ impl Given {
                 let alpha = input.lent();
                 let (mask, weights) = (b4.lent(), weights.lent());
                 let a = raw::cut(&inside, alpha, h, w, *settings, &mut work, mask, weights);
-                if a.number != 0 {
+                if a.refusal != 0 {
                     let all = (a.keyed, a.y0, a.y1, a.x0, a.x1);
                     assert_eq!(all, (false, 0, 0, 0, 0), "{self:?}");
                 }
-                a.number
+                a.refusal
             }
         };
         assert_eq!(number, self.number(), "{self:?}");
@@ -219,12 +220,12 @@ impl Given {
         if number == 0 {
             assert!(lent.iter().all(|b| b.unchanged_beside()), "{self:?}");
             assert!(
-                near.unchanged_beside() && weights.unchanged_beside(),
+                nearest.unchanged_beside() && weights.unchanged_beside(),
                 "{self:?}"
             );
         } else {
             assert!(lent.iter().all(|b| b.unchanged()), "{self:?}");
-            assert!(near.unchanged() && weights.unchanged(), "{self:?}");
+            assert!(nearest.unchanged() && weights.unchanged(), "{self:?}");
         }
         number
     }

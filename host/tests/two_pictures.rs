@@ -75,7 +75,7 @@ fn cut_in(lent: &mut CutLent, picture: &Picture, settings: &Settings) -> Result<
         w,
     } = *picture;
     let (answer, mask, weights) = lent.cut(colours, alpha, h, w, *settings);
-    Refusal::check(answer.number)?;
+    Refusal::check(answer.refusal)?;
     Ok(Cut {
         mask: mask.to_vec(),
         weights: weights.to_vec(),
@@ -212,13 +212,13 @@ fn pairs_that_are_declined() {
             _ => h = [0, 4097, h + 1][random.below(3)],
         }
         let run = |colours: &[f64], settings, fill: u8| {
-            let mut near = vec![fill as u32; lengths[0]];
-            let [mut first, mut second, mut third] = [1, 2, 3].map(|i| vec![fill; lengths[i]]);
+            let mut nearest = vec![fill as u32; lengths[0]];
+            let [mut shallow, mut deep, mut marks] = [1, 2, 3].map(|i| vec![fill; lengths[i]]);
             let mut work = Work {
-                near: &mut near,
-                first: &mut first,
-                second: &mut second,
-                third: &mut third,
+                nearest: &mut nearest,
+                shallow: &mut shallow,
+                deep: &mut deep,
+                marks: &mut marks,
             };
             let (mut mask, mut weights) = (vec![fill; outputs[0]], vec![0.5; outputs[1]]);
             let alpha = &drawn.alpha;
@@ -240,37 +240,38 @@ fn pairs_that_are_declined() {
         }
         let second = run(&colours, equal_settings(&mut random, &settings), 200);
         assert_eq!(first, second);
-        assert_ne!(first.number, 0);
+        assert_ne!(first.refusal, 0);
     }
 }
 
-/// A square card of rings, ring k of grey k / 8 and the middle of the grey given.
-fn rings(side: usize, middle: f64) -> Vec<f64> {
+/// A square card of grey rings. Ring d, counted from 0 at the border, has the colour
+/// 1 − 1.25^(d − p − 4); the pixel in the middle has the grey given.
+fn rings(p: usize, side: usize, middle: f64) -> Vec<f64> {
+    let grey = |d: usize| 1.0 - (d..p + 4).fold(1.0, |power, _| power / 1.25);
     (0..side * side)
         .flat_map(|i| {
             let (y, x) = (i / side, i % side);
             let ring = y.min(x).min(side - 1 - y).min(side - 1 - x);
-            [if ring == side / 2 {
-                middle
-            } else {
-                ring as f64 / 8.0
-            }; 3]
+            match ring == side / 2 {
+                true => [middle; 3],
+                false => [grey(ring); 3],
+            }
         })
         .collect()
 }
 
-/// The radius p + 4 cannot be p + 3, for p 1 to 3: on a card of side 2 (p + 4) + 1 whose ground is
-/// the border only, the middle pixel is p + 4 away. Its colour decides whether pixels join in pass p.
+/// The radius p + 4 cannot be p + 3, for these p: on a card of side 2 (p + 4) + 1 whose ground is the
+/// border only, the middle pixel is p + 4 away. Its colour decides whether pixels join in pass p.
 #[test]
 fn one_pixel_less_is_not_enough() {
-    for p in 1..=3 {
+    for p in [1, 2, 3, 4, 8, 12] {
         let settings = Settings {
             key_bg_fringe: p as i64,
             key_bg_tolerance: 0.0,
             ..Settings::default()
         };
         let cut = |side: usize, middle: f64| {
-            let colours = rings(side, middle);
+            let colours = rings(p, side, middle);
             let ground = pictures::ground(&colours, side, side, 0.0);
             let border = pictures::onto_border(side, side);
             assert!((0..side * side).all(|i| border[i] == (ground[i] == 1)));
@@ -282,20 +283,19 @@ fn one_pixel_less_is_not_enough() {
             };
             stand::cut(&picture, &settings).unwrap()
         };
-        // Twice ring p is below the grey of ring p + 4, but not below twice itself.
-        let (joins, stays) = ((p + 4) as f64 / 8.0, 2.0 * p as f64 / 8.0);
+        // Black, as the rings go on, and the grey of ring p, which is as far from the border's as
+        // the pixels that might join in pass p.
+        let (joins, stays) = (0.0, 1.0 - (1.0 / 1.25f64).powi(4));
         let side = 2 * (p + 4) + 1;
         let (first, second) = (cut(side, joins), cut(side, stays));
         assert!(first.keyed && second.keyed);
         assert_ne!(first.mask, second.mask, "p {p}");
-        assert_ne!(first.crop, second.crop, "p {p}");
         // One ring more, and the middle pixel is out of reach.
         let side = side + 2;
-        alike(&Ok(cut(side, joins)), &Ok(cut(side, stays)), || {
-            format!("p {p}")
-        });
-        alike(&Ok(cut(side, 0.0)), &Ok(cut(side, 1.0)), || {
-            format!("p {p}")
-        });
+        for middle in [stays, 0.5, 1.0] {
+            alike(&Ok(cut(side, joins)), &Ok(cut(side, middle)), || {
+                format!("p {p}")
+            });
+        }
     }
 }

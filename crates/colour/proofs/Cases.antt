@@ -48,7 +48,7 @@ all (b ∷ bs) = b && all bs
 
 cases : List Bool
 cases =
-    -- document 01: 0.75 joins, 0.5 does not
+    -- R79: 0.75 joins, 0.5 does not
     joined three-quarters
     ∷ not (joined half)
     -- full has to be above 1e-6

@@ -1,8 +1,8 @@
 -- Numbers from 0 to 1: each is finite, a difference of two is no NaN, and every entry of a list in range is in range. So closeness is three tests, one for each channel.
 -- Assumes nothing.
 use mathlib.Core.Path.{_≡_, refl, sym, ap, _∙_, subst}
-use mathlib.Core.Bool.{Bool, true, false, not, _&&_, Bool·beq, cond}
-use mathlib.Core.List.{List, [], _∷_}
+use mathlib.Core.Bool.{Bool, true, false, not, _&&_, Bool·beq, cond, and-assoc}
+use mathlib.Core.List.{List, [], _∷_, _++_}
 use Prim.Native.Nat.{ℕ, zero, suc, _+_, _*_, _^_, _<_}
 use native.Mathlib.Nat.{le-of-suc-le-suc, not-suc-le-zero}
 use native.Mathlib.Omega.{arith}
@@ -14,7 +14,8 @@ use lib.Ieee.Fits.{and-l, and-r, and-i}
 use lib.Ieee.Scale.{finite}
 use Rattle.colour.specs.declared.Rgb.{Rgb}
 use Rattle.colour.specs.Number.{zero64, absOf, larger}
-use Rattle.colour.specs.Colour.{differenceOf, closeTo, colourOk, coloursOk, rgbOk, InRange}
+use Rattle.colour.specs.Colour.{differenceOf, closeTo, colourOk, coloursOk, rgbOk}
+use Rattle.colour.specs.steps.Range.{InRange}
 use Rattle.colour.proofs.Compare.{larger-le, larger-number}
 
 -- a test that is true, and back
@@ -125,3 +126,9 @@ pub colours-all : (l : List Float) → ((i : ℕ) → i < length l → colourOk 
 unfolding coloursOk
 colours-all [] h = refl
 colours-all (x ∷ l) h = is-true _ (and-i (colourOk x) (coloursOk l) (is _ (h 0 (suc-pos (length l)))) (is _ (colours-all l (λ i k. h (suc i) (suc-less i (length l) k)))))
+
+-- two lists in a row are in range exactly when each is
+pub colours-append : (l m : List Float) → coloursOk (l ++ m) ≡ coloursOk l && coloursOk m
+unfolding coloursOk
+colours-append [] m = refl
+colours-append (x ∷ l) m = ap (λ (b : Bool). colourOk x && b) (colours-append l m) ∙ sym (and-assoc (colourOk x) (coloursOk l) (coloursOk m))

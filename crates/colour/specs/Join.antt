@@ -8,6 +8,7 @@ use Rattle.colour.specs.Number.{two64}
 abbrev pub millionth : Float
 millionth = ofBits binary64 0x3eb0_c6f7_a0b5_ed8d
 
--- document 01's "joins": full, the difference of body colour and reference, is above 1e-6, and twice mixed, the difference of the pixel itself, is less than full
+-- joins (R27): full, the difference of body colour and reference, is above 1e-6, and twice mixed, the difference of the
+-- pixel itself, is less than full
 unfoldable pub joinsOf : Float → Float → Bool
 joinsOf full mixed = lt millionth full && lt (mul binary64 two64 mixed) full

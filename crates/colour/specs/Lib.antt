@@ -3,3 +3,4 @@ pub mod Colour
 pub mod Join
 pub mod Weight
 pub mod Settings
+pub mod steps

@@ -1,8 +1,12 @@
 -- Operations on one number or two, in binary64, each rounded once.
 -- Assumes nothing.
+use Prim.Native.Nat.{ℕ, _<_}
 use mathlib.Core.Bool.{false, cond}
+use mathlib.Core.List.{List}
+use lib.Dec.{T}
 use lib.IntN.{pos}
-use lib.Ieee.{Float, fin, binary64, neg, add, div, lt, eq}
+use lib.ListN.{length, getD}
+use lib.Ieee.{Float, nan, fin, binary64, fits, neg, add, div, lt, eq}
 
 -- the numbers +0, 1 and 2
 abbrev pub zero64 : Float
@@ -29,3 +33,7 @@ plusZero x = cond (eq x zero64) zero64 x
 -- half of the sum of two numbers
 unfoldable pub halfOf : Float → Float → Float
 halfOf lo hi = div binary64 (add binary64 lo hi) two64
+
+-- every number of a list is a binary64 number, as every f64 in memory is
+abbrev pub Binary64 : List Float → Type 0
+Binary64 l = (i : ℕ) → i < length l → T (fits binary64 (getD l i nan))

@@ -11,10 +11,10 @@ abbrev pub atLeastZero : ℤ → ℕ
 atLeastZero (pos n) = n
 atLeastZero (negsuc n) = 0
 
--- document 01's p, the most passes of growth
+-- p, the most passes of growth (R28)
 unfoldable pub passesOf : Settings → ℕ
 passesOf s = atLeastZero (s .«key_bg_fringe»)
 
--- document 01's "the mask is on where alpha ≥ threshold"
+-- the mask by alpha (R31): on where alpha is at least the threshold
 unfoldable pub onOf : ℕ → ℤ → Bool
 onOf alpha threshold = leZ threshold (pos alpha)

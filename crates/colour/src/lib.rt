@@ -2,9 +2,10 @@
 ghost use mathlib.Core.Path.{_≡_};
 ghost use lib.Ieee.Scale.{finite};
 ghost use Rattle.colour.specs.Number.{absOf, larger, plusZero, halfOf};
-ghost use Rattle.colour.specs.Colour.{differenceOf, closeTo, colourOk, coloursOk, InRange};
-ghost use Rattle.colour.specs.Settings.{passesOf, onOf};
+ghost use Rattle.colour.specs.Colour.{differenceOf, closeTo, colourOk, coloursOk};
+ghost use Rattle.colour.specs.Settings.{atLeastZero, passesOf, onOf};
 ghost use Rattle.colour.specs.Join.{joinsOf};
+ghost use Rattle.colour.specs.steps.Range.{InRange, Checked};
 
 pub mod weights;
 
@@ -75,8 +76,11 @@ pub fn colour_ok(x: f64) -> bool
     (0.0 <= x) & (x <= 1.0)
 }
 
-// Whether every number is from 0 to 1.
-pub fn colours_ok(colours: &[f64]) -> bool
+// How many numbers `colours_ok` tests before it looks whether all of them passed.
+const BLOCK: usize = 256;
+
+// Whether every number of a block is from 0 to 1; all of them are read.
+fn block_ok(colours: &[f64]) -> bool
     ensures { λ r. ⌜ r ≡ coloursOk (now (colours .entry)) ⌝ }
 {
     let mut ok = true;
@@ -84,6 +88,20 @@ pub fn colours_ok(colours: &[f64]) -> bool
         ok = ok & colour_ok(colours[i]);
     }
     ok
+}
+
+// Whether every number is from 0 to 1. No block after the first that has another number is read.
+pub fn colours_ok(colours: &[f64]) -> bool
+    ensures { λ r. ⌜ Checked (now (colours .entry)) r ⌝ }
+{
+    let mut i = 0usize;
+    while BLOCK <= colours.len() - i {
+        if !block_ok(&colours[i..i + BLOCK]) {
+            return false;
+        }
+        i += BLOCK;
+    }
+    block_ok(&colours[i..colours.len()])
 }
 
 // Whether x is neither an infinity nor a NaN.
@@ -107,15 +125,21 @@ pub fn half(lo: f64, hi: f64) -> f64
     (lo + hi) / 2.0
 }
 
-// The passes of growth that the settings ask for: a negative number counts as 0.
+// A whole number as a count: a negative number counts as 0.
+pub fn count_of(p: i64) -> u64
+    ensures { λ r. ⌜ r ≡ atLeastZero p ⌝ }
+{
+    if p < 0 {
+        return 0;
+    }
+    p as u64
+}
+
+// The passes of growth that the settings ask for.
 pub fn passes(s: Settings) -> u64
     ensures { λ r. ⌜ r ≡ passesOf s ⌝ }
 {
-    if s.key_bg_fringe < 0 {
-        0
-    } else {
-        s.key_bg_fringe as u64
-    }
+    count_of(s.key_bg_fringe)
 }
 
 // Whether a byte of alpha reaches the threshold.

@@ -1,20 +1,21 @@
--- What a call's number says: of its answer, of the buffers after it, and, where it is 0, of the buffers' lengths.
+-- What a call's refusal says: of its answer, and, where it is 0, of the buffers' lengths.
 -- Assumes nothing.
 use mathlib.Core.Path.{_≡_, refl, sym}
 use mathlib.Core.Bool.{Bool, true, false, cond, _&&_}
-use Prim.Native.Nat.{ℕ, _+_, _*_, _<_}
+use mathlib.Core.List.{[], _∷_}
+use Prim.Native.Nat.{ℕ, _+_, _*_, _≤_, _<_}
+use native.Mathlib.Nat.{mul-le-mul}
 use native.Mathlib.Omega.{arith}
-use lib.Dec.{eqb, leb}
-use borrow.Author.Tests.{eq-eqb, ne-eqb, eqb-true, leb-true}
+use lib.Dec.{eqb}
+use borrow.Author.Tests.{eq-eqb, ne-eqb, eqb-true, leb-true, ltb-true}
 use Rattle.plane.specs.Plane.{Sides}
-use Rattle.plane.specs.Refusal.{sidesOk, roomFor, numberFor, after}
-use Rattle.plane.proofs.Refusal.{and-true, accepted, sides-are}
-use Rattle.geometry.specs.declared.Answer.{Answer}
+use Rattle.plane.specs.Refusal.{refusalOf, roomFor, after}
+use Rattle.plane.proofs.Plane.{row-in, area-most}
+use Rattle.plane.proofs.Refusal.{Within, and-true, passed, sides-are, sides-within}
 use Rattle.geometry.specs.declared.Answer.the-variants as answer
-use Rattle.geometry.specs.declared.Labelled.{Labelled}
 use Rattle.geometry.specs.declared.Labelled.the-variants as labelled
-use Rattle.geometry.specs.Answer.{numberOf, answerFor, labelledNumber, labelledParts, labelledFor}
-use Rattle.geometry.specs.Number.{isPlane, isColours, isRoom, planeNumber, nearestNumber, distanceNumber, fillNumber}
+use Rattle.geometry.specs.Answer.{answerFor, refusalOfAnswer, labelledFor, refusalOfLabelled, partsOfLabelled}
+use Rattle.geometry.specs.Refusal.{planeRefusal, nearestRefusal, fillRefusal, cropRefusal}
 
 -- ---- answers
 
@@ -34,91 +35,117 @@ pub not-counted : (n parts : ℕ) → (n ≡ 0 → ⊥) → labelled.Refused n �
 unfolding labelledFor
 not-counted n parts e = rw (ne-eqb n 0 e)
 
--- ---- buffers
-
-pub written : {A : Type 0} (n : ℕ) (new old : A) → n ≡ 0 → after n new old ≡ new
-unfolding after
-written n new old e = rw (eq-eqb n 0 e)
-
-pub kept : {A : Type 0} (n : ℕ) (new old : A) → (n ≡ 0 → ⊥) → after n new old ≡ old
-unfolding after
-kept n new old e = rw (ne-eqb n 0 e)
-
 -- ---- lengths
-
-room-enough : (h w n : ℕ) → isRoom h w n ≡ true → h * w < n
-room-enough h w n e = let l = leb-true (roomFor h w) n e in omega arith
 
 pub record PlaneOk (h w mask out work : ℕ) : Type 0 where
   pub sides : Sides h w
+  pub within : Within h w
   pub input : mask ≡ h * w
   pub output : out ≡ h * w
-  pub room : h * w < work
+  pub room : roomFor h w ≤ work
 
-pub plane-ok : (h w mask out work : ℕ) → planeNumber h w mask out work ≡ 0 → PlaneOk h w mask out work
-unfolding planeNumber
+pub plane-ok : (h w mask out work : ℕ) → planeRefusal h w mask out work ≡ 0 → PlaneOk h w mask out work
+unfolding planeRefusal
 plane-ok h w mask out work e =
-    let a = accepted (sidesOk h w) (isPlane h w mask) (isPlane h w out && isRoom h w work) e in
-    let b = and-true (isPlane h w out) (isRoom h w work) (a .room-ok) in
-    record { sides = sides-are h w (a .sides-ok); input = eqb-true mask (h * w) (a .inputs-ok); output = eqb-true out (h * w) (b .0); room = room-enough h w work (b .1) }
+    let p = passed _ refl e in
+    record {
+      sides = sides-are h w (p .0);
+      within = sides-within h w (p .0);
+      input = eqb-true _ _ (p .1 .0);
+      output = eqb-true _ _ (p .1 .1 .0);
+      room = leb-true _ _ (p .1 .1 .1 .0);
+    }
 
-pub record NearestOk (h w mask rows columns : ℕ) : Type 0 where
+pub record NearestOk (h w mask rows cols work : ℕ) : Type 0 where
   pub sides : Sides h w
   pub input : mask ≡ h * w
   pub rows-long : rows ≡ h * w
-  pub columns-long : columns ≡ h * w
+  pub cols-long : cols ≡ h * w
+  pub room : roomFor h w ≤ work
 
-pub nearest-ok : (h w mask rows columns : ℕ) → nearestNumber h w mask rows columns ≡ 0 → NearestOk h w mask rows columns
-unfolding nearestNumber
-nearest-ok h w mask rows columns e =
-    let a = accepted (sidesOk h w) (isPlane h w mask) (isPlane h w rows && isPlane h w columns) e in
-    let b = and-true (isPlane h w rows) (isPlane h w columns) (a .room-ok) in
-    record { sides = sides-are h w (a .sides-ok); input = eqb-true mask (h * w) (a .inputs-ok); rows-long = eqb-true rows (h * w) (b .0); columns-long = eqb-true columns (h * w) (b .1) }
-
-pub record DistanceOk (h w mask out rows columns : ℕ) : Type 0 where
-  pub sides : Sides h w
-  pub input : mask ≡ h * w
-  pub output : out ≡ h * w
-  pub rows-room : h * w < rows
-  pub columns-room : h * w < columns
-
-pub distance-ok : (h w mask out rows columns : ℕ) → distanceNumber h w mask out rows columns ≡ 0 → DistanceOk h w mask out rows columns
-unfolding distanceNumber
-distance-ok h w mask out rows columns e =
-    let a = accepted (sidesOk h w) (isPlane h w mask) (isPlane h w out && isRoom h w rows && isRoom h w columns) e in
-    let b = and-true (isPlane h w out && isRoom h w rows) (isRoom h w columns) (a .room-ok) in
-    let d = and-true (isPlane h w out) (isRoom h w rows) (b .0) in
+pub nearest-ok : (h w mask rows cols work : ℕ) → nearestRefusal h w mask rows cols work ≡ 0 → NearestOk h w mask rows cols work
+unfolding nearestRefusal
+nearest-ok h w mask rows cols work e =
+    let p = passed _ refl e in
     record {
-      sides = sides-are h w (a .sides-ok);
-      input = eqb-true mask (h * w) (a .inputs-ok);
-      output = eqb-true out (h * w) (d .0);
-      rows-room = room-enough h w rows (d .1);
-      columns-room = room-enough h w columns (b .1);
+      sides = sides-are h w (p .0);
+      input = eqb-true _ _ (p .1 .0);
+      rows-long = eqb-true _ _ (p .1 .1 .0);
+      cols-long = eqb-true _ _ (p .1 .1 .1 .0);
+      room = leb-true _ _ (p .1 .1 .1 .1 .0);
     }
 
-pub record FillOk (h w colours mask out rows columns : ℕ) : Type 0 where
+pub record FillOk (h w colours mask out work : ℕ) : Type 0 where
   pub sides : Sides h w
   pub colours-long : colours ≡ 3 * (h * w)
   pub input : mask ≡ h * w
   pub output : out ≡ 3 * (h * w)
-  pub rows-room : h * w < rows
-  pub columns-room : h * w < columns
+  pub room : roomFor h w ≤ work
 
-pub fill-ok : (h w colours mask out rows columns : ℕ) → fillNumber h w colours mask out rows columns ≡ 0 → FillOk h w colours mask out rows columns
-unfolding fillNumber
-fill-ok h w colours mask out rows columns e =
-    let a = accepted (sidesOk h w) (isColours h w colours && isPlane h w mask) (isColours h w out && isRoom h w rows && isRoom h w columns) e in
-    let i = and-true (isColours h w colours) (isPlane h w mask) (a .inputs-ok) in
-    let b = and-true (isColours h w out && isRoom h w rows) (isRoom h w columns) (a .room-ok) in
-    let d = and-true (isColours h w out) (isRoom h w rows) (b .0) in
+pub fill-ok : (h w colours mask out work : ℕ) → fillRefusal h w colours mask out work ≡ 0 → FillOk h w colours mask out work
+unfolding fillRefusal
+fill-ok h w colours mask out work e =
+    let p = passed _ refl e in
     record {
-      sides = sides-are h w (a .sides-ok);
-      colours-long = eqb-true colours (3 * (h * w)) (i .0);
-      input = eqb-true mask (h * w) (i .1);
-      output = eqb-true out (3 * (h * w)) (d .0);
-      rows-room = room-enough h w rows (d .1);
-      columns-room = room-enough h w columns (b .1);
+      sides = sides-are h w (p .0);
+      colours-long = eqb-true _ _ (p .1 .0);
+      input = eqb-true _ _ (p .1 .1 .0);
+      output = eqb-true _ _ (p .1 .1 .1 .0);
+      room = leb-true _ _ (p .1 .1 .1 .1 .0);
     }
+
+-- the part of an accepted row lies in the plane
+pub record InPlane (n w x0 x1 y : ℕ) : Type 0 where
+  pub left : x0 < x1
+  pub right : y * w + x1 ≤ n
+  pub small : n ≤ 4294967296
+
+pub in-plane : (n h w y0 y1 x0 x1 y : ℕ) → cropRefusal n h w y0 y1 x0 x1 y ≡ 0 → InPlane n w x0 x1 y
+unfolding cropRefusal
+in-plane n h w y0 y1 x0 x1 y e =
+    let p = passed _ refl e in
+    let s : Sides h w = sides-are h w (p .0) in
+    let whole : n ≡ h * w = eqb-true _ _ (p .1 .0) in
+    let bottom : y1 ≤ h = leb-true _ _ (p .1 .1 .1 .0) in
+    let column : x1 ≤ w = leb-true _ _ (p .1 .1 .1 .1 .1 .0) in
+    let row : y < y1 = ltb-true _ _ (p .1 .1 .1 .1 .1 .1 .1 .0) in
+    let r = row-in y h w (omega arith) in
+    let m = area-most {h = h} {w = w} (s .tall) (s .wide) in
+    record { left = ltb-true _ _ (p .1 .1 .1 .1 .0); right = omega arith; small = omega arith }
+
+-- six tests with the number 7, made at once
+module _ (s t a b c d e f : Bool) (sides : s ≡ true) (size : t ≡ true) where
+  pub six-hold : a && b && c && d && e && f ≡ true → 0 ≡ refusalOf ((1, s) ∷ (2, t) ∷ (7, a) ∷ (7, b) ∷ (7, c) ∷ (7, d) ∷ (7, e) ∷ (7, f) ∷ [])
+  unfolding refusalOf
+  six-hold h =
+      let p5 = and-true (a && b && c && d && e) f h in
+      let p4 = and-true (a && b && c && d) e (p5 .0) in
+      let p3 = and-true (a && b && c) d (p4 .0) in
+      let p2 = and-true (a && b) c (p3 .0) in
+      let p1 = and-true a b (p2 .0) in
+      rw (sides, size, p1 .0, p1 .1, p2 .1, p3 .1, p4 .1, p5 .1)
+
+  pub one-fails : a && b && c && d && e && f ≡ false → 7 ≡ refusalOf ((1, s) ∷ (2, t) ∷ (7, a) ∷ (7, b) ∷ (7, c) ∷ (7, d) ∷ (7, e) ∷ (7, f) ∷ [])
+  unfolding refusalOf
+  one-fails h = rw (sides, size) (sevens a b c d e f h)
+    where
+      sevens : (p q r u v z : Bool) → p && q && r && u && v && z ≡ false → _≡_ {A = ℕ} 7 (cond p (cond q (cond r (cond u (cond v (cond z 0 7) 7) 7) 7) 7) 7)
+      sevens false q r u v z g = refl
+      sevens true false r u v z g = refl
+      sevens true true false u v z g = refl
+      sevens true true true false v z g = refl
+      sevens true true true true false z g = refl
+      sevens true true true true true z g = rw g
+
+-- the public calls' sides are small enough for what is written in 32 bits: squared distances, and labels
+pub distances-fit : (h w : ℕ) → Within h w → h * h + w * w ≤ 4294967295
+distances-fit h w s =
+    let a = mul-le-mul {n₁ = h} {m₁ = h} (s .tall) (s .tall) in
+    let b = mul-le-mul {n₁ = w} {m₁ = w} (s .wide) (s .wide) in
+    omega arith
+
+pub few-pixels : (h w : ℕ) → Within h w → h * w < 4294967296
+few-pixels h w s = let a = mul-le-mul {n₁ = h} {m₁ = w} (s .tall) (s .wide) in omega arith
 
 -- ---- from an answer back to its number and values
 
@@ -129,14 +156,14 @@ by-zero n P a b = at (eqb n 0) refl
     at true e = a (eqb-true n 0 e)
     at false e = b
 
-pub number-of : (n : ℕ) → numberOf (answerFor n) ≡ n
+pub refusal-of-answer : (n : ℕ) → refusalOfAnswer (answerFor n) ≡ n
 unfolding answerFor
-number-of n = by-zero n (λ (t : Bool). numberOf (cond t answer.Done (answer.Refused n)) ≡ n) sym refl
+refusal-of-answer n = by-zero n (λ (t : Bool). refusalOfAnswer (cond t answer.Done (answer.Refused n)) ≡ n) sym refl
 
-pub labelled-number : (n parts : ℕ) → labelledNumber (labelledFor n parts) ≡ n
+pub refusal-of-labelled : (n parts : ℕ) → refusalOfLabelled (labelledFor n parts) ≡ n
 unfolding labelledFor
-labelled-number n parts = by-zero n (λ (t : Bool). labelledNumber (cond t (labelled.Parts parts) (labelled.Refused n)) ≡ n) sym refl
+refusal-of-labelled n parts = by-zero n (λ (t : Bool). refusalOfLabelled (cond t (labelled.Parts parts) (labelled.Refused n)) ≡ n) sym refl
 
-pub labelled-parts : (n parts : ℕ) → labelledParts (labelledFor n parts) ≡ after n parts 0
+pub parts-of-labelled : (n parts : ℕ) → partsOfLabelled (labelledFor n parts) ≡ after n parts 0
 unfolding labelledFor after
-labelled-parts n parts = by-zero n (λ (t : Bool). labelledParts (cond t (labelled.Parts parts) (labelled.Refused n)) ≡ cond t parts 0) (λ e. refl) refl
+parts-of-labelled n parts = by-zero n (λ (t : Bool). partsOfLabelled (cond t (labelled.Parts parts) (labelled.Refused n)) ≡ cond t parts 0) (λ e. refl) refl

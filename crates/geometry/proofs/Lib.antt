@@ -1,5 +1,2 @@
-pub mod Guard
-pub mod Box
-pub mod Reading
 pub mod Accepted
-pub mod FromNearest
+mod Filling

@@ -7,7 +7,7 @@ use lib.ListN.{getD}
 use Rattle.plane.specs.Plane.{planeOf}
 use Rattle.nearest.specs.Nearest.{nearest}
 
--- the index of the pixel that an answer of nearest stands for; nothing on: row -1 reads row h - 1, column 0
+-- the index of the pixel that an answer of nearest stands for; nothing on: row -1 reads row h - 1, column 0 (R14)
 unfoldable pub sourceOf : ℕ → ℕ → Option (ℕ × ℕ) → ℕ
 sourceOf h w none = (h - 1) * w
 sourceOf h w (some q) = q .1 * w + q .0

@@ -1,5 +1,6 @@
-pub mod Number
+pub mod steps
+pub mod Refusal
 pub mod Crop
-pub mod Read
 pub mod Fill
 pub mod Answer
+pub mod Calls

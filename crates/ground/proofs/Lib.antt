@@ -1,8 +1,3 @@
-pub mod Bits
-pub mod Tables
-pub mod Room
-pub mod Border
+pub mod Lines
 pub mod Values
-pub mod Flooding
-pub mod Reached
 pub mod Answers

@@ -1,3 +1,1 @@
-pub mod Lines
-pub mod Flood
-pub mod Answer
+pub mod steps

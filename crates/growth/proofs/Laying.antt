@@ -6,28 +6,21 @@ use mathlib.Core.List.{List}
 use mathlib.Core.Logic.{⊎-elim}
 use Prim.Native.Nat.{ℕ, _*_, _<_, _/_, _%_}
 use native.Mathlib.Omega.{arith}
-use lib.ListN.{length, getD}
-use Rattle.outline.proofs.Masks.{mask-same, mask-length, mask-on}
-use Rattle.plane.specs.Plane.{on, bit, onAt, apart, table}
+use lib.ListN.{length}
+use Rattle.plane.proofs.Mask.{mask-same, mask-length, mask-on, index-on}
+use Rattle.plane.specs.Plane.{on, bit, apart, table}
 use Rattle.plane.specs.Search.{someBelow}
 use Rattle.plane.proofs.Search.{either, some-same}
-use Rattle.plane.proofs.Plane.{row-of, column-of, index-of, table-length, table-at, plane-index, table-same, on-bit}
-use Rattle.labels.specs.Labels.{isOn}
+use Rattle.plane.proofs.Plane.{row-of, column-of, plane-index, table-same, on-bit}
+use Rattle.plane.specs.Mask.{isOn, maskOf, complementOf}
 use Rattle.squares.specs.Squares.{reach, inSquare, squaresPlane}
 use Rattle.squares.proofs.Laws.{reach-some, square-is, squares-length}
-use Rattle.outline.specs.Growth.{nearGround, isEdge, isShallow, isDeep, maskOf}
-use Rattle.growth.specs.Marks.{complementOf, edgeMark}
-
--- ---- masks by a test
+use Rattle.outline.specs.Growth.{nearGround, isEdge, isShallow, isDeep}
+use Rattle.growth.specs.steps.Marks.{edgeTest, edgeMark}
 
 -- ---- planes by dilation
 
 module _ (back : List ℕ) (h w : ℕ) (wide : 0 < w) where
-  -- the pixel of an index
-  pub at-index : (mask : List ℕ) (i : ℕ) → onAt mask w (i / w) (i % w) ≡ isOn mask i
-  unfolding onAt isOn
-  at-index mask i = ap (λ (k : ℕ). on (getD mask k 0)) (index-of i w)
-
   -- the dilation tells what is near the background
   dilated-on : (k i : ℕ) → 0 < k → i < h * w → isOn (squaresPlane back h w k) i ≡ nearGround back h w k i
   unfolding isOn squaresPlane nearGround
@@ -57,7 +50,7 @@ module _ (back : List ℕ) (h w : ℕ) (wide : 0 < w) where
         column = i % w;
         row-in = row-of i h w wide l;
         column-in = column-of i w wide;
-        lit = at-index back i ∙ e;
+        lit = index-on back w i ∙ e;
         rows = omega arith;
         columns = omega arith;
       })
@@ -84,15 +77,17 @@ module _ (back : List ℕ) (h w : ℕ) (wide : 0 < w) where
   edge-test i = ap bit (tests (someBelow (h * w) (isShallow back h w)) (isOn back i) (nearGround back h w 1 i))
 
   -- the edge pixels are what is neither background nor shallow
-  pub edge-laid : (first : List ℕ) → first ≡ maskOf (h * w) (isShallow back h w)
-      → table (λ (i : ℕ). bit (someBelow (length first) (isOn first) && not (isOn back i) && not (isOn first i))) 0 (h * w) ≡ table (edgeMark back h w) 0 (h * w)
-  edge-laid first e =
-      let long : length first ≡ h * w = ap length e ∙ mask-length (h * w) (isShallow back h w) in
-      let same : (i : ℕ) → i < h * w → isOn first i ≡ isShallow back h w i = λ i l. ap (λ (t : List ℕ). isOn t i) e ∙ mask-on (h * w) (isShallow back h w) i l in
-      let known : someBelow (length first) (isOn first) ≡ someBelow (h * w) (isShallow back h w) =
-      ap (λ (n : ℕ). someBelow n (isOn first)) long ∙ some-same (isOn first) (isShallow back h w) (h * w) same in
-      table-same (λ (i : ℕ). bit (someBelow (length first) (isOn first) && not (isOn back i) && not (isOn first i))) (edgeMark back h w) (h * w) 0
+  pub edge-laid : (shallow : List ℕ) → shallow ≡ maskOf (h * w) (isShallow back h w)
+      → maskOf (h * w) (edgeTest (someBelow (length shallow) (isOn shallow)) back shallow) ≡ table (edgeMark back h w) 0 (h * w)
+  unfolding maskOf edgeTest
+  edge-laid shallow e =
+      let long : length shallow ≡ h * w = ap length e ∙ mask-length (h * w) (isShallow back h w) in
+      let same : (i : ℕ) → i < h * w → isOn shallow i ≡ isShallow back h w i =
+      λ i l. ap (λ (t : List ℕ). isOn t i) e ∙ mask-on (h * w) (isShallow back h w) i l in
+      let known : someBelow (length shallow) (isOn shallow) ≡ someBelow (h * w) (isShallow back h w) =
+      ap (λ (n : ℕ). someBelow n (isOn shallow)) long ∙ some-same (isOn shallow) (isShallow back h w) (h * w) same in
+      table-same (λ (i : ℕ). bit (someBelow (length shallow) (isOn shallow) && not (isOn back i) && not (isOn shallow i))) (edgeMark back h w) (h * w) 0
       (λ i l.
-      ap (λ (t : Bool). bit (t && not (isOn back i) && not (isOn first i))) known
+      ap (λ (t : Bool). bit (t && not (isOn back i) && not (isOn shallow i))) known
       ∙ ap (λ (t : Bool). bit (someBelow (h * w) (isShallow back h w) && not (isOn back i) && not t)) (same i l)
       ∙ edge-test i)

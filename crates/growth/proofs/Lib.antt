@@ -1,5 +1,3 @@
-pub mod Bytes
-pub mod Searching
 pub mod Laying
 pub mod Marks
 pub mod Passes

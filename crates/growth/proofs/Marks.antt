@@ -3,7 +3,7 @@
 use mathlib.Core.Path.{_≡_, refl, sym, ap, _∙_}
 use mathlib.Core.Bool.{Bool, true, false, cond, _&&_, _||_}
 use mathlib.Core.List.{List}
-use mathlib.Core.Option.{Option, none, some}
+use mathlib.Core.Option.{none}
 use mathlib.Core.Logic.{_⊎_, inl, inr, ⊎-elim}
 use Prim.Native.Nat.{ℕ, _+_, _*_, _≤_, _<_, _/_, _%_}
 use native.Mathlib.Omega.{arith}
@@ -11,20 +11,21 @@ use lib.Dec.{eqb}
 use lib.Ieee.{Float}
 use lib.ListN.{length, getD}
 use borrow.Author.Tests.{lt-ltb, le-ltb}
-use Rattle.outline.proofs.Masks.{mask-same}
-use Rattle.plane.specs.Plane.{on, bit, onAt, table}
+use Rattle.plane.proofs.Mask.{mask-same}
+use Rattle.plane.specs.Plane.{on, bit, onAt, table, indexOf}
 use Rattle.plane.specs.Search.{someBelow}
 use Rattle.plane.proofs.Search.{either, none-found, some-same}
-use Rattle.plane.proofs.Plane.{pixel-in, table-length, table-at, plane-length, plane-index, table-same, on-bit}
-use Rattle.labels.specs.Labels.{isOn}
+use Rattle.plane.proofs.Plane.{pixel-in, table-length, table-at, table-same, on-bit}
+use Rattle.plane.specs.Mask.{isOn, maskOf}
 use Rattle.nearest.specs.Nearest.{nearest}
-use Rattle.nearest.proofs.Laws.{nearest-some, nothing-on}
+use Rattle.nearest.proofs.Laws.{nothing-on}
 use Rattle.colour.specs.declared.Rgb.{Rgb}
-use Rattle.nearest.specs.Indices.{placeAt, indicesPlane}
-use Rattle.outline.specs.Growth.{isEdge, isShallow, isDeep, maskOf, indexOf, isReach, bodyFrom, joinsFrom, isJoining, passOf}
-use Rattle.growth.specs.Window.{nearPixel}
-use Rattle.growth.specs.Marks.{joinsWith, waits, edgeMark, nearMark, searchMark, lastMark, decidedMark}
-use Rattle.growth.proofs.Searching.{near-none, near-some}
+use Rattle.nearest.specs.steps.Indices.{indicesPlane}
+use Rattle.outline.specs.Growth.{isEdge, isShallow, isDeep, isReach, bodyFrom, joinsFrom, isJoining, passOf}
+use Rattle.window.specs.steps.Window.{nearPixel}
+use Rattle.growth.specs.steps.Marks.{joinsWith, waits, edgeMark, nearMark, searchMark, lastMark, decidedMark, Laid}
+use Rattle.window.proofs.Searching.{near-none, near-some}
+use Rattle.window.proofs.Indices.{index-inside, indices-at}
 
 -- without a deep pixel none is near enough
 pub near-empty : (deep : List ℕ) (h w y x : ℕ) → someBelow (h * w) (isOn deep) ≡ false → nearPixel deep h w y x ≡ h * w
@@ -43,29 +44,6 @@ module _ (colours : List Float) (reference : Rgb) (deep : List ℕ) (h w i : ℕ
   pub near-decides : nearPixel deep h w (i / w) (i % w) < h * w → nearMark colours reference deep h w i ≡ bit (joinsWith colours reference (nearPixel deep h w (i / w) (i % w)) i)
   unfolding nearMark
   near-decides l = rw (lt-ltb (nearPixel deep h w (i / w) (i % w)) (h * w) l)
-
--- the index of an answer lies in the plane
-index-inside : (mask : List ℕ) (h w y x : ℕ) (r : Option (ℕ × ℕ)) → 0 < h * w → nearest mask h w y x ≡ r → indexOf w r < h * w
-unfolding indexOf
-index-inside mask h w y x none p e = p
-index-inside mask h w y x (some q) p e = let n = nearest-some mask h w y x (q .0) (q .1) e in pixel-in (q .1) (q .0) h w (n .row-inside) (n .column-inside)
-
-place-is : (w : ℕ) (r : Option (ℕ × ℕ)) → placeAt w r ≡ indexOf w r
-unfolding placeAt indexOf
-place-is w none = refl
-place-is w (some q) = refl
-
-module _ (mask : List ℕ) (h w : ℕ) (wide : 0 < w) where
-  pub indices-length : length (indicesPlane mask h w) ≡ h * w
-  unfolding indicesPlane
-  indices-length = plane-length h w (λ (y x : ℕ). placeAt w (nearest mask h w y x))
-
-  pub indices-at : (i : ℕ) → i < h * w → getD (indicesPlane mask h w) i 0 ≡ indexOf w (nearest mask h w (i / w) (i % w))
-  unfolding indicesPlane
-  indices-at i l = plane-index h w (λ (y x : ℕ). placeAt w (nearest mask h w y x)) i 0 wide l ∙ place-is w (nearest mask h w (i / w) (i % w))
-
-  pub indices-inside : (i : ℕ) → i < h * w → getD (indicesPlane mask h w) i 0 < h * w
-  indices-inside i l = rw (indices-at i l) (index-inside mask h w (i / w) (i % w) (nearest mask h w (i / w) (i % w)) (omega arith) refl)
 
 -- a mark that is decided does not wait
 bit-decided : (t : Bool) → eqb (bit t) waits ≡ false
@@ -140,27 +118,27 @@ tests true true j = refl
 tests true false j = refl
 tests false e j = refl
 
-module _ (colours : List Float) (reference : Rgb) (back : List ℕ) (h w : ℕ) (first second third : List ℕ) (shallow : first ≡ maskOf (h * w) (isShallow back h w)) (deep : second ≡ maskOf (h * w) (isDeep back h w)) (edge : third ≡ table (edgeMark back h w) 0 (h * w)) where
-  edge-on : (i : ℕ) → i < h * w → isOn third i ≡ someBelow (h * w) (isShallow back h w) && isEdge back h w i
+module _ (colours : List Float) (reference : Rgb) (back : List ℕ) (h w : ℕ) (shallow deep edges : List ℕ) (laid : Laid back h w shallow deep edges) where
+  edge-on : (i : ℕ) → i < h * w → isOn edges i ≡ someBelow (h * w) (isShallow back h w) && isEdge back h w i
   unfolding isOn edgeMark
   edge-on i l =
-      ap (λ (t : List ℕ). on (getD t i 0)) edge
+      ap (λ (t : List ℕ). on (getD t i 0)) (laid .marks-are)
       ∙ ap on (table-at (edgeMark back h w) (h * w) i 0 l)
       ∙ on-bit (someBelow (h * w) (isShallow back h w) && isEdge back h w i)
 
-  joining-is : (i : ℕ) → i < h * w → decidedMark colours reference second first h w third i ≡ bit (isJoining colours reference back h w i)
+  joining-is : (i : ℕ) → i < h * w → decidedMark colours reference deep shallow h w edges i ≡ bit (isJoining colours reference back h w i)
   unfolding decidedMark isJoining joinsFrom joinsWith
   joining-is i l =
-      rw (edge-on i l, shallow, deep)
+      rw (edge-on i l, laid .shallow-is, laid .deep-is)
       (tests (someBelow (h * w) (isShallow back h w)) (isEdge back h w i) (joinsWith colours reference (bodyFrom (maskOf (h * w) (isDeep back h w)) (maskOf (h * w) (isShallow back h w)) h w i) i))
 
-  module _ (marks : List ℕ) (decided : marks ≡ table (decidedMark colours reference second first h w third) 0 (h * w)) where
+  module _ (marks : List ℕ) (decided : marks ≡ table (decidedMark colours reference deep shallow h w edges) 0 (h * w)) where
     -- the marks after the decision are the pixels that join
     pub joins-on : (i : ℕ) → i < h * w → isOn marks i ≡ isJoining colours reference back h w i
     unfolding isOn
     joins-on i l =
         ap (λ (t : List ℕ). on (getD t i 0)) decided
-        ∙ ap on (table-at (decidedMark colours reference second first h w third) (h * w) i 0 l ∙ joining-is i l)
+        ∙ ap on (table-at (decidedMark colours reference deep shallow h w edges) (h * w) i 0 l ∙ joining-is i l)
         ∙ on-bit (isJoining colours reference back h w i)
 
     pub joins-some : (n : ℕ) → n ≡ h * w → someBelow n (isOn marks) ≡ someBelow (h * w) (isJoining colours reference back h w)

@@ -1,17 +1,17 @@
 -- Passes one after the other.
 -- Assumes nothing.
-use mathlib.Core.Path.{_≡_, refl, sym, ap, _∙_}
+use mathlib.Core.Path.{_≡_, sym, ap, _∙_}
 use mathlib.Core.Bool.{Bool, true, false, cond, _||_}
 use mathlib.Core.List.{List}
 use Prim.Native.Nat.{ℕ, zero, suc, _*_, _-_, _<_}
 use native.Mathlib.Omega.{arith}
 use lib.Ieee.{Float}
-use Rattle.outline.proofs.Masks.{mask-same, mask-on}
+use Rattle.plane.proofs.Mask.{mask-same, mask-on}
 use Rattle.plane.specs.Search.{someBelow}
 use Rattle.plane.proofs.Search.{none-found, or-no}
-use Rattle.labels.specs.Labels.{isOn}
+use Rattle.plane.specs.Mask.{isOn, maskOf}
 use Rattle.colour.specs.declared.Rgb.{Rgb}
-use Rattle.outline.specs.Growth.{maskOf, isJoining, passOf, growthOf}
+use Rattle.outline.specs.Growth.{isJoining, passOf, growthOf}
 
 -- fewer are left after a pass
 pub rest-less : (t : Bool) (n : ℕ) → 0 < n → cond t (n - 1) 0 < n

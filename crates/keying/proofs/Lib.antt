@@ -1,6 +1,2 @@
-pub mod Loops
-pub mod Numbers
-pub mod Grounds
-pub mod Cuts
-pub mod Box
+pub mod Accepted
 pub mod TwoPictures

@@ -1,41 +1,81 @@
--- A call of the cut, by its contract: what it answers and what its outputs hold afterwards.
+-- What each public call ensures: its answer, every output, and what a refusal leaves in the buffers. A name with ′ is what a buffer holds
+-- afterwards.
 -- Assumes nothing.
-use Prim.Native.Nat.{ℕ, _*_}
+use Prim.Native.Nat.{ℕ}
 use mathlib.Core.Path.{_≡_}
 use mathlib.Core.List.{List}
 use lib.ListN.{length}
+use lib.IntN.{ℤ}
 use lib.Ieee.{Float}
 use Rattle.plane.specs.Refusal.{after}
+use Rattle.geometry.specs.declared.Answer.{Answer}
+use Rattle.geometry.specs.Answer.{answerFor}
+use Rattle.colour.specs.declared.Rgb.{Rgb}
 use Rattle.colour.specs.declared.Settings.{Settings}
-use Rattle.outline.specs.Cut.{cutMask, weightsOf}
-use Rattle.outline.specs.Refusal.{cutNumber}
-use Rattle.keying.specs.declared.Cut.{Cut}
-use Rattle.keying.specs.Answer.{cutFor}
+use Rattle.colour.specs.Settings.{atLeastZero}
+use Rattle.outline.specs.Border.{referenceOf}
+use Rattle.outline.specs.Ground.{groundPlane}
+use Rattle.outline.specs.Growth.{growthOf}
+use Rattle.outline.specs.Cut.{Cut, cutOf}
+use Rattle.outline.specs.Refusal.{groundRefusal, growthRefusal}
+use Rattle.outline.specs.Answer.{groundFor, outcomeFor, refusalOfOutcome}
+use Rattle.outline.specs.Calls.{Buffers, refusalIn, HeldIn}
+use Rattle.outline.specs.declared.Ground.{Ground}
+use Rattle.outline.specs.declared.Outcome.{Outcome}
 
--- what is lent to a call beside picture and settings: the buffers and what they hold before it
-pub record Buffers : Type 0 where
-  pub mask : List ℕ
-  pub weights : List Float
-  pub near : List ℕ
-  pub first : List ℕ
-  pub second : List ℕ
-  pub third : List ℕ
+-- ---- flat_background
 
--- the number of the call
-abbrev pub numberIn : List Float → List ℕ → ℕ → ℕ → Settings → Buffers → ℕ
-numberIn colours alpha h w s b = cutNumber colours alpha h w s (length (b .mask)) (length (b .weights)) (length (b .near)) (length (b .first)) (length (b .second)) (length (b .third))
+abbrev pub groundRefusalIn : List Float → ℕ → ℕ → Float → List ℕ → List ℕ → ℕ
+groundRefusalIn colours h w tolerance work out = groundRefusal colours h w tolerance (length out) (length work)
 
--- the call has answered r, and left this mask and these weights: what `subject` ensures
-pub record Called (colours : List Float) (alpha : List ℕ) (h w : ℕ) (s : Settings) (b : Buffers) (r : Cut) (mask : List ℕ) (weights : List Float) : Type 0 where
-  pub answer : r ≡ cutFor (numberIn colours alpha h w s b) colours alpha h w s
-  pub mask-is : mask ≡ after (numberIn colours alpha h w s b) (cutMask colours alpha h w s) (b .mask)
-  pub weights-is : weights ≡ after (numberIn colours alpha h w s b) (weightsOf (cutMask colours alpha h w s) alpha (h * w)) (b .weights)
+-- the ground of a picture, by the reference of its border
+pub record GroundCalled (colours : List Float) (h w : ℕ) (tolerance : Float) (work out : List ℕ)
+    (r : Ground) (work′ out′ : List ℕ) : Type 0 where
+  pub answer : r ≡ groundFor (groundRefusalIn colours h w tolerance work out) colours h w (referenceOf colours h w) tolerance
+  pub out-is : out′ ≡ after (groundRefusalIn colours h w tolerance work out)
+      (groundPlane colours h w (referenceOf colours h w) tolerance) out
+  pub kept : (groundRefusalIn colours h w tolerance work out ≡ 0 → ⊥) → work′ ≡ work
 
--- two calls' buffers are of one length each, whatever they hold
-pub record SameLengths (b c : Buffers) : Type 0 where
-  pub mask : length (b .mask) ≡ length (c .mask)
-  pub weights : length (b .weights) ≡ length (c .weights)
-  pub near : length (b .near) ≡ length (c .near)
-  pub first : length (b .first) ≡ length (c .first)
-  pub second : length (b .second) ≡ length (c .second)
-  pub third : length (b .third) ≡ length (c .third)
+-- ---- unmix_fringe
+
+-- the buffers that growth is lent: its output and four work buffers
+pub record GrowthBuffers : Type 0 where
+  pub out : List ℕ
+  pub nearest : List ℕ
+  pub shallow : List ℕ
+  pub deep : List ℕ
+  pub marks : List ℕ
+
+abbrev pub growthRefusalIn : List Float → List ℕ → ℕ → ℕ → Rgb → GrowthBuffers → ℕ
+growthRefusalIn colours background h w reference b =
+    growthRefusal colours (length background) h w reference (length (b .out))
+    (length (b .nearest)) (length (b .shallow)) (length (b .deep)) (length (b .marks))
+
+-- the background after at most p passes
+pub record GrowthCalled (colours : List Float) (background : List ℕ) (h w : ℕ) (reference : Rgb) (p : ℤ) (b : GrowthBuffers)
+    (r : Answer) (b′ : GrowthBuffers) : Type 0 where
+  pub answer : r ≡ answerFor (growthRefusalIn colours background h w reference b)
+  pub out-is : b′ .out ≡ after (growthRefusalIn colours background h w reference b)
+      (growthOf colours reference h w (atLeastZero p) background) (b .out)
+  pub kept : (growthRefusalIn colours background h w reference b ≡ 0 → ⊥) → b′ ≡ b
+
+-- ---- subject
+
+-- the cut of a picture, by the reference of its border
+abbrev pub cutIn : List Float → List ℕ → ℕ → ℕ → Settings → Cut
+cutIn colours alpha h w s = cutOf colours alpha h w (referenceOf colours h w) s
+
+-- a call of the cut with these buffers has answered r and left these
+pub record Called (colours : List Float) (alpha : List ℕ) (h w : ℕ) (s : Settings) (b : Buffers) (r : Outcome) (b′ : Buffers) : Type 0 where
+  pub answer : r ≡ outcomeFor (refusalIn colours alpha h w s b) (cutIn colours alpha h w s)
+  pub mask-is : b′ .mask ≡ after (refusalIn colours alpha h w s b) (cutIn colours alpha h w s .mask) (b .mask)
+  pub weights-is : b′ .weights ≡ after (refusalIn colours alpha h w s b) (cutIn colours alpha h w s .weights) (b .weights)
+  pub kept : (refusalIn colours alpha h w s b ≡ 0 → ⊥) → b′ ≡ b
+  -- what is lent are binary64 numbers, as every f64 in memory is
+  pub held : HeldIn colours s
+
+-- two calls have one outline: the same answer, and, accepted, the same mask and the same weights bit for bit
+pub record OneOutline (r q : Outcome) (b′ c′ : Buffers) : Type 0 where
+  pub answers : r ≡ q
+  pub masks : refusalOfOutcome r ≡ 0 → b′ .mask ≡ c′ .mask
+  pub weights : refusalOfOutcome r ≡ 0 → b′ .weights ≡ c′ .weights

@@ -5,7 +5,8 @@ use mathlib.Core.List.{List, [], _∷_}
 use Prim.Native.Nat.{ℕ}
 use Rattle.plane.specs.Plane.{on, apart, table, rowsUpto, planeOf}
 use Rattle.plane.specs.Search.{countBelow}
-use Rattle.labels.specs.Labels.{isOn, beside, lesser, renamed, merge, joinTwo, joinWith, joinUpto, firstPixel, isFirst, parts, labelOf, labelAt, labelsPlane}
+use Rattle.plane.specs.Mask.{isOn}
+use Rattle.labels.specs.Labels.{beside, lesser, renamed, merge, joinTwo, joinWith, joinUpto, firstPixel, isFirst, parts, labelOf, labelAt, labelsPlane}
 
 -- a mask's labels and their number
 abbrev pub answer : List ℕ → ℕ → ℕ → List ℕ × ℕ

@@ -14,8 +14,10 @@ use Rattle.plane.specs.Plane.{table}
 use Rattle.plane.proofs.Plane.{table-at, table-length}
 use Rattle.plane.proofs.Search.{which, either, or-right}
 use Rattle.plane.proofs.Refusal.{and-true}
-use Rattle.labels.specs.Labels.{isOn, beside, Joined, same, onward, lesser, renamed, merge, joinTwo, joinWith, joinUpto, firstPixel, isFirst}
-use Rattle.labels.proofs.Joined.{on-inside, beside-back, start-on, end-on, joined-trans, joined-sym}
+use Rattle.plane.specs.Mask.{isOn}
+use Rattle.labels.specs.Labels.{beside, Joined, same, onward, lesser, renamed, merge, joinTwo, joinWith, joinUpto, firstPixel, isFirst}
+use Rattle.plane.proofs.Mask.{on-inside}
+use Rattle.labels.proofs.Joined.{beside-back, start-on, end-on, joined-trans, joined-sym}
 
 -- the element of a mapped list
 map-at : {A B : Type 0} (f : A → B) (l : List A) (k : ℕ) (a : A) (b : B) → k < length l → getD (map f l) k b ≡ f (getD l k a)

@@ -12,7 +12,7 @@ use lib.Seq.{getD-set-same, getD-set-other}
 use borrow.Author.Tests.{eqb-true, eqb-false}
 use Rattle.plane.proofs.Search.{which, either}
 use Rattle.labels.specs.Labels.{lesser, renamed}
-use Rattle.labels.specs.Trees.{Forest, Found, Joinable, Linked}
+use Rattle.labels.specs.steps.Trees.{Forest, Found, Joinable, Linked}
 use Rattle.labels.proofs.Firsts.{renamed-left, renamed-right, renamed-cases, lesser-left, lesser-right}
 
 -- an element after a store at i

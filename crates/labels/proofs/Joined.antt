@@ -5,13 +5,13 @@ use mathlib.Core.Bool.{true, not}
 use mathlib.Core.Logic.{⊎-elim}
 use mathlib.Core.List.{List}
 use Prim.Native.Nat.{ℕ, _/_, _%_, _≤_, _<_}
-use native.Mathlib.Omega.{arith}
 use lib.Dec.{eqb}
 use lib.ListN.{length, getD, List·getD-eq-default}
 use Rattle.plane.proofs.Plane.{apart-back}
-use Rattle.plane.specs.Plane.{on, apart}
+use Rattle.plane.specs.Plane.{on}
 use Rattle.plane.proofs.Search.{which, not-both}
-use Rattle.labels.specs.Labels.{isOn, beside, Joined, same, onward}
+use Rattle.plane.specs.Mask.{isOn}
+use Rattle.labels.specs.Labels.{beside, Joined, same, onward}
 
 -- a pixel that is on lies in the plane
 pub on-inside : (mask : List ℕ) (i : ℕ) → isOn mask i ≡ true → i < length mask

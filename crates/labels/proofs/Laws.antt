@@ -12,9 +12,11 @@ use lib.ListN.{length, getD}
 use Rattle.plane.specs.Search.{countBelow}
 use Rattle.plane.proofs.Plane.{plane-is}
 use Rattle.plane.proofs.Search.{which, either, count-most}
-use Rattle.labels.specs.Labels.{isOn, Joined, firstPixel, isFirst, parts, labelOf, labelAt, labelsPlane}
+use Rattle.plane.specs.Mask.{isOn}
+use Rattle.labels.specs.Labels.{Joined, firstPixel, isFirst, parts, labelOf, labelAt, labelsPlane}
 use Rattle.labels.proofs.Counts.{count-more, count-no-more, count-mono, count-strict, count-reached}
-use Rattle.labels.proofs.Joined.{on-inside, start-on, end-on}
+use Rattle.plane.proofs.Mask.{on-inside}
+use Rattle.labels.proofs.Joined.{start-on, end-on}
 use Rattle.labels.proofs.Firsts.{first-joined, first-least, first-same, same-first, is-first, first-on}
 
 module _ (mask : List ℕ) (h w : ℕ) where

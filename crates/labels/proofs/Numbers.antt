@@ -17,10 +17,12 @@ use Rattle.plane.specs.Search.{countBelow}
 use Rattle.plane.proofs.Plane.{table-at, table-length, plane-is, pixel-in}
 use Rattle.plane.proofs.Search.{which, either, not-both}
 use Rattle.plane.proofs.Refusal.{and-true}
-use Rattle.labels.specs.Labels.{isOn, Joined, firstPixel, isFirst, parts, labelOf, labelAt, labelsPlane}
-use Rattle.labels.specs.Trees.{Forest, Trees, Scanned, isRoot, Numbered}
+use Rattle.plane.specs.Mask.{isOn}
+use Rattle.labels.specs.Labels.{Joined, firstPixel, isFirst, parts, labelOf, labelAt, labelsPlane}
+use Rattle.labels.specs.steps.Trees.{Forest, Trees, Scanned, isRoot, Numbered}
 use Rattle.labels.proofs.Counts.{count-more, count-no-more, count-gap, count-slow}
-use Rattle.labels.proofs.Joined.{on-inside, start-on, spreads}
+use Rattle.plane.proofs.Mask.{on-inside}
+use Rattle.labels.proofs.Joined.{start-on, spreads}
 use Rattle.labels.proofs.Firsts.{first-joined, first-least, first-same, is-first, first-on}
 use Rattle.labels.proofs.Laws.{label-on, label-off}
 use Rattle.labels.proofs.Forests.{set-cases}

@@ -12,10 +12,11 @@ use lib.ListN.{length, getD, set, length-set}
 use lib.Seq.{getD-set-same, getD-set-other}
 use borrow.Author.Tests.{eqb-false, eq-eqb, ne-eqb, ltb-false, lt-ltb, le-ltb}
 use Rattle.plane.specs.Plane.{on}
-use Rattle.plane.proofs.Plane.{pixel-in, area-most}
+use Rattle.plane.proofs.Plane.{pixel-in}
 use Rattle.plane.proofs.Search.{which, either, not-both}
-use Rattle.labels.specs.Labels.{Given, isOn, beside, Joined, same, onward, lesser, renamed, isFirst}
-use Rattle.labels.specs.Trees.{mostPixels, Forest, Linked, Placeable, Placed, dark, fresh, from-above, from-left, from-both, upAt, leftAt, diagAt, larger, Scanned}
+use Rattle.plane.specs.Mask.{isOn}
+use Rattle.labels.specs.Labels.{beside, Joined, same, onward, lesser, renamed, isFirst}
+use Rattle.labels.specs.steps.Trees.{Forest, Linked, Placeable, Placed, dark, fresh, from-above, from-left, from-both, upAt, leftAt, diagAt, larger, Scanned, Given}
 use Rattle.labels.proofs.Joined.{beside-back, joined-trans, joined-sym}
 use Rattle.labels.proofs.Firsts.{first-least, first-same, first-on, renamed-left, renamed-right, renamed-cases, lesser-left}
 use Rattle.labels.proofs.Steps.{column-is, beside-above, beside-left, beside-sides}
@@ -410,9 +411,6 @@ module _ {mask parents labels : List ℕ} {h w : ℕ} (g : Given mask parents la
   pub pixel-inside : pixel < h * w
   pixel-inside = pixel-in y x h w row column
 
-  pub area-small : h * w ≤ mostPixels
-  area-small = area-most (g .sides .tall) (g .sides .wide)
-
   column-of : pixel % w ≡ x
   column-of = column-is y x w column
 
@@ -425,7 +423,7 @@ module _ {mask parents labels : List ℕ} {h w : ℕ} (g : Given mask parents la
     left-in = rw column-of at (left-low mask h w (g .input) (g .sides .some-columns) labels pixel in-labels parents m s);
     up-in = up-low mask h w (g .input) (g .sides .some-columns) labels pixel in-labels parents m s;
     room = omega (arith, s .few, pixel-inside, g .room);
-    small = omega (arith, s .few, pixel-inside, area-small);
+    small = omega (arith, s .few, pixel-inside, g .few);
   }
 
   module _ (new : List ℕ) (r : ℕ) where

@@ -1,24 +1,21 @@
--- Labels: the parts of a mask that steps up, down, left or right over on-pixels join (SciPy's ndimage.label with its default structuring element),
--- numbered from 1 in raster order of their first pixels. A pixel is named by its index, row * w + column.
+-- Labels: the parts of a mask that steps up, down, left or right over on-pixels join (SciPy's ndimage.label with its
+-- default structuring element), numbered from 1 in raster order of their first pixels. A pixel is named by its index, row * w + column.
 -- Assumes nothing.
 use mathlib.Core.Path.{_≡_}
 use mathlib.Core.Bool.{Bool, true, cond, _&&_, _||_}
 use mathlib.Core.List.{List, map}
-use Prim.Native.Nat.{ℕ, zero, suc, _+_, _*_, _/_, _%_, _<_}
+use Prim.Native.Nat.{ℕ, zero, suc, _+_, _*_, _/_, _%_}
 use lib.Dec.{eqb, leb}
-use lib.ListN.{length, getD}
-use Rattle.plane.specs.Plane.{Sides, on, apart, table, planeOf}
+use lib.ListN.{getD}
+use Rattle.plane.specs.Plane.{apart, table, planeOf}
 use Rattle.plane.specs.Search.{countBelow}
-
--- whether pixel i is on; none is past the end of the mask
-unfoldable pub isOn : List ℕ → ℕ → Bool
-isOn mask i = on (getD mask i 0)
+use Rattle.plane.specs.Mask.{isOn}
 
 -- whether j is one step up, down, left or right of i: rows and columns together differ by 1
 unfoldable pub beside : ℕ → ℕ → ℕ → Bool
 beside w i j = eqb (apart (i / w) (j / w) + apart (i % w) (j % w)) 1
 
--- steps over on-pixels lead from i to j
+-- steps over on-pixels lead from i to j (R6)
 pub data Joined (mask : List ℕ) (w : ℕ) : ℕ → ℕ → Type 0 where
   same : {i : ℕ} → isOn mask i ≡ true → Joined mask w i i
   onward : {i j k : ℕ} → Joined mask w i j → beside w j k ≡ true → isOn mask k ≡ true → Joined mask w i k
@@ -58,11 +55,11 @@ firstPixel mask h w i = getD (joinUpto mask h w (h * w)) i 0
 unfoldable pub isFirst : List ℕ → ℕ → ℕ → ℕ → Bool
 isFirst mask h w i = isOn mask i && eqb (firstPixel mask h w i) i
 
--- how many parts there are
+-- how many parts there are (R7)
 unfoldable pub parts : List ℕ → ℕ → ℕ → ℕ
 parts mask h w = countBelow (h * w) (isFirst mask h w)
 
--- the label of pixel i: 0 if it is off, else 1 more than the number of parts that begin before its own
+-- the label of pixel i (R7): 0 if it is off, else 1 more than the number of parts that begin before its own
 unfoldable pub labelOf : List ℕ → ℕ → ℕ → ℕ → ℕ
 labelOf mask h w i = cond (isOn mask i) (1 + countBelow (firstPixel mask h w i) (isFirst mask h w)) 0
 
@@ -73,10 +70,3 @@ labelAt mask h w y x = labelOf mask h w (y * w + x)
 -- the plane of labels
 unfoldable pub labelsPlane : List ℕ → ℕ → ℕ → List ℕ
 labelsPlane mask h w = planeOf h w (labelAt mask h w)
-
--- what a call of `label` is given: accepted sides, planes of their lengths, and work space of one number more than the plane has
-pub record Given (mask parents labels : List ℕ) (h w : ℕ) : Type 0 where
-  pub sides : Sides h w
-  pub input : length mask ≡ h * w
-  pub output : length labels ≡ h * w
-  pub room : h * w < length parents

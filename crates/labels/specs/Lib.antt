@@ -1,2 +1,2 @@
 pub mod Labels
-pub mod Trees
+pub mod steps

@@ -6,15 +6,10 @@ ghost use mathlib.Core.Bool.{cond};
 ghost use lib.Dec.{eqb};
 ghost use lib.ListN.{length, getD, set};
 ghost use Rattle.plane.specs.Plane.{table};
-ghost use Rattle.labels.specs.Labels.{parts, labelsPlane, Given};
-ghost use Rattle.labels.specs.Trees.{mostPixels, Trees, Found, Joinable, Linked, Placeable, Placed, upAt, larger, Scanned, RowsDone, Numberable, Numbered};
-
-// A label as an index.
-fn wide(l: u32) -> usize
-    ensures { λ r. ⌜ r ≡ l ⌝ }
-{
-    l as usize
-}
+ghost use Rattle.labels.specs.Labels.{parts, labelsPlane};
+ghost use Rattle.labels.specs.steps.Trees.{Given, Trees, Found, Joinable, Linked, Placeable, Placed, upAt, larger};
+ghost use Rattle.labels.specs.steps.Trees.{Scanned, RowsDone, Numberable, Numbered};
+use plane::wide;
 
 // The parent of label a becomes its parent's parent, which is the result.
 fn halve(parents: &mut [u32], m: u32, a: u32) -> u32
@@ -155,7 +150,9 @@ fn scan(mask: &[u8], h: usize, w: usize, parents: &mut [u32], labels: &mut [u32]
 fn number(parents: &mut [u32], k: usize, n: u32) -> u32
     requires { ⌜ Numberable (now parents) k n ⌝ }
     ensures { λ r. ⌜ r ≡ cond (eqb (getD (now (parents .entry)) k 0) k) (n + 1) n ⌝ }
-    ensures { λ r. ⌜ now (parents .exit) ≡ set (now (parents .entry)) k (cond (eqb (getD (now (parents .entry)) k 0) k) (n + 1) (getD (now (parents .entry)) (getD (now (parents .entry)) k 0) 0)) ⌝ }
+    ensures { λ r. ⌜ now (parents .exit) ≡ set (now (parents .entry)) k
+        (cond (eqb (getD (now (parents .entry)) k 0) k) (n + 1)
+        (getD (now (parents .entry)) (getD (now (parents .entry)) k 0) 0)) ⌝ }
 {
     let p = wide(parents[k]);
     if p == k {
@@ -169,7 +166,7 @@ fn number(parents: &mut [u32], k: usize, n: u32) -> u32
 // The labels from 1 to m get the numbers of their roots, in the roots' order; how many roots there are.
 fn flatten(parents: &mut [u32], m: u32) -> u32
     requires { ⌜ Trees (now parents) m ⌝ }
-    requires { ⌜ m ≤ mostPixels ⌝ }
+    requires { ⌜ m < 4294967296 ⌝ }
     ensures { λ r. ⌜ Numbered (now (parents .entry)) (now (parents .exit)) m (m + 1) r ⌝ }
 {
     let end = wide(m) + 1;
@@ -185,7 +182,9 @@ fn flatten(parents: &mut [u32], m: u32) -> u32
 // Every label becomes its number.
 fn rename(numbers: &[u32], labels: &mut [u32])
     requires { ⌜ ((k : ℕ) → k < length (now labels) → getD (now labels) k 0 < length (now numbers)) ⌝ }
-    ensures { λ _. ⌜ now (labels .exit) ≡ table (λ (k : ℕ). getD (now (numbers .entry)) (getD (now (labels .entry)) k 0) 0) 0 (length (now (labels .entry))) ⌝ }
+    ensures { λ _. ⌜ now (labels .exit) ≡ table
+        (λ (k : ℕ). getD (now (numbers .entry)) (getD (now (labels .entry)) k 0) 0)
+        0 (length (now (labels .entry))) ⌝ }
 {
     let mut i = 0usize;
     while i < labels.len() {
@@ -194,7 +193,8 @@ fn rename(numbers: &[u32], labels: &mut [u32])
     }
 }
 
-// Each pixel's label, 0 where the mask is off, and the number of labels (label4). Where all labels are roots, they stay. Work space: `parents`, h * w + 1 numbers.
+// Each pixel's label, 0 where the mask is off, and the number of labels (label4). Where all labels are roots, they stay.
+// Work space: `parents`, h * w + 1 numbers.
 pub fn label(mask: &[u8], h: usize, w: usize, parents: &mut [u32], labels: &mut [u32]) -> u32
     requires { ⌜ Given (now mask) (now parents) (now labels) h w ⌝ }
     ensures { λ r. ⌜ r ≡ parts (now (mask .entry)) h w ⌝ }

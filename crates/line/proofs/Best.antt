@@ -1,18 +1,18 @@
 -- From the stack's terms to the definition's: a site that leads among all places is what the walk answers; a line is given by its places.
 -- Assumes nothing.
-use mathlib.Core.Path.{_≡_, sym, ap, _∙_}
+use mathlib.Core.Path.{_≡_, sym, _∙_}
 use mathlib.Core.List.{List}
 use mathlib.Core.Option.{none, some}
 use mathlib.Core.Logic.{⊎-elim}
 use Prim.Native.Nat.{ℕ, _≤_, _<_}
 use native.Mathlib.Omega.{arith}
-use lib.ListN.{length, getD, replicate, length-replicate, getD-replicate}
+use lib.ListN.{length, getD}
 use lib.Seq.{ext-getD}
 use borrow.Author.Tests.{le-leb, lt-leb}
-use Rattle.line.specs.Line.{mostCost, noPlace, Site, valueAt, offer, best, placeOf, lineOf}
-use Rattle.line.specs.Envelope.{Leads, placeFrom, lineFrom}
+use Rattle.line.specs.steps.Line.{mostCost, Site, valueAt, offer, best, placeOf, lineOf}
+use Rattle.line.specs.steps.Envelope.{Leads}
 use Rattle.plane.proofs.Search.{which}
-use Rattle.plane.proofs.Plane.{table-length, table-at, table-is}
+use Rattle.plane.proofs.Plane.{table-length, table-at}
 use Rattle.line.proofs.Walk.{clash, same, walk-is}
 
 module _ (costs : List ℕ) where
@@ -64,9 +64,3 @@ module _ (costs : List ℕ) where
   no-leader h x =
       walk-is (offer costs x) (length costs) none
       (λ j l. offer-none x j (⊎-elim (λ (z : mostCost < getD costs j 0). z) (λ (z : getD costs j 0 ≤ mostCost). absurd (h j l z)) (which mostCost (getD costs j 0))))
-
-  pub no-line : (a : ℕ) → ((j : ℕ) → j < length costs → Site costs j → ⊥) → (n : ℕ) → n ≡ length costs → replicate n noPlace ≡ lineFrom a costs
-  unfolding lineFrom placeFrom
-  no-line a h n e =
-      table-is (λ (x : ℕ). placeFrom a (best costs x)) (length costs) (replicate n noPlace) 0 (length-replicate n noPlace ∙ e)
-      (λ x l. getD-replicate n x noPlace 0 (omega arith) ∙ sym (ap (placeFrom a) (no-leader h x)))

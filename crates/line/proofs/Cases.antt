@@ -3,11 +3,12 @@
 use mathlib.Core.Path.{_≡_, refl}
 use mathlib.Core.List.{[], _∷_}
 use Rattle.plane.specs.Plane.{apart, table}
-use Rattle.line.specs.Walk.{lower, at, firstLeast}
-use Rattle.line.specs.Line.{valueAt, offer, best, placeOf, lineOf}
+use Rattle.line.specs.steps.FirstLeast.{at, firstLeast}
+use Rattle.line.specs.Walk.{lower}
+use Rattle.line.specs.steps.Line.{valueAt, offer, best, placeOf, lineOf}
 
--- 9,000,000,000 is above the largest cost, so it stands for no site; of equals the first site is taken
-line-cases : (lineOf [] ≡ []) × (lineOf (9000000000 ∷ 9000000000 ∷ []) ≡ (4294967295 ∷ 4294967295 ∷ [])) × (lineOf (0 ∷ 9000000000 ∷ 0 ∷ []) ≡ (0 ∷ 0 ∷ 2 ∷ []))
-    × (lineOf (5 ∷ 0 ∷ 9000000000 ∷ 20 ∷ 1 ∷ 0 ∷ 9000000000 ∷ 0 ∷ []) ≡ (1 ∷ 1 ∷ 1 ∷ 4 ∷ 4 ∷ 5 ∷ 5 ∷ 7 ∷ []))
+-- 4,294,967,295 is above the largest cost, so it stands for no site; of equals the first site is taken
+line-cases : (lineOf [] ≡ []) × (lineOf (4294967295 ∷ 4294967295 ∷ []) ≡ (4294967295 ∷ 4294967295 ∷ [])) × (lineOf (0 ∷ 4294967295 ∷ 0 ∷ []) ≡ (0 ∷ 0 ∷ 2 ∷ []))
+    × (lineOf (5 ∷ 0 ∷ 4294967295 ∷ 20 ∷ 1 ∷ 0 ∷ 4294967295 ∷ 0 ∷ []) ≡ (1 ∷ 1 ∷ 1 ∷ 4 ∷ 4 ∷ 5 ∷ 5 ∷ 7 ∷ []))
 unfolding lower at firstLeast apart valueAt offer best placeOf table lineOf
 line-cases = (refl, refl, refl, refl)

@@ -9,9 +9,11 @@ use Prim.Native.Nat.{ℕ, zero, suc, _+_, _*_, _≤_, _<_}
 use native.Mathlib.Omega.{arith}
 use lib.ListN.{length}
 use borrow.Author.Tests.{lt-ltb, le-ltb}
-use Rattle.line.specs.Walk.{lower, at, firstLeast, Answers}
-use Rattle.line.specs.Line.{valueAt, offer, best}
-use Rattle.line.specs.Grid.{valueOf, walk, upto, grid, attach, chosen, plus, Encodes}
+use Rattle.line.specs.steps.FirstLeast.{at, firstLeast, Answers}
+use Rattle.line.specs.Walk.{lower}
+use Rattle.line.specs.steps.Line.{valueAt, offer, best}
+use Rattle.line.specs.steps.Columns.{attach, chosen, Encodes}
+use Rattle.line.specs.Grid.{valueOf, walk, upto, grid, plus}
 use Rattle.plane.specs.Plane.{apart}
 use Rattle.plane.proofs.Search.{which}
 use Rattle.line.proofs.Walk.{walk-answers, walk-is}

@@ -1,24 +1,26 @@
 -- A run of places that ends at places of cost 0, or at the ends of the line: sites beyond it are worse at each of its places.
 -- Assumes nothing.
 use mathlib.Core.Path.{_≡_, refl, sym, ap, _∙_, subst}
-use mathlib.Core.List.{List, _++_}
+use mathlib.Core.List.{List}
 use mathlib.Core.Option.{Option, none, some}
-use mathlib.Core.Logic.{_⊎_, inl, inr, ⊎-elim}
+use mathlib.Core.Logic.{inl, inr, ⊎-elim}
 use Prim.Native.Nat.{ℕ, _+_, _-_, _≤_, _<_}
 use native.Mathlib.Nat.{add-zero}
 use native.Mathlib.Omega.{arith}
-use lib.ListN.{length, getD, set, take, drop, length-take, length-drop}
-use lib.Seq.{getD-take, getD-drop}
+use lib.ListN.{length, getD, set, replicate, length-replicate, getD-replicate}
+use lib.Seq.{getD-set-same, getD-set-other}
+use borrow.Author.Count.{below-more}
 use Rattle.plane.specs.Plane.{apart}
 use Rattle.plane.proofs.Search.{which}
-use Rattle.plane.proofs.Plane.{table-length, table-at, filled}
-use Rattle.line.specs.Walk.{Answers}
-use Rattle.line.specs.Line.{Site, valueAt, offer, best, placeOf}
-use Rattle.line.specs.Envelope.{Leads, placeFrom, lineFrom, Ends, Lone, Done}
+use Rattle.line.specs.steps.FirstLeast.{Answers}
+use Rattle.line.specs.steps.Line.{mostLength, noPlace, Site, valueAt, offer, best, placeOf}
+use Rattle.line.specs.steps.Part.{part}
+use Rattle.line.specs.steps.Envelope.{siteAt, startAt, Leads, Stacked, Segments, InSegment, Spread}
+use Rattle.line.specs.steps.Run.{Regions, Beside, placeFrom, Ran, Done, Passed}
 use Rattle.line.proofs.Squares.{square-lt}
 use Rattle.line.proofs.Walk.{clash, walk-answers}
-use Rattle.line.proofs.Best.{offer-site, offered, leader, no-leader}
-use Rattle.line.proofs.Part.{put-inside, put-before}
+use Rattle.line.proofs.Best.{line-is, offer-site, offered, leader, no-leader}
+use Rattle.line.proofs.Part.{put, part-length, part-at, part-same, put-inside, put-before, put-behind}
 
 apart-self : (x : ℕ) → apart x x ≡ 0
 unfolding apart
@@ -112,28 +114,28 @@ module _ (costs : List ℕ) (x : ℕ) where
 
 -- a run from a on, of k places, which holds x
 module _ (costs : List ℕ) (a k : ℕ) (within : a + k ≤ length costs) (left : 0 < a → getD costs a 0 ≡ 0) (right : a + k < length costs → getD costs (a + k - 1) 0 ≡ 0) where
-  abbrev pub part : List ℕ
-  part = take k (drop a costs)
+  abbrev run : List ℕ
+  run = part costs a k
 
-  part-length : length part ≡ k
-  part-length = simp (length-take, length-drop) (omega arith)
+  run-length : length run ≡ k
+  run-length = part-length costs a k within
 
-  part-cost : (i : ℕ) → i < k → getD part i 0 ≡ getD costs (a + i) 0
-  part-cost i l = getD-take k (drop a costs) i 0 l ∙ getD-drop a costs i 0
+  part-cost : (i : ℕ) → i < k → getD run i 0 ≡ getD costs (a + i) 0
+  part-cost i l = part-at costs a k i 0 l
 
-  part-value : (y i : ℕ) → i < k → valueAt part y i ≡ valueAt costs (a + y) (a + i)
+  part-value : (y i : ℕ) → i < k → valueAt run y i ≡ valueAt costs (a + y) (a + i)
   unfolding valueAt
   part-value y i l = rw (part-cost i l, apart-shift a y i)
 
   module _ (y : ℕ) (inside : y < k) where
-    module _ (i : ℕ) (h : Leads part (length part) y i) where
+    module _ (i : ℕ) (h : Leads run (length run) y i) where
       i-in : i < k
-      i-in = let long = part-length in omega (arith, h .inside)
+      i-in = let long = run-length in omega (arith, h .inside)
 
       -- the part's leader among the sites of the run
       among : (j : ℕ) → j < k → Site costs (a + j) → valueAt costs (a + y) (a + i) ≤ valueAt costs (a + y) (a + j)
       among j g s =
-          let long = part-length in
+          let long = run-length in
           let c = part-cost j g in
           let m = h .least j (omega arith) (omega arith) in
           let v = part-value y i i-in in
@@ -207,9 +209,9 @@ module _ (costs : List ℕ) (a k : ℕ) (within : a + k ≤ length costs) (left 
           record { inside = omega arith; site = omega arith; least = run-least; first = run-first }
 
     -- a run with no site is the whole line
-    run-none : ((j : ℕ) → j < length part → Site part j → ⊥) → (j : ℕ) → j < length costs → Site costs j → ⊥
+    run-none : ((j : ℕ) → j < length run → Site run j → ⊥) → (j : ℕ) → j < length costs → Site costs j → ⊥
     run-none n j l s =
-        let long = part-length in
+        let long = run-length in
         let off : (i : ℕ) → i < k → Site costs (a + i) → ⊥ = λ i g t. n i (omega arith) (let c = part-cost i g in omega arith) in
         let e : a + 0 ≡ a = add-zero a in
         let f : a + (k - 1) ≡ a + k - 1 = omega arith in
@@ -217,87 +219,168 @@ module _ (costs : List ℕ) (a k : ℕ) (within : a + k ≤ length costs) (left 
         let end : length costs ≤ a + k = ⊎-elim (λ (p : a + k < length costs). absurd (off (k - 1) (omega arith) (rw f (let z = right p in omega arith)))) (λ (p : length costs ≤ a + k). p) (which (a + k) (length costs)) in
         off j (omega arith) (let q : a + j ≡ j = omega arith in rw q s)
 
-    run-from : (b : Option ℕ) → best part y ≡ b → placeFrom a b ≡ placeOf (best costs (a + y))
+    run-from : (b : Option ℕ) → best run y ≡ b → placeFrom a b ≡ placeOf (best costs (a + y))
     unfolding placeFrom placeOf
-    run-from none e = sym (ap placeOf (no-leader costs (run-none (best-none part y e)) (a + y)))
-    run-from (some i) e = sym (ap placeOf (leader costs (a + y) (a + i) (run-leads i (best-leads part y i e))))
+    run-from none e = sym (ap placeOf (no-leader costs (run-none (best-none run y e)) (a + y)))
+    run-from (some i) e = sym (ap placeOf (leader costs (a + y) (a + i) (run-leads i (best-leads run y i e))))
 
     -- the run's own line pass, moved to the run's start, is the line's
-    pub run-place : placeFrom a (best part y) ≡ placeOf (best costs (a + y))
-    run-place = run-from (best part y) refl
+    pub run-place : placeFrom a (best run y) ≡ placeOf (best costs (a + y))
+    run-place = run-from (best run y) refl
 
 -- ---- the line, run by run
 
 -- nothing is answered before the first place
-pub nothing-done : (costs out : List ℕ) → Done costs out 0
-nothing-done costs out = record { within = omega arith; answered = λ k l. absurd (omega arith); bound = λ l. absurd (omega arith) }
+pub nothing-done : (costs work : List ℕ) (out : ℕ) → Done costs work out 0
+nothing-done costs work out = record { within = omega arith; answered = λ k l. absurd (omega arith); bound = λ l. absurd (omega arith) }
 
--- a place of cost 0 answers itself
-pub own-done : (costs out : List ℕ) (x : ℕ) → length out ≡ length costs → x < length costs → getD costs x 0 ≡ 0 → Done costs out x → Done costs (set out x x) (x + 1)
-unfolding placeOf
-own-done costs out x long l e d =
-    let back : x ≡ x + 1 - 1 = omega arith in
-    record {
+module _ (costs work : List ℕ) (out x : ℕ) (room : out + x < length work) (l : x < length costs) (d : Done costs work out x) where
+  -- the right answer of x is stored
+  stored : (v : ℕ) → v ≡ placeOf (best costs x) → (k : ℕ) → k < x + 1 → getD (set work (out + x) v) (out + k) 0 ≡ placeOf (best costs k)
+  stored v e =
+      below-more (λ (k : ℕ). getD (set work (out + x) v) (out + k) 0 ≡ placeOf (best costs k)) x
+      (λ k g. getD-set-other work (out + x) (out + k) v 0 (λ (q : out + k ≡ out + x). absurd (omega arith)) ∙ d .answered k g)
+      (getD-set-same work (out + x) v 0 room ∙ e)
+
+  -- a place of cost 0 answers itself
+  pub own-done : getD costs x 0 ≡ 0 → Done costs (set work (out + x) x) out (x + 1)
+  unfolding placeOf
+  own-done e =
+      let back : x ≡ x + 1 - 1 = omega arith in
+      record {
+        within = omega arith;
+        answered = stored x (sym (ap placeOf (own-place costs x l e)));
+        bound = λ p q. inl (subst (λ (n : ℕ). getD costs n 0 ≡ 0) back e);
+      }
+
+  module _ (n : getD costs x 0 ≡ 0 → ⊥) where
+    -- the cost that x has is not 0, so that of the place before it is
+    pub starts-run : 0 < x → getD costs (x - 1) 0 ≡ 0
+    starts-run p = ⊎-elim {C = getD costs (x - 1) 0 ≡ 0} (λ (e : getD costs (x - 1) 0 ≡ 0). e) (λ (e : getD costs x 0 ≡ 0). absurd (n e)) (d .bound p l)
+
+    -- a lone place with a cost has the answer of the place before it
+    pub lone-done : 0 < x → getD costs (x + 1) 0 ≡ 0 → Done costs (set work (out + x) (x - 1)) out (x + 1)
+    unfolding placeOf
+    lone-done p e = record {
       within = omega arith;
-      answered = filled (λ (k : ℕ). placeOf (best costs k)) out x x 0 (omega arith) (d .answered) (sym (ap placeOf (own-place costs x l e)));
-      bound = λ p q. inl (subst (λ (n : ℕ). getD costs n 0 ≡ 0) back e);
+      answered = stored (x - 1) (sym (ap placeOf (left-place costs x p l (starts-run p) n)));
+      bound = λ r q. inr e;
     }
 
--- the cost that x has is not 0, so that of the place before it is
-starts-run : (costs out : List ℕ) (x : ℕ) → 0 < x → x < length costs → (getD costs x 0 ≡ 0 → ⊥) → Done costs out x → getD costs (x - 1) 0 ≡ 0
-starts-run costs out x p l n d = ⊎-elim {C = getD costs (x - 1) 0 ≡ 0} (λ (e : getD costs (x - 1) 0 ≡ 0). e) (λ (e : getD costs x 0 ≡ 0). absurd (n e)) (d .bound p l)
+    -- the run from a to e that holds x is answered by its own line pass
+    module _ (new : List ℕ) (a e k : ℕ) (after : x < e) (within : e ≤ length costs) (ends : e < length costs → getD costs (e - 1) 0 ≡ 0) (from : a ≡ x - 1) (size : k ≡ e - a)
+        (row : (i : ℕ) → i < k → getD new (out + a + i) 0 ≡ placeFrom a (best (part costs a k) i)) (same : (i : ℕ) → i < a → getD new (out + i) 0 ≡ getD work (out + i) 0) where
+      whole : a + k ≡ e
+      whole = omega arith
 
--- a lone place with a cost has the answer of the place before it
-pub lone-done : (costs out : List ℕ) (x : ℕ) → length out ≡ length costs → (getD costs x 0 ≡ 0 → ⊥) → Lone costs x → Done costs out x → Done costs (set out x (x - 1)) (x + 1)
-unfolding placeOf
-lone-done costs out x long n lone d =
-    let l : x < length costs = omega (arith, lone .within) in
-    record {
-      within = omega arith;
-      answered =
-          filled (λ (k : ℕ). placeOf (best costs k)) out x (x - 1) 0 (omega arith) (d .answered) (sym (ap placeOf (left-place costs x (lone .after) l (starts-run costs out x (lone .after) l n d) n)));
-      bound = λ p q. inr (lone .bound);
-    }
+      starts : 0 < a → getD costs a 0 ≡ 0
+      starts g = rw from (starts-run (omega arith))
 
--- the run that holds x is answered by its own line pass
-module _ (costs out row : List ℕ) (x a e k : ℕ) (long : length out ≡ length costs) (some-cost : getD costs x 0 ≡ 0 → ⊥) (done : Done costs out x) (ends : Ends costs x e) (from : a ≡ x - 1) (size : k ≡ e - a)
-    (row-is : row ≡ lineFrom a (take k (drop a costs))) where
-  whole : a + k ≡ e
-  whole = let f = ends .after in omega arith
+      stops : a + k < length costs → getD costs (a + k - 1) 0 ≡ 0
+      stops g = rw whole (ends (let w = whole in omega arith))
 
-  starts : 0 < a → getD costs a 0 ≡ 0
-  starts l = rw from (starts-run costs out x (omega arith) (let f = ends .after in let g = ends .within in omega arith) some-cost done)
+      answers : (i : ℕ) → i < e → getD new (out + i) 0 ≡ placeOf (best costs i)
+      answers i g =
+          let w = whole in
+          ⊎-elim
+          (λ (f : i < a). same i f ∙ d .answered i (omega arith))
+          (λ (f : a ≤ i).
+          let q : a + (i - a) ≡ i = omega arith in
+          let o : out + a + (i - a) ≡ out + i = omega arith in
+          ap (λ (m : ℕ). getD new m 0) (sym o)
+          ∙ row (i - a) (omega arith)
+          ∙ run-place costs a k (omega arith) starts stops (i - a) (omega arith)
+          ∙ ap (λ (m : ℕ). placeOf (best costs m)) q)
+          (which i a)
 
-  stops : a + k < length costs → getD costs (a + k - 1) 0 ≡ 0
-  stops l = rw whole (ends .bound (let w = whole in omega arith))
+      pub run-done : Done costs new out e
+      run-done = record { within = within; answered = answers; bound = λ p q. inl (ends q) }
 
-  inside-line : a + k ≤ length costs
-  inside-line = let w = whole in let g = ends .within in omega arith
+-- ---- the line in its buffer
 
-  row-long : length row ≡ k
-  unfolding lineFrom
-  row-long =
-      ap length row-is ∙ table-length (λ (i : ℕ). placeFrom a (best (take k (drop a costs)) i)) 0 (length (take k (drop a costs))) ∙ part-length costs a k inside-line starts stops
+-- the line pass over a part: the stack is there, and its segments are answered
+module _ (old mid : List ℕ) (out costs stack n base count : ℕ) (r : Regions out costs stack n (length old)) (size : length mid ≡ length old) (sk : Stacked old mid costs stack n n count) where
+  whole-long : length (part old costs n) ≡ n
+  whole-long = part-length old costs n (omega (arith, r .costs-first, r .room))
 
-  row-at : (i : ℕ) → i < k → getD row i 0 ≡ placeOf (best costs (a + i))
-  unfolding lineFrom
-  row-at i l =
-      let m = part-length costs a k inside-line starts stops in
-      ap (λ (r : List ℕ). getD r i 0) row-is
-      ∙ table-at (λ (j : ℕ). placeFrom a (best (take k (drop a costs)) j)) (length (take k (drop a costs))) i 0 (omega arith)
-      ∙ run-place costs a k inside-line starts stops i l
+  pub segments : 0 < count → base ≤ mostLength → Segments mid out stack n count base
+  segments p low =
+      let e = whole-long in
+      let st = sk .whole in
+      let sm = st .small in
+      record {
+        out-first = omega (arith, r .out-first, r .costs-first);
+        room = omega (arith, r .room);
+        low = omega (arith, r .short);
+        some-site = p;
+        start = st .start p;
+        inside = λ q g. (let z = st .inside q g in omega arith);
+        rises = st .rises;
+        site = λ q g. st .leads q g (startAt mid stack q) (omega arith) (st .inside q g) (st .rises q) .inside;
+      }
 
-  answers : (i : ℕ) → i < e → getD (take a out ++ (row ++ drop k (drop a out))) i 0 ≡ placeOf (best costs i)
-  answers i l =
-      let room : a + k ≤ length out = let w = inside-line in omega arith in
-      let w = whole in
-      ⊎-elim
-      (λ (g : i < a). put-before 0 out row a k room row-long i g ∙ done .answered i (omega arith))
-      (λ (g : a ≤ i).
-      let q : a + (i - a) ≡ i = omega arith in
-      subst (λ (n : ℕ). getD (take a out ++ (row ++ drop k (drop a out))) n 0 ≡ placeOf (best costs n)) q
-      (put-inside 0 out row a k room row-long (i - a) (omega arith) ∙ row-at (i - a) (omega arith)))
-      (which i a)
+  in-segment : (x v : ℕ) → x < n → InSegment mid stack count base x v → v ≡ placeFrom base (best (part old costs n) x)
+  unfolding placeFrom
+  in-segment x v g s =
+      let e = whole-long in
+      let l = sk .whole .leads (s .q) (s .inside) x (s .from) (omega arith) (s .until) in
+      s .site ∙ sym (ap (placeFrom base) (leader (part old costs n) x (siteAt mid stack (s .q)) (subst (λ (m : ℕ). Leads (part old costs n) m x (siteAt mid stack (s .q))) (sym e) l)))
 
-  pub run-done : Done costs (take a out ++ (row ++ drop k (drop a out))) e
-  run-done = record { within = ends .within; answered = answers; bound = λ p q. inl (ends .bound q) }
+  pub ran-spread : (new : List ℕ) → Spread mid new out stack n count base → Ran old new out costs stack n base
+  ran-spread new s = record {
+    answers = λ x g. in-segment x (getD new (out + x) 0) g (s .answered x g);
+    beside = record {
+      before = λ i g. s .before i g ∙ sk .kept i (omega (arith, r .out-first, r .costs-first));
+      behind = λ i g h. s .behind i g ∙ sk .kept i h;
+    };
+  }
+
+  -- no site at all
+  pub ran-none : (row : List ℕ) (k : ℕ) → count ≡ 0 → k ≡ n → row ≡ replicate k noPlace → Ran old (put mid row out k) out costs stack n base
+  unfolding placeFrom
+  ran-none row k z w row-is =
+      let e = whole-long in
+      let fits : out + k ≤ length mid = omega (arith, r .out-first, r .costs-first, r .room) in
+      let row-long : length row ≡ k = ap length row-is ∙ length-replicate k noPlace in
+      let none-on : (j : ℕ) → j < length (part old costs n) → Site (part old costs n) j → ⊥ = λ j g. sk .whole .empty z j (omega arith) in
+      record {
+        answers = λ x g.
+            put-inside 0 mid row out k fits row-long x (omega arith)
+            ∙ ap (λ (l : List ℕ). getD l x 0) row-is
+            ∙ getD-replicate k x noPlace 0 (omega arith)
+            ∙ sym (ap (placeFrom base) (no-leader (part old costs n) none-on x));
+        beside = record {
+          before = λ i g. put-before 0 mid row out k fits row-long i g ∙ sk .kept i (omega (arith, r .out-first, r .costs-first));
+          behind = λ i g h. put-behind 0 mid row out k fits row-long i (omega arith) ∙ sk .kept i h;
+        };
+      }
+
+-- while the line is answered its costs stay
+module _ (old work : List ℕ) (out costs stack n : ℕ) (r : Regions out costs stack n (length old)) (size : length work ≡ length old) (b : Beside old work out stack n) where
+  pub line-long : length (part old costs n) ≡ n
+  line-long = part-length old costs n (omega (arith, r .costs-first, r .room))
+
+  pub same-line : part work costs n ≡ part old costs n
+  same-line = part-same 0 old work costs n (omega (arith, r .costs-first, r .room)) size (λ i g. b .behind (costs + i) (omega (arith, r .out-first)) (omega (arith, r .costs-first)))
+
+  pub cost-is : (x : ℕ) → x < n → getD (part old costs n) x 0 ≡ getD work (costs + x) 0
+  cost-is x g = part-at old costs n x 0 g ∙ sym (b .behind (costs + x) (omega (arith, r .out-first)) (omega (arith, r .costs-first)))
+
+  pub beside-set : (x v : ℕ) → x < n → Beside old (set work (out + x) v) out stack n
+  beside-set x v g = record {
+    before = λ i h. getD-set-other work (out + x) i v 0 (λ (e : i ≡ out + x). absurd (omega arith)) ∙ b .before i h;
+    behind = λ i h k. getD-set-other work (out + x) i v 0 (λ (e : i ≡ out + x). absurd (omega arith)) ∙ b .behind i h k;
+  }
+
+  pub beside-then : (new : List ℕ) → Beside work new out stack n → Beside old new out stack n
+  beside-then new c = record { before = λ i h. c .before i h ∙ b .before i h; behind = λ i h k. c .behind i h k ∙ b .behind i h k }
+
+  -- the whole line is answered
+  pub all-done : (x : ℕ) → n ≤ x → Done (part old costs n) work out x → Passed old work out costs stack n
+  all-done x g d =
+      let e = line-long in
+      record {
+        answers = line-is (part old costs n) (part work out n) (part-length work out n (omega (arith, r .out-first, r .costs-first, r .room)) ∙ sym e)
+            (λ k h. part-at work out n k 0 (omega arith) ∙ d .answered k (omega arith));
+        beside = b;
+      }

@@ -3,13 +3,21 @@
 use mathlib.Core.Path.{_≡_, ap, _∙_}
 use mathlib.Core.List.{List}
 use mathlib.Core.Logic.{⊎-elim}
-use Prim.Native.Nat.{ℕ, _+_, _*_, _-_, _≤_, _<_}
+use Prim.Native.Nat.{ℕ, _+_, _*_, _-_, _/_, _≤_, _<_}
 use native.Mathlib.Nat.{mul-add, add-mul, one-mul, mul-one, mul-comm, mul-left-comm, mul-le-mul-right, le-div-iff-mul-le, div-lt-iff-lt-mul, mul-le-mul}
 use native.Mathlib.Omega.{arith}
+use lib.ListN.{getD}
 use Rattle.plane.specs.Plane.{apart}
 use Rattle.plane.proofs.Search.{which}
-use Rattle.line.specs.Line.{valueAt}
-use Rattle.line.specs.Envelope.{height, takeoverAt}
+use Rattle.line.specs.steps.Line.{valueAt}
+
+-- cost and square of a place
+abbrev pub height : List ℕ → ℕ → ℕ
+height costs i = getD costs i 0 + i * i
+
+-- the first x at which u, to the right of i, is strictly better than i
+unfoldable pub takeoverAt : List ℕ → ℕ → ℕ → ℕ
+takeoverAt costs i u = (height costs u - height costs i) / (2 * (u - i)) + 1
 
 square-sum : (x d : ℕ) → d * d + 2 * (x * (x + d)) ≡ x * x + (x + d) * (x + d)
 square-sum x d =

@@ -8,7 +8,8 @@ use Prim.Native.Nat.{ℕ, zero, suc, _≤_, _<_}
 use native.Mathlib.Nat.{not-suc-le-zero}
 use native.Mathlib.Omega.{arith}
 use borrow.Author.Tests.{lt-ltb, le-ltb}
-use Rattle.line.specs.Walk.{lower, at, firstLeast, First, Answers}
+use Rattle.line.specs.steps.FirstLeast.{at, firstLeast, First, Answers}
+use Rattle.line.specs.Walk.{lower}
 use Rattle.plane.proofs.Search.{which, below-suc}
 
 -- no place holds a number and none at once

@@ -1,13 +1,10 @@
--- First-least walks over several axes: the places of a grid in order, columns outermost; and the same in two stages, each column first.
+-- First-least walks over several axes: the places of a grid in order, columns outermost.
 -- Assumes nothing.
-use Prim.Native.Nat.{ℕ, zero, suc, _+_, _≤_, _<_}
-use mathlib.Core.Path.{_≡_}
+use Prim.Native.Nat.{ℕ, zero, suc, _+_}
 use mathlib.Core.Bool.{cond}
 use mathlib.Core.List.{List, [], _∷_, _++_, map}
 use mathlib.Core.Option.{Option, none, some}
-use lib.ListN.{length, getD}
 use Rattle.line.specs.Walk.{lower}
-use Rattle.line.specs.Line.{mostCost}
 
 -- what stands at an answer
 unfoldable pub valueOf : {P : Type 0} → (P → Option ℕ) → Option P → Option ℕ
@@ -29,22 +26,7 @@ unfoldable pub grid : {P : Type 0} → ℕ → List P → List (ℕ × P)
 grid zero ps = []
 grid {P} (suc n) ps = grid n ps ++ map {B = ℕ × P} (λ (p : P). (n, p)) ps
 
--- a column's answer as a place of the grid
-unfoldable pub attach : {P : Type 0} → ℕ → Option P → Option (ℕ × P)
-attach i none = none
-attach i (some p) = some (i, p)
-
--- the best column's answer
-unfoldable pub chosen : {P : Type 0} → (ℕ → Option P) → Option ℕ → Option (ℕ × P)
-chosen g none = none
-chosen g (some i) = attach i (g i)
-
 -- a number and k
 unfoldable pub plus : ℕ → Option ℕ → Option ℕ
 plus k none = none
 plus k (some a) = some (a + k)
-
--- the numbers of a line's costs are those of f: none is a number above the largest cost
-pub record Encodes (costs : List ℕ) (f : ℕ → Option ℕ) : Type 0 where
-  pub some-cost : (i a : ℕ) → i < length costs → f i ≡ some a → (getD costs i 0 ≡ a) × (a ≤ mostCost)
-  pub no-cost : (i : ℕ) → i < length costs → f i ≡ none → mostCost < getD costs i 0

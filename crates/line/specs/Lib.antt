@@ -1,4 +1,3 @@
 pub mod Walk
-pub mod Line
-pub mod Envelope
 pub mod Grid
+pub mod steps

@@ -1,47 +1,37 @@
 // The line pass of an exact Euclidean feature transform: for each place of a line the first site with the least cost + (x - i)².
+// The answers, the costs and the stack are regions of one buffer, in this order: out, costs and stack say where each starts.
 ghost use mathlib.Core.Path.{_≡_};
 ghost use mathlib.Core.Bool.{true};
-ghost use Prim.Native.Nat.{ℕ, _+_, _*_, _-_, _<_, _≤_};
+ghost use Prim.Native.Nat.{_+_, _*_, _-_, _/_, _<_, _≤_};
 ghost use lib.ListN.{length, getD, replicate};
-ghost use Rattle.line.specs.Line.{mostLength, noPlace, Site, lineOf};
-ghost use Rattle.line.specs.Envelope.{Room, Stack, Dropped, Ends, Lone, Done, height, takeoverAt, lineFrom};
+ghost use Rattle.line.specs.steps.Line.{mostCost, mostLength};
+ghost use Rattle.line.specs.steps.Part.{part};
+ghost use Rattle.line.specs.steps.Envelope.{Room, Tops, Stays, Dropped, Stack, siteAt, startAt, Stacked, Segments, Spread};
+ghost use Rattle.line.specs.steps.Run.{Regions, Ends, Lone, Done, Ran, RunDone, Passed};
 
-// A place whose cost is above this has no site (2^33).
-pub const MAX_COST: u64 = 8589934592;
+// A place whose cost is above this has no site: 65,535².
+pub const MAX_COST: u32 = 4294836225;
 
 // What is written where the line has no site.
 pub const NO_PLACE: u32 = 4294967295;
 
-// A place as an index.
-fn wide(x: u32) -> usize
-    ensures { λ r. ⌜ r ≡ x ⌝ }
-{
-    x as usize
-}
+// An entry of the stack is a site times this, and the place where it starts to lead.
+const BASE: usize = 65536;
 
-// The cost of place i and its square.
-fn high(costs: &[u64], i: usize) -> u64
-    requires { ⌜ i < length (now costs) ⌝ }
-    requires { ⌜ Site (now costs) i ⌝ }
+// A cost and the square of its place.
+fn high(cost: u32, i: usize) -> u64
     requires { ⌜ i < mostLength ⌝ }
-    ensures { λ r. ⌜ r ≡ height (now (costs .entry)) i ⌝ }
+    ensures { λ r. ⌜ r ≡ cost + i * i ⌝ }
 {
     let d = i as u64;
-    costs[i] + d * d
+    cost as u64 + d * d
 }
 
-// The first x at which u is strictly better than i, which lies to its left.
-fn takeover(costs: &[u64], i: usize, u: usize) -> usize
-    requires { ⌜ i < u ⌝ }
-    requires { ⌜ u < length (now costs) ⌝ }
-    requires { ⌜ u < mostLength ⌝ }
-    requires { ⌜ Site (now costs) i ⌝ }
-    requires { ⌜ Site (now costs) u ⌝ }
-    requires { ⌜ height (now costs) i ≤ height (now costs) u ⌝ }
-    ensures { λ r. ⌜ r ≡ takeoverAt (now (costs .entry)) i u ⌝ }
+// The first x at which a site is strictly better than one that lies step places to its left and is lower by rise.
+fn takeover(rise: usize, step: usize) -> usize
+    requires { ⌜ (0 < step) × (step < mostLength) × (rise ≤ 2 * mostCost) ⌝ }
+    ensures { λ r. ⌜ r ≡ rise / (2 * step) + 1 ⌝ }
 {
-    let rise = (high(costs, u) - high(costs, i)) as usize;
-    let step = u - i;
     if step == 1 {
         return rise / 2 + 1;
     }
@@ -50,20 +40,18 @@ fn takeover(costs: &[u64], i: usize, u: usize) -> usize
 
 // The number of sites that stay when those are taken off the top that u beats already at their own start.
 // At x site i is as good as u, to its right, exactly where its height and 2x(u - i) are at most the height of u.
-fn drop_worse(costs: &[u64], s: &[u32], t: &[u32], count: usize, u: usize) -> usize
-    requires { ⌜ Room (now costs) (now s) (now t) ⌝ }
-    requires { ⌜ u < length (now costs) ⌝ }
-    requires { ⌜ Site (now costs) u ⌝ }
-    requires { ⌜ Stack (now costs) (now s) (now t) u count ⌝ }
-    ensures { λ r. ⌜ Dropped (now (costs .entry)) (now (s .entry)) (now (t .entry)) u count r ⌝ }
+fn drop_worse(work: &[u32], costs: usize, stack: usize, count: usize, u: usize) -> usize
+    requires { ⌜ Tops (now work) costs stack count u ⌝ }
+    ensures { λ r. ⌜ Dropped (Stays (now (work .entry)) costs stack u) count r ⌝ }
 {
+    let most = high(work[costs + u], u);
     let mut k = count;
     while 0 < k {
         let top = k - 1;
-        let x = wide(t[top]);
-        let i = wide(s[top]);
-        let far = (x * (2 * (u - i))) as u64;
-        if high(costs, i) + far <= high(costs, u) {
+        let entry = plane::wide(work[stack + top]);
+        let i = entry / BASE;
+        let far = (entry % BASE * (2 * (u - i))) as u64;
+        if high(work[costs + i], i) + far <= most {
             return k;
         }
         k = top;
@@ -72,40 +60,46 @@ fn drop_worse(costs: &[u64], s: &[u32], t: &[u32], count: usize, u: usize) -> us
 }
 
 // One site more; the new number of sites.
-fn push_site(costs: &[u64], s: &mut [u32], t: &mut [u32], count: usize, u: usize) -> usize
-    requires { ⌜ Room (now costs) (now s) (now t) ⌝ }
-    requires { ⌜ u < length (now costs) ⌝ }
-    requires { ⌜ Site (now costs) u ⌝ }
-    requires { ⌜ Stack (now costs) (now s) (now t) u count ⌝ }
-    ensures { λ r. ⌜ Stack (now (costs .entry)) (now (s .exit)) (now (t .exit)) (u + 1) r ⌝ }
+fn push_site(
+    work: &mut [u32],
+    costs: usize,
+    stack: usize,
+    n: usize,
+    count: usize,
+    u: usize,
+) -> usize
+    requires { ⌜ Room costs stack n (length (now work)) ⌝ }
+    requires { ⌜ u < n ⌝ }
+    requires { ⌜ getD (now work) (costs + u) 0 ≤ mostCost ⌝ }
+    requires { ⌜ Stack (part (now work) costs n) (siteAt (now work) stack) (startAt (now work) stack) u count ⌝ }
+    ensures { λ r. ⌜ Stacked (now (work .entry)) (now (work .exit)) costs stack n (u + 1) r ⌝ }
 {
-    let k = drop_worse(costs, s, t, count, u);
+    let k = drop_worse(work, costs, stack, count, u);
     if k == 0 {
-        s[0] = u as u32;
-        t[0] = 0;
+        work[stack] = (u * BASE) as u32;
         return 1;
     }
     let top = k - 1;
-    let i = wide(s[top]);
-    let from = takeover(costs, i, u);
-    if from < costs.len() {
-        s[k] = u as u32;
-        t[k] = from as u32;
+    let i = plane::wide(work[stack + top]) / BASE;
+    let rise = (high(work[costs + u], u) - high(work[costs + i], i)) as usize;
+    let from = takeover(rise, u - i);
+    if from < n {
+        work[stack + k] = (u * BASE + from) as u32;
         return k + 1;
     }
     k
 }
 
 // The stack of the whole line; the number of its sites.
-fn build(costs: &[u64], s: &mut [u32], t: &mut [u32]) -> usize
-    requires { ⌜ Room (now costs) (now s) (now t) ⌝ }
-    ensures { λ r. ⌜ Stack (now (costs .entry)) (now (s .exit)) (now (t .exit)) (length (now (costs .entry))) r ⌝ }
+fn build(work: &mut [u32], costs: usize, stack: usize, n: usize) -> usize
+    requires { ⌜ Room costs stack n (length (now work)) ⌝ }
+    ensures { λ r. ⌜ Stacked (now (work .entry)) (now (work .exit)) costs stack n n r ⌝ }
 {
     let mut count = 0usize;
     let mut u = 0usize;
-    while u < costs.len() {
-        if costs[u] <= MAX_COST {
-            count = push_site(costs, s, t, count, u);
+    while u < n {
+        if work[costs + u] <= MAX_COST {
+            count = push_site(work, costs, stack, n, count, u);
         }
         u += 1;
     }
@@ -113,7 +107,7 @@ fn build(costs: &[u64], s: &mut [u32], t: &mut [u32]) -> usize
 }
 
 // A stretch of places that have one answer.
-fn fill(out: &mut [u32], v: u32)
+pub fn fill(out: &mut [u32], v: u32)
     ensures { λ _. ⌜ now (out .exit) ≡ replicate (length (now (out .entry))) v ⌝ }
 {
     let mut x = 0usize;
@@ -124,50 +118,49 @@ fn fill(out: &mut [u32], v: u32)
 }
 
 // The best site of each place, segment by segment from the right; the part of the line starts at base.
-fn answer(costs: &[u64], s: &[u32], t: &[u32], count: usize, base: u32, out: &mut [u32])
-    requires { ⌜ Room (now costs) (now s) (now t) ⌝ }
-    requires { ⌜ length (now out) ≡ length (now costs) ⌝ }
-    requires { ⌜ base ≤ mostLength ⌝ }
-    requires { ⌜ 0 < count ⌝ }
-    requires { ⌜ Stack (now costs) (now s) (now t) (length (now costs)) count ⌝ }
-    ensures { λ _. ⌜ now (out .exit) ≡ lineFrom base (now (costs .entry)) ⌝ }
+fn answer(work: &mut [u32], out: usize, stack: usize, n: usize, count: usize, base: usize)
+    requires { ⌜ Segments (now work) out stack n count base ⌝ }
+    ensures { λ _. ⌜ Spread (now (work .entry)) (now (work .exit)) out stack n count base ⌝ }
 {
     let mut q = count;
-    let mut end = out.len();
+    let mut end = n;
     while 0 < q {
         let top = q - 1;
-        let from = wide(t[top]);
-        let v = base + s[top];
-        fill(&mut out[from..end], v);
+        let entry = plane::wide(work[stack + top]);
+        let from = entry % BASE;
+        let v = (base + entry / BASE) as u32;
+        let a = out + from;
+        let e = out + end;
+        fill(&mut work[a..e], v);
         end = from;
         q = top;
     }
 }
 
 // The line pass over a part of the line that starts at base.
-fn run(costs: &[u64], base: u32, s: &mut [u32], t: &mut [u32], out: &mut [u32])
-    requires { ⌜ Room (now costs) (now s) (now t) ⌝ }
-    requires { ⌜ length (now out) ≡ length (now costs) ⌝ }
+fn run(work: &mut [u32], out: usize, costs: usize, stack: usize, n: usize, base: usize)
+    requires { ⌜ Regions out costs stack n (length (now work)) ⌝ }
     requires { ⌜ base ≤ mostLength ⌝ }
-    ensures { λ _. ⌜ now (out .exit) ≡ lineFrom base (now (costs .entry)) ⌝ }
+    ensures { λ _. ⌜ Ran (now (work .entry)) (now (work .exit)) out costs stack n base ⌝ }
 {
-    let count = build(costs, s, t);
+    let count = build(work, costs, stack, n);
     if count == 0 {
-        fill(out, NO_PLACE);
+        let e = out + n;
+        fill(&mut work[out..e], NO_PLACE);
         return;
     }
-    answer(costs, s, t, count, base, out);
+    answer(work, out, stack, n, count, base);
 }
 
 // The end of the run that holds x: behind the next place of cost 0, or the end of the line.
-fn run_end(costs: &[u64], x: usize) -> usize
-    requires { ⌜ x < length (now costs) ⌝ }
-    ensures { λ r. ⌜ Ends (now (costs .entry)) x r ⌝ }
+fn run_end(work: &[u32], costs: usize, n: usize, x: usize) -> usize
+    requires { ⌜ (x < n) × (costs + n ≤ length (now work)) ⌝ }
+    ensures { λ r. ⌜ Ends (now (work .entry)) costs n x r ⌝ }
 {
     let mut k = x;
-    while k < costs.len() {
+    while k < n {
         let next = k + 1;
-        if costs[k] == 0 {
+        if work[costs + k] == 0 {
             return next;
         }
         k = next;
@@ -183,55 +176,51 @@ fn place_before(x: usize) -> usize
 }
 
 // Whether the place behind x has cost 0, and x is not the first.
-fn lone(costs: &[u64], x: usize) -> bool
-    requires { ⌜ x < length (now costs) ⌝ }
-    ensures { λ r. ⌜ (r ≡ true → Lone (now (costs .entry)) x) ⌝ }
+fn lone(work: &[u32], costs: usize, n: usize, x: usize) -> bool
+    requires { ⌜ (x < n) × (costs + n ≤ length (now work)) ⌝ }
+    ensures { λ r. ⌜ (r ≡ true → Lone (now (work .entry)) costs n x) ⌝ }
 {
     if x == 0 {
         return false;
     }
     let next = x + 1;
-    if next < costs.len() {
-        return costs[next] == 0;
+    if next < n {
+        return work[costs + next] == 0;
     }
     false
 }
 
 // The run that holds x, from the place before it; its end.
-fn off_run(costs: &[u64], x: usize, s: &mut [u32], t: &mut [u32], out: &mut [u32]) -> usize
-    requires { ⌜ Room (now costs) (now s) (now t) ⌝ }
-    requires { ⌜ length (now out) ≡ length (now costs) ⌝ }
-    requires { ⌜ x < length (now costs) ⌝ }
-    requires { ⌜ (getD (now costs) x 0 ≡ 0 → ⊥) ⌝ }
-    requires { ⌜ Done (now costs) (now out) x ⌝ }
-    ensures { λ r. ⌜ Done (now (costs .entry)) (now (out .exit)) r ⌝ }
-    ensures { λ r. ⌜ Ends (now (costs .entry)) x r ⌝ }
+fn off_run(work: &mut [u32], out: usize, costs: usize, stack: usize, n: usize, x: usize) -> usize
+    requires { ⌜ Regions out costs stack n (length (now work)) ⌝ }
+    requires { ⌜ x < n ⌝ }
+    requires { ⌜ (getD (now work) (costs + x) 0 ≡ 0 → ⊥) ⌝ }
+    requires { ⌜ Done (part (now work) costs n) (now work) out x ⌝ }
+    ensures { λ r. ⌜ RunDone (now (work .entry)) (now (work .exit)) out costs stack n x r ⌝ }
 {
-    let e = run_end(costs, x);
+    let e = run_end(work, costs, n, x);
     let a = place_before(x);
-    run(&costs[a..e], a as u32, s, t, &mut out[a..e]);
+    run(work, out + a, costs + a, stack, e - a, a);
     e
 }
 
 // For each place of a line the first site with the least cost + (x - i)²; NO_PLACE where the line has no site.
-// A place of cost 0 is its own answer, and the answer of a place behind it that has a cost; sites beyond it do not count on this side of it.
-// So the line is done run by run.
-// s and t are work space, as long as the line.
-pub fn line(costs: &[u64], s: &mut [u32], t: &mut [u32], out: &mut [u32])
-    requires { ⌜ Room (now costs) (now s) (now t) ⌝ }
-    requires { ⌜ length (now out) ≡ length (now costs) ⌝ }
-    ensures { λ _. ⌜ now (out .exit) ≡ lineOf (now (costs .entry)) ⌝ }
+// A place of cost 0 is its own answer, and the answer of a place behind it that has a cost;
+// sites beyond it do not count on this side of it. So the line is done run by run.
+pub fn line(work: &mut [u32], out: usize, costs: usize, stack: usize, n: usize)
+    requires { ⌜ Regions out costs stack n (length (now work)) ⌝ }
+    ensures { λ _. ⌜ Passed (now (work .entry)) (now (work .exit)) out costs stack n ⌝ }
 {
     let mut x = 0usize;
-    while x < costs.len() {
-        if costs[x] == 0 {
-            out[x] = x as u32;
+    while x < n {
+        if work[costs + x] == 0 {
+            work[out + x] = x as u32;
             x += 1;
-        } else if lone(costs, x) {
-            out[x] = (x - 1) as u32;
+        } else if lone(work, costs, n, x) {
+            work[out + x] = (x - 1) as u32;
             x += 1;
         } else {
-            x = off_run(costs, x, s, t, out);
+            x = off_run(work, out, costs, stack, n, x);
         }
     }
 }

@@ -8,7 +8,7 @@ use lib.IntN.{pos, negsuc}
 use lib.Ieee.{Float, fin, binary64, ofBits, toBits, lt, le, eq, add, div, ofInt}
 use Rattle.colour.specs.Number.{plusZero, halfOf}
 use Rattle.median.specs.Median.{insert, sorted, placed, lowerMiddle, upperMiddle, medianOf}
-use Rattle.median.specs.Steps.{atMost, nearer, leastAbove}
+use Rattle.median.specs.steps.Select.{atMost, nearer, leastAbove}
 
 all : List Bool → Bool
 all [] = true

@@ -11,7 +11,7 @@ use lib.Dec.{T, leb}
 use lib.ListN.{length, getD, length-map}
 use lib.Ieee.{Float, nan, binary64, add, div, lt, le, eq, fits}
 use lib.Ieee.Fits.{and-r, cond-fits, div-fits}
-use Rattle.colour.specs.Number.{zero64, one64, two64, plusZero, halfOf}
+use Rattle.colour.specs.Number.{zero64, one64, two64, plusZero, halfOf, Binary64}
 use Rattle.colour.specs.Colour.{colourOk, coloursOk}
 use Rattle.colour.proofs.Range.{is}
 use Rattle.colour.proofs.Zero.{plus0, plus0-plus0, Alike, lt-alike, plus-zero-same, plus-zero-is}
@@ -20,7 +20,7 @@ use Rattle.median.specs.Median.{insert, sorted, placed, lowerMiddle, upp
 use Rattle.median.proofs.Pattern.{key, key-alike}
 use Rattle.median.proofs.Between.{half-ok}
 use Rattle.median.proofs.Rank.{countN, same-places}
-use Rattle.median.proofs.Places.{Held, placed-good, placed-ok, placed-key}
+use Rattle.median.proofs.Places.{placed-good, placed-ok, placed-key}
 
 -- ---- a zero's sign
 plus-zero-alike : (x : Float) → T (fits binary64 x) → Alike (plusZero x) x
@@ -112,7 +112,7 @@ permuted-count t (List·Permᴰ·cons e d) = rw (e, permuted-count t d)
 permuted-count t (List·Permᴰ·swap {a} {b} {a′} {b′} {l} e d) = swap-counts t a b a′ b′ (countN t (map key l)) e d
 permuted-count t (List·Permᴰ·trans c d) = permuted-count t c ∙ permuted-count t d
 
-module _ (l m : List Float) (a : Held l) (b : Held m) (ok : coloursOk l ≡ true) (ok′ : coloursOk m ≡ true) (p : List·Permᴰ l m) where
+module _ (l m : List Float) (a : Binary64 l) (b : Binary64 m) (ok : coloursOk l ≡ true) (ok′ : coloursOk m ≡ true) (p : List·Permᴰ l m) where
   same : length l ≡ length m
   same = permuted-length p
 
@@ -134,7 +134,7 @@ module _ (l m : List Float) (a : Held l) (b : Held m) (ok : coloursOk l ≡ true
 
 -- ---- range
 -- the median of numbers from 0 to 1 is from 0 to 1
-pub median-ok : (l : List Float) → Held l → coloursOk l ≡ true → 2 ≤ length l → colourOk (medianOf l) ≡ true
+pub median-ok : (l : List Float) → Binary64 l → coloursOk l ≡ true → 2 ≤ length l → colourOk (medianOf l) ≡ true
 unfolding medianOf lowerMiddle upperMiddle colourOk
 median-ok l a ok h =
     let i : length l / 2 - 1 < length l = omega arith in

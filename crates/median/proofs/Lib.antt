@@ -1,4 +1,5 @@
 pub mod Cases
+pub mod Values
 pub mod Pattern
 pub mod Rank
 pub mod Places

@@ -6,22 +6,18 @@ use mathlib.Core.List.{List, [], _∷_, map}
 use Prim.Native.Nat.{ℕ, zero, suc, _≤_, _<_}
 use native.Mathlib.Nat.{le-of-suc-le-suc, not-suc-le-zero}
 use native.Mathlib.Omega.{arith}
-use lib.Dec.{T, ltb, leb}
+use lib.Dec.{ltb, leb}
 use lib.ListN.{length, getD, length-map}
-use lib.Ieee.{Float, nan, binary64, ofBits, lt, le, fits}
+use lib.Ieee.{Float, nan, binary64, ofBits, lt, le}
 use borrow.Author.Tests.{lt-ltb, le-ltb}
-use Rattle.colour.specs.Number.{plusZero}
+use Rattle.colour.specs.Number.{plusZero, Binary64}
 use Rattle.colour.specs.Colour.{colourOk, coloursOk}
 use Rattle.colour.proofs.Zero.{plus0, plus0-plus0, Alike, plus-zero-same, plus-zero-is}
 use Rattle.colour.proofs.Range.{colours-at}
 use Rattle.median.specs.Median.{insert, sorted, placed}
-use Rattle.median.specs.Steps.{atMost, nearer, leastAbove}
+use Rattle.median.specs.steps.Select.{atMost, nearer, leastAbove}
 use Rattle.median.proofs.Pattern.{key, Good, lt-key, le-key, oneBits, bits-good, key-bits, ok-good, ok-key, one-good, key-one, plus0-good, key-alike, alike-key}
 use Rattle.median.proofs.Rank.{insertN, sortN, countN, sort-rank, leastN, next-place}
-
--- every number is a value of the format, as every f64 is
-abbrev pub Held : List Float → Type 0
-Held l = (i : ℕ) → i < length l → T (fits binary64 (getD l i nan))
 
 -- every number is a value of the format that is at least 0
 Goods : List Float → Type 0
@@ -141,7 +137,7 @@ getD-map f [] k h = absurd (not-suc-le-zero h)
 getD-map f (x ∷ l) zero h = refl
 getD-map f (x ∷ l) (suc k) h = getD-map f l k (le-of-suc-le-suc h)
 
-module _ (l : List Float) (held : Held l) (ok : coloursOk l ≡ true) where
+module _ (l : List Float) (held : Binary64 l) (ok : coloursOk l ≡ true) where
   goods : Goods l
   goods = goods-from l (λ i h. ok-good (getD l i nan) (held i h) (colours-at l ok i h))
 

@@ -1,13 +1,11 @@
 -- The median of a list of numbers, by order.
 -- Assumes nothing.
-use mathlib.Core.Path.{_≡_}
-use mathlib.Core.Bool.{true, cond}
+use mathlib.Core.Bool.{cond}
 use mathlib.Core.List.{List, [], _∷_}
-use Prim.Native.Nat.{ℕ, _-_, _/_, _≤_}
+use Prim.Native.Nat.{ℕ, _-_, _/_}
 use lib.ListN.{length, getD}
 use lib.Ieee.{Float, nan, lt}
 use Rattle.colour.specs.Number.{plusZero, halfOf}
-use Rattle.colour.specs.Colour.{coloursOk}
 
 -- x among numbers in order: before the first that is greater
 unfoldable pub insert : Float → List Float → List Float
@@ -30,11 +28,6 @@ lowerMiddle l = placed l (length l / 2 - 1)
 unfoldable pub upperMiddle : List Float → Float
 upperMiddle l = placed l (length l / 2)
 
--- document 01's reference of a channel: (lo + hi) / 2 of the two middle values in order, a zero as +0
+-- the reference of a channel (R17): half the sum of the two middle values in order, a zero as +0
 unfoldable pub medianOf : List Float → Float
 medianOf l = plusZero (halfOf (lowerMiddle l) (upperMiddle l))
-
--- at least two numbers, each from 0 to 1
-pub record Channel (l : List Float) : Type 0 where
-  pub some : 2 ≤ length l
-  pub ok : coloursOk l ≡ true

@@ -9,7 +9,7 @@ use Rattle.line.specs.Walk.{lower}
 use Rattle.line.specs.Grid.{valueOf, walk, upto, grid, plus}
 use Rattle.nearest.specs.Nearest.{rowCost, nearest, rowOf, columnOf, rowsPlane, columnsPlane, away, distanceTo, distance, distancePlane}
 
--- document 01's cases: 1 by 3, on at columns 0 and 2; 3 by 1, on at rows 0 and 2; 2 by 2, on at (0, 1) and (1, 0); none on
+-- R73 and R74: 1 by 3, on at columns 0 and 2; 3 by 1, on at rows 0 and 2; 2 by 2, on at (0, 1) and (1, 0); none on
 nearest-cases : (nearest (1 ∷ 0 ∷ 1 ∷ []) 1 3 0 1 ≡ some (0, 0)) × (nearest (1 ∷ 0 ∷ 1 ∷ []) 3 1 1 0 ≡ some (0, 0))
     × (nearest (0 ∷ 1 ∷ 1 ∷ 0 ∷ []) 2 2 0 0 ≡ some (0, 1)) × (nearest (0 ∷ 1 ∷ 1 ∷ 0 ∷ []) 2 2 1 1 ≡ some (0, 1)) × (nearest (0 ∷ 0 ∷ 0 ∷ 0 ∷ []) 2 2 1 1 ≡ none)
 unfolding lower on onAt apart valueOf walk upto grid plus rowCost nearest

@@ -10,11 +10,12 @@ use native.Mathlib.Omega.{arith}
 use lib.IntN.{pos}
 use lib.ListN.{getD}
 use borrow.Author.Tests.{lt-ltb, le-ltb}
-use Rattle.plane.specs.Plane.{mostSide, onAt, apart}
+use Rattle.plane.specs.Plane.{onAt, apart}
 use Rattle.plane.proofs.Search.{which, either, not-both}
 use Rattle.plane.proofs.Plane.{plane-at}
-use Rattle.line.specs.Walk.{firstLeast, First, Answers}
-use Rattle.line.specs.Grid.{valueOf, upto, attach, chosen, plus}
+use Rattle.line.specs.steps.FirstLeast.{firstLeast, First, Answers}
+use Rattle.line.specs.steps.Columns.{attach, chosen}
+use Rattle.line.specs.Grid.{valueOf, upto, plus}
 use Rattle.line.proofs.Squares.{square-le, square-lt}
 use Rattle.line.proofs.Walk.{clash, same, walk-answers}
 use Rattle.line.proofs.Grid.{columnBest, columnCost, walk-line, compose}
@@ -260,18 +261,6 @@ pub away-zero : (y x j i : ℕ) → away y x j i ≡ 0 → (j ≡ y) × (i ≡ x
 unfolding away
 away-zero y x j i e = (apart-zero y j (square-zero (apart y j) (omega arith)), apart-zero x i (square-zero (apart x i) (omega arith)))
 
-apart-most : (y j : ℕ) → y < mostSide → j < mostSide → apart y j ≤ 4095
-unfolding apart
-apart-most y j a b = omega arith
-
--- it fits 32 bits
-pub away-most : (y x j i : ℕ) → y < mostSide → x < mostSide → j < mostSide → i < mostSide → away y x j i ≤ 33554432
-unfolding away
-away-most y x j i a b c d =
-    let p = square-le (apart-most y j a c) in
-    let q = square-le (apart-most x i b d) in
-    omega arith
-
 module _ (mask : List ℕ) (h w y x : ℕ) where
   -- the distance is that to the answer
   pub distance-some : (i j : ℕ) → nearest mask h w y x ≡ some (i, j) → distance mask h w y x ≡ away y x j i
@@ -322,22 +311,6 @@ module _ (mask : List ℕ) (h w y x : ℕ) where
   -- and nowhere else
   pub distance-zero : distance mask h w y x ≡ 0 → (y < h) × (x < w) × (onAt mask w y x ≡ true)
   distance-zero z = zero-from (nearest mask h w y x) refl z
-
-  most-from : h ≤ mostSide → w ≤ mostSide → y < mostSide → x < mostSide → (r : Option (ℕ × ℕ)) → nearest mask h w y x ≡ r → distance mask h w y x ≤ 33554432
-  most-from a b c d none e =
-      let n = distance-none e in
-      let p = square-le {a = suc y} {b = 4096} (omega arith) in
-      let q = square-le {a = x} {b = 4095} (omega arith) in
-      omega arith
-  most-from a b c d (some q) e =
-      let p = nearest-some mask h w y x (q .0) (q .1) e in
-      let n = distance-some (q .0) (q .1) e in
-      let m = away-most y x (q .1) (q .0) c d (omega (arith, p .row-inside)) (omega (arith, p .column-inside)) in
-      omega arith
-
-  -- the distance fits 32 bits
-  pub distance-most : h ≤ mostSide → w ≤ mostSide → y < mostSide → x < mostSide → distance mask h w y x ≤ 33554432
-  distance-most a b c d = most-from a b c d (nearest mask h w y x) refl
 
   -- what the planes hold at (y, x)
   pub rows-at : y < h → x < w → getD (rowsPlane mask h w) (y * w + x) (pos 0) ≡ rowOf (nearest mask h w y x)

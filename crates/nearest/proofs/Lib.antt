@@ -1,6 +1,6 @@
 pub mod Cases
-pub mod InPlace
 pub mod Sweep
-pub mod Stages
 pub mod Laws
-pub mod Indexing
+pub mod Stages
+pub mod Rows
+pub mod Indexed

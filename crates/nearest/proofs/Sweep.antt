@@ -9,11 +9,11 @@ use native.Mathlib.Omega.{arith}
 use borrow.Author.Tests.{lt-ltb, le-ltb}
 use Rattle.plane.specs.Plane.{apart}
 use Rattle.plane.proofs.Search.{which, either, not-both}
-use Rattle.line.specs.Walk.{firstLeast, Answers}
-use Rattle.line.specs.Line.{mostLength}
+use Rattle.line.specs.steps.FirstLeast.{firstLeast, Answers}
+use Rattle.line.specs.steps.Line.{mostLength}
 use Rattle.line.proofs.Squares.{square-le, square-lt, root-le, root-lt}
 use Rattle.line.proofs.Walk.{clash, same, walk-answers, walk-is}
-use Rattle.nearest.specs.Stages.{noRow, firstFrom, nearer, rowCode}
+use Rattle.nearest.specs.steps.Stages.{noRow, firstFrom, nearer, rowCode}
 
 -- how far apart two rows are, by which is the upper
 pub apart-up : (y k : ℕ) → k ≤ y → apart y k + k ≡ y

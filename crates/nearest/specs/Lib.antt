@@ -1,3 +1,2 @@
 pub mod Nearest
-pub mod Stages
-pub mod Indices
+pub mod steps

@@ -14,21 +14,22 @@ use Rattle.line.specs.Grid.{walk, upto, grid, plus}
 unfoldable pub rowCost : List ℕ → ℕ → ℕ → ℕ → ℕ → Option ℕ
 rowCost mask w y i j = cond (onAt mask w j i) (some (apart y j * apart y j)) none
 
--- the column and the row of the on-pixel with the least dy² + dx² from (y, x); a later one takes its place only where it is strictly nearer
+-- the column and the row of the on-pixel with the least dy² + dx² from (y, x) (R10, R11); a later one of the walk takes its place only
+-- where it is strictly nearer
 unfoldable pub nearest : List ℕ → ℕ → ℕ → ℕ → ℕ → Option (ℕ × ℕ)
 nearest mask h w y x = walk (λ (q : ℕ × ℕ). plus (apart x (q .0) * apart x (q .0)) (rowCost mask w y (q .0) (q .1))) none (grid w (upto h))
 
--- the row that is written for an answer: -1 where nothing is on
+-- the row that is written for an answer (R12): -1 where nothing is on
 unfoldable pub rowOf : Option (ℕ × ℕ) → ℤ
 rowOf none = negsuc 0
 rowOf (some q) = pos (q .1)
 
--- the column that is written for an answer: 0 where nothing is on
+-- the column that is written for an answer (R12): 0 where nothing is on
 unfoldable pub columnOf : Option (ℕ × ℕ) → ℤ
 columnOf none = pos 0
 columnOf (some q) = pos (q .0)
 
--- the two planes of the feature transform
+-- the two planes of the feature transform (R12)
 unfoldable pub rowsPlane : List ℕ → ℕ → ℕ → List ℤ
 rowsPlane mask h w = planeOf h w (λ (y x : ℕ). rowOf (nearest mask h w y x))
 
@@ -39,7 +40,7 @@ columnsPlane mask h w = planeOf h w (λ (y x : ℕ). columnOf (nearest mask h w 
 unfoldable pub away : ℕ → ℕ → ℕ → ℕ → ℕ
 away y x j i = apart y j * apart y j + apart x i * apart x i
 
--- the same to an answer; nothing on counts as row -1 and column 0, as in the planes
+-- the same to an answer; nothing on counts as row -1 and column 0, as in the planes (R13)
 unfoldable pub distanceTo : ℕ → ℕ → Option (ℕ × ℕ) → ℕ
 distanceTo y x none = suc y * suc y + x * x
 distanceTo y x (some q) = away y x (q .1) (q .0)

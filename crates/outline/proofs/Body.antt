@@ -9,17 +9,18 @@ use mathlib.Core.Logic.{⊎-elim}
 use Prim.Native.Nat.{ℕ, _+_, _*_, _/_, _%_, _<_}
 use native.Mathlib.Omega.{arith}
 use borrow.Author.Tests.{not-false}
-use Rattle.plane.specs.Plane.{onAt, apart}
+use Rattle.plane.specs.Plane.{onAt, apart, indexOf}
 use Rattle.plane.specs.Search.{someBelow}
 use Rattle.plane.proofs.Plane.{pixel-in, row-of, column-of, index-of, apart-back}
 use Rattle.plane.proofs.Search.{either, not-both, some-found, and-no}
 use Rattle.plane.proofs.Refusal.{and-true}
-use Rattle.labels.specs.Labels.{isOn}
+use Rattle.plane.specs.Mask.{isOn, maskOf}
 use Rattle.labels.proofs.Steps.{row-is, column-is}
 use Rattle.nearest.specs.Nearest.{nearest, towards}
 use Rattle.nearest.proofs.Laws.{IsNearest, nearest-some, nearest-found, towards-inside, towards-near, step-off}
-use Rattle.outline.specs.Growth.{nearGround, isEdge, isShallow, isDeep, maskOf, indexOf, isReach, bodyFrom}
-use Rattle.outline.proofs.Masks.{mask-on, mask-holds, index-on, row-on, Within, Nigh, near-found, near-is, within-self, within-more, within-sum}
+use Rattle.outline.specs.Growth.{nearGround, isEdge, isShallow, isDeep, isReach, bodyFrom}
+use Rattle.plane.proofs.Mask.{mask-on, mask-holds, index-on, row-on}
+use Rattle.outline.proofs.Masks.{Within, Nigh, near-found, near-is, within-self, within-more, within-sum}
 
 -- a pixel of the plane within k of the background
 pub record PixelWithin (back : List ℕ) (h w k i : ℕ) : Type 0 where

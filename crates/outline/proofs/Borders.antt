@@ -14,7 +14,7 @@ use borrow.Author.Tests.{eqb-true, eq-eqb}
 use Rattle.plane.specs.Plane.{table}
 use Rattle.plane.proofs.Plane.{pixel-in}
 use Rattle.plane.proofs.Search.{not-both, or-left, or-right, or-true}
-use Rattle.labels.specs.Labels.{isOn}
+use Rattle.plane.specs.Mask.{isOn}
 use Rattle.colour.proofs.Zero.{Alike}
 use Rattle.colour.proofs.Same.{SameColour}
 use Rattle.median.specs.Median.{medianOf}
@@ -89,7 +89,7 @@ count-alike a b (j ∷ l) h =
 
 -- ---- the reference
 
-mapped-at : (f : ℕ → Float) (l : List ℕ) (k : ℕ) → k < length l → getD (map f l) k nan ≡ f (getD l k 0)
+pub mapped-at : (f : ℕ → Float) (l : List ℕ) (k : ℕ) → k < length l → getD (map f l) k nan ≡ f (getD l k 0)
 mapped-at f [] k h = absurd (not-suc-le-zero h)
 mapped-at f (x ∷ l) zero h = refl
 mapped-at f (x ∷ l) (suc k) h = mapped-at f l k (le-of-suc-le-suc h)

@@ -1,4 +1,4 @@
--- Document 01's list "The proved cases": one list, line by line, with one check that the prover computes from the definitions.
+-- The proved cases (R73 to R79): one list, line by line, with one check that the prover computes from the definitions.
 -- Assumes nothing.
 use mathlib.Core.Bool.{Bool, true, false, cond, not, _&&_}
 use mathlib.Core.List.{List, [], _∷_, _++_}
@@ -7,13 +7,14 @@ use lib.IntN.{ℤ, pos, negsuc}
 use lib.Dec.{T, eqb}
 use lib.ListN.{replicate}
 use lib.Ieee.{Float, fin, lt, le, eq, add, sub, mul, div, neg, ofInt, ofBits}
-use Rattle.plane.specs.Plane.{on, bit, onAt, apart, within, table, rowsUpto, planeOf}
-use Rattle.plane.specs.Search.{someBelow, countBelow}
+use Rattle.plane.specs.Plane.{on, bit, onAt, apart, within, table, rowsUpto, planeOf, indexOf}
+use Rattle.plane.specs.Search.{someBelow, countBelow, firstBelow, lastBelow}
 use Rattle.line.specs.Walk.{lower}
 use Rattle.line.specs.Grid.{valueOf, walk, upto, grid, plus}
 use Rattle.nearest.specs.Nearest.{rowCost, nearest, rowOf, columnOf, rowsPlane, columnsPlane, away, distanceTo}
 use Rattle.squares.specs.Squares.{larger, reach, inSquare, squaresPlane}
-use Rattle.labels.specs.Labels.{isOn, beside, lesser, renamed, merge, joinTwo, joinWith, joinUpto, firstPixel, isFirst, parts, labelOf, labelAt, labelsPlane}
+use Rattle.plane.specs.Mask.{isOn, maskOf, someOff}
+use Rattle.labels.specs.Labels.{beside, lesser, renamed, merge, joinTwo, joinWith, joinUpto, firstPixel, isFirst, parts, labelOf, labelAt, labelsPlane}
 use Rattle.colour.specs.declared.Settings.{Settings}
 use Rattle.colour.specs.Number.{zero64, one64, absOf, plusZero, halfOf}
 use Rattle.colour.specs.Colour.{differenceOf, closeTo}
@@ -21,9 +22,10 @@ use Rattle.colour.specs.Join.{joinsOf}
 use Rattle.colour.specs.Settings.{passesOf, onOf}
 use Rattle.median.specs.Median.{insert, sorted, placed, lowerMiddle, upperMiddle, medianOf}
 use Rattle.outline.specs.Border.{rowPixels, innerColumn, borderList, listed, onBorder, channelAt, colourAt, referenceChannel, referenceOf}
-use Rattle.outline.specs.Ground.{isClose, closePlane, isGround, groundFrom, groundOf, countOn, someOff, foundFrom, isFound}
-use Rattle.outline.specs.Growth.{nearGround, isEdge, isShallow, isDeep, maskOf, indexOf, isReach, bodyFrom, joinsFrom, isJoining, passOf, growthOf}
-use Rattle.outline.specs.Cut.{alphaMask, isSought, isKeyed, grownGround, cutMask, firstBelow, lastBelow, rowHas, columnHas, lesserOf, boxOf, cropOf}
+use Rattle.outline.specs.Ground.{isClose, closePlane, isGround, groundFrom, groundOf, countOn, foundFrom, isFound}
+use Rattle.outline.specs.Growth.{nearGround, isEdge, isShallow, isDeep, isReach, bodyFrom, joinsFrom, isJoining, passOf, growthOf}
+use Rattle.plane.specs.Box.{rowHas, columnHas, lesserOf, boxOf, wholeOf}
+use Rattle.outline.specs.Cut.{alphaMask, isSought, isKeyed, grownGround, cutMask, cropOf, Cut, cutOf}
 
 -- ---- tests
 
@@ -81,20 +83,22 @@ settings p = record { «alpha_threshold» = pos 128; «key_bg» = true; «key_bg
 opaque255 : ℕ → ℕ → List ℕ
 opaque255 h w = replicate (h * w) 255
 
+-- the cut of such a picture
+cutWith : List Float → ℕ → ℕ → ℕ → Cut
+cutWith picture h w p = cutOf (greys picture) (opaque255 h w) h w (referenceOf (greys picture) h w) (settings p)
+
 -- keyed as told, and cropped to this box
 cutTo : List Float → ℕ → ℕ → ℕ → Bool → List ℕ → Bool
 cutTo picture h w p keyed box =
-    let mask = cutMask (greys picture) (opaque255 h w) h w (settings p) in
-    let crop = cropOf mask h w (settings p) in
-    (cond keyed (isKeyed (greys picture) (opaque255 h w) h w (settings p)) (not (isKeyed (greys picture) (opaque255 h w) h w (settings p))))
-    && same (crop .y0 ∷ crop .y1 ∷ crop .x0 ∷ crop .x1 ∷ []) box
+    let cut = cutWith picture h w p in
+    cond keyed (cut .keyed) (not (cut .keyed)) && same (cut .box .y0 ∷ cut .box .y1 ∷ cut .box .x0 ∷ cut .box .x1 ∷ []) box
 
 -- the mask is this
 cutMaskIs : List Float → ℕ → ℕ → ℕ → List ℕ → Bool
-cutMaskIs picture h w p mask = same (cutMask (greys picture) (opaque255 h w) h w (settings p)) mask
+cutMaskIs picture h w p mask = same (cutWith picture h w p .mask) mask
 
 found : List Float → ℕ → ℕ → Bool
-found picture h w = isFound (greys picture) h w zero64
+found picture h w = isFound (greys picture) h w (referenceOf (greys picture) h w) zero64
 
 -- the row of 30 pixels, with this grey in column 27
 row30 : Float → List Float
@@ -137,5 +141,5 @@ cases =
     ∷ []
 
 pub cases-hold : T (all cases)
-unfolding cases all same sameZ gets labelled greys opaque255 cutTo cutMaskIs found row30 on bit onAt apart within table rowsUpto planeOf someBelow countBelow lower valueOf walk upto grid plus rowCost nearest rowOf columnOf rowsPlane columnsPlane away distanceTo larger reach inSquare squaresPlane isOn beside lesser renamed merge joinTwo joinWith joinUpto firstPixel isFirst parts labelOf labelAt labelsPlane absOf Rattle.colour.specs.Number.larger plusZero halfOf differenceOf closeTo joinsOf passesOf onOf insert sorted placed lowerMiddle upperMiddle medianOf rowPixels innerColumn borderList listed onBorder channelAt colourAt referenceChannel referenceOf isClose closePlane isGround groundFrom groundOf countOn someOff foundFrom isFound nearGround isEdge isShallow isDeep maskOf indexOf isReach bodyFrom joinsFrom isJoining passOf growthOf alphaMask isSought isKeyed grownGround cutMask firstBelow lastBelow rowHas columnHas lesserOf boxOf cropOf lt le eq add sub mul div neg ofInt ofBits
+unfolding cases all same sameZ gets labelled greys opaque255 cutWith cutTo cutMaskIs found row30 on bit onAt apart within table rowsUpto planeOf someBelow countBelow lower valueOf walk upto grid plus rowCost nearest rowOf columnOf rowsPlane columnsPlane away distanceTo larger reach inSquare squaresPlane isOn beside lesser renamed merge joinTwo joinWith joinUpto firstPixel isFirst parts labelOf labelAt labelsPlane absOf Rattle.colour.specs.Number.larger plusZero halfOf differenceOf closeTo joinsOf passesOf onOf insert sorted placed lowerMiddle upperMiddle medianOf rowPixels innerColumn borderList listed onBorder channelAt colourAt referenceChannel referenceOf isClose closePlane isGround groundFrom groundOf countOn someOff foundFrom isFound nearGround isEdge isShallow isDeep maskOf indexOf isReach bodyFrom joinsFrom isJoining passOf growthOf alphaMask isSought isKeyed grownGround cutMask firstBelow lastBelow rowHas columnHas lesserOf boxOf wholeOf cropOf cutOf lt le eq add sub mul div neg ofInt ofBits
 cases-hold = tt

@@ -12,15 +12,17 @@ use borrow.Author.Tests.{eqb-true, eq-eqb}
 use Rattle.plane.specs.Search.{someBelow}
 use Rattle.plane.proofs.Search.{some-found, some-is, and-is}
 use Rattle.plane.proofs.Refusal.{and-true}
-use Rattle.labels.specs.Labels.{isOn, beside, Joined, same, onward, firstPixel}
-use Rattle.labels.proofs.Joined.{on-inside, start-on, end-on, spreads}
+use Rattle.plane.specs.Mask.{isOn, maskOf}
+use Rattle.labels.specs.Labels.{beside, Joined, same, onward, firstPixel}
+use Rattle.labels.proofs.Joined.{start-on, end-on, spreads}
 use Rattle.labels.proofs.Firsts.{first-same, same-first}
 use Rattle.squares.proofs.Laws.{same-test}
 use Rattle.colour.specs.declared.Rgb.{Rgb}
-use Rattle.outline.specs.Border.{borderList, onBorder, referenceOf}
+use Rattle.outline.specs.Border.{borderList, onBorder}
 use Rattle.outline.specs.Ground.{isClose, closePlane, isGround, groundFrom, groundOf, foundFrom}
-use Rattle.outline.specs.Growth.{nearGround, maskOf}
-use Rattle.outline.proofs.Masks.{mask-length, mask-on, mask-inside, mask-holds, mask-same, near-is, within-more, within-self, within-sum, nigh-beside}
+use Rattle.outline.specs.Growth.{nearGround}
+use Rattle.plane.proofs.Mask.{mask-length, mask-on, mask-inside, mask-holds, mask-same, on-inside}
+use Rattle.outline.proofs.Masks.{near-is, within-more, within-self, within-sum, nigh-beside}
 use Rattle.outline.proofs.Borders.{border-inside, count-alike}
 
 -- ---- both planes are masks
@@ -114,37 +116,37 @@ module _ (close : List ℕ) (h w : ℕ) where
 
 -- ---- the ground of a picture
 
-module _ (colours : List Float) (h w : ℕ) (tolerance : Float) where
+module _ (colours : List Float) (h w : ℕ) (reference : Rgb) (tolerance : Float) where
   -- whether pixel i of the picture is close
   abbrev pub closeAt : ℕ → Bool
-  closeAt = isClose colours (referenceOf colours h w) tolerance
+  closeAt = isClose colours reference tolerance
 
   abbrev closes : List ℕ
-  closes = closePlane colours h w (referenceOf colours h w) tolerance
+  closes = closePlane colours h w reference tolerance
 
   long : length closes ≡ h * w
-  long = close-length colours h w (referenceOf colours h w) tolerance
+  long = close-length colours h w reference tolerance
 
   lit : (i : ℕ) → i < h * w → isOn closes i ≡ closeAt i
-  lit = close-on colours h w (referenceOf colours h w) tolerance
+  lit = close-on colours h w reference tolerance
 
   -- the ground is close,
-  pub picture-close : (i : ℕ) → isOn (groundOf colours h w tolerance) i ≡ true → closeAt i ≡ true
+  pub picture-close : (i : ℕ) → isOn (groundOf colours h w reference tolerance) i ≡ true → closeAt i ≡ true
   unfolding groundOf
   picture-close i e = sym (lit i (ground-inside closes h w i e)) ∙ ground-close closes h w i e
 
   -- joined to a close border pixel by 4-steps over close pixels,
-  pub picture-joined : (i : ℕ) → isOn (groundOf colours h w tolerance) i ≡ true → (j : ℕ) × (j < h * w) × (onBorder h w j ≡ true) × (Joined (closePlane colours h w (referenceOf colours h w) tolerance) w j i)
+  pub picture-joined : (i : ℕ) → isOn (groundOf colours h w reference tolerance) i ≡ true → (j : ℕ) × (j < h * w) × (onBorder h w j ≡ true) × (Joined (closePlane colours h w reference tolerance) w j i)
   unfolding groundOf
   picture-joined i e = ground-joined closes h w long i e
 
   -- has every close border pixel,
-  pub picture-border : (i : ℕ) → i < h * w → onBorder h w i ≡ true → closeAt i ≡ true → isOn (groundOf colours h w tolerance) i ≡ true
+  pub picture-border : (i : ℕ) → i < h * w → onBorder h w i ≡ true → closeAt i ≡ true → isOn (groundOf colours h w reference tolerance) i ≡ true
   unfolding groundOf
   picture-border i l b e = ground-border closes h w long i l b (lit i l ∙ e)
 
   -- and is closed under 4-steps over close pixels
-  pub picture-step : (i j : ℕ) → isOn (groundOf colours h w tolerance) i ≡ true → beside w i j ≡ true → j < h * w → closeAt j ≡ true → isOn (groundOf colours h w tolerance) j ≡ true
+  pub picture-step : (i j : ℕ) → isOn (groundOf colours h w reference tolerance) i ≡ true → beside w i j ≡ true → j < h * w → closeAt j ≡ true → isOn (groundOf colours h w reference tolerance) j ≡ true
   unfolding groundOf
   picture-step i j e b l c = ground-step closes h w long i j e b (lit j l ∙ c)
 

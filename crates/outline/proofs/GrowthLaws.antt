@@ -11,13 +11,13 @@ use lib.ListN.{length}
 use lib.Ieee.{Float}
 use borrow.Author.Tests.{not-true}
 use Rattle.plane.specs.Search.{someBelow}
-use Rattle.plane.proofs.Search.{either, not-both, some-found, some-is, some-same, none-found, or-left, or-true, or-no}
+use Rattle.plane.proofs.Search.{either, not-both, some-found, some-is, some-same, none-found, or-left, or-true, or-no, not-is}
 use Rattle.plane.proofs.Refusal.{and-true}
-use Rattle.labels.specs.Labels.{isOn}
+use Rattle.plane.specs.Mask.{isOn, maskOf, someOff}
 use Rattle.colour.specs.declared.Rgb.{Rgb}
-use Rattle.outline.specs.Ground.{someOff}
-use Rattle.outline.specs.Growth.{nearGround, isEdge, isShallow, isDeep, maskOf, joinsFrom, isJoining, passOf, growthOf}
-use Rattle.outline.proofs.Masks.{not-is, mask-length, mask-on, mask-inside, mask-holds, mask-same, mask-again, Within, near-found, near-same, within-self, within-more, within-within}
+use Rattle.outline.specs.Growth.{nearGround, isEdge, isShallow, isDeep, joinsFrom, isJoining, passOf, growthOf}
+use Rattle.plane.proofs.Mask.{mask-length, mask-on, mask-inside, mask-holds, mask-same, mask-again}
+use Rattle.outline.proofs.Masks.{Within, near-found, near-same, within-self, within-more, within-within}
 
 module _ (colours : List Float) (reference : Rgb) (h w : ℕ) where
   -- ---- one pass

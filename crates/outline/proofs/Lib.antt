@@ -8,3 +8,4 @@ pub mod Crop
 pub mod Pictures
 pub mod TwoPictures
 pub mod Cases
+pub mod Instance

@@ -1,83 +1,19 @@
--- Laws of masks: what is on, by index and by row and column, and what is within k of it.
+-- What is within k of a mask's on-pixels.
 -- Assumes nothing.
-use mathlib.Core.Path.{_≡_, refl, sym, ap, _∙_}
-use mathlib.Core.Bool.{Bool, true, false, not, _&&_, _||_}
+use mathlib.Core.Path.{_≡_, sym, _∙_}
+use mathlib.Core.Bool.{true}
 use mathlib.Core.List.{List}
-use mathlib.Core.Logic.{_⊎_, inl, inr}
 use Prim.Native.Nat.{ℕ, _+_, _*_, _/_, _%_, _≤_, _<_}
 use native.Mathlib.Omega.{arith}
-use lib.ListN.{length, getD}
 use borrow.Author.Tests.{eqb-true}
-use Rattle.plane.specs.Plane.{on, bit, onAt, apart, table}
-use Rattle.plane.proofs.Plane.{table-length, table-at, table-is, pixel-in, row-of, column-of, index-of, table-same, on-bit}
-use Rattle.labels.specs.Labels.{isOn, beside}
-use Rattle.labels.proofs.Joined.{on-inside}
+use Rattle.plane.specs.Plane.{apart}
+use Rattle.plane.specs.Mask.{isOn}
+use Rattle.plane.proofs.Plane.{pixel-in, row-of, column-of}
+use Rattle.plane.proofs.Mask.{index-on, row-on}
+use Rattle.labels.specs.Labels.{beside}
 use Rattle.labels.proofs.Steps.{row-is, column-is}
 use Rattle.squares.proofs.Laws.{same-test, Site, square-found, square-is, apart-sum}
-use Rattle.outline.specs.Growth.{nearGround, maskOf}
-
--- ---- tests
-
-pub not-is : (t : Bool) → t ≡ false → not t ≡ true
-not-is t e = rw e
-
--- two conjunctions are equal where the first parts are, and the second parts are wherever the first hold
-pub and-same : (s t a b : Bool) → s ≡ t → (s ≡ true → a ≡ b) → s && a ≡ t && b
-and-same s t a b e h = rw (sym e) (go s h)
-  where
-    go : (r : Bool) → (r ≡ true → a ≡ b) → r && a ≡ r && b
-    go true g = g refl
-    go false g = refl
-
--- ---- tables and masks
-
-module _ (n : ℕ) (p : ℕ → Bool) where
-  pub mask-length : length (maskOf n p) ≡ n
-  unfolding maskOf
-  mask-length = table-length (λ (i : ℕ). bit (p i)) 0 n
-
-  -- a mask holds 0 and 1 only
-  pub mask-at : (i : ℕ) → i < n → getD (maskOf n p) i 0 ≡ bit (p i)
-  unfolding maskOf
-  mask-at i l = table-at (λ (k : ℕ). bit (p k)) n i 0 l
-
-  -- the pixels that are on are those of which p holds
-  pub mask-on : (i : ℕ) → i < n → isOn (maskOf n p) i ≡ p i
-  unfolding isOn
-  mask-on i l = ap on (mask-at i l) ∙ on-bit (p i)
-
-  -- and they lie in the plane
-  pub mask-inside : (i : ℕ) → isOn (maskOf n p) i ≡ true → i < n
-  mask-inside i e = omega (arith, on-inside (maskOf n p) i e, mask-length)
-
-  -- so a pixel that is on is one of which p holds
-  pub mask-holds : (i : ℕ) → isOn (maskOf n p) i ≡ true → p i ≡ true
-  mask-holds i e = sym (mask-on i (mask-inside i e)) ∙ e
-
--- masks of equal tests are equal
-pub mask-same : (n : ℕ) (p q : ℕ → Bool) → ((i : ℕ) → i < n → p i ≡ q i) → maskOf n p ≡ maskOf n q
-unfolding maskOf
-mask-same n p q h = table-same (λ (i : ℕ). bit (p i)) (λ (i : ℕ). bit (q i)) n 0 (λ i l. ap bit (h i l))
-
--- a mask made from a mask's pixels is that mask
-pub mask-again : (n : ℕ) (p : ℕ → Bool) → maskOf n (isOn (maskOf n p)) ≡ maskOf n p
-mask-again n p = mask-same n (isOn (maskOf n p)) p (mask-on n p)
-
--- ---- by index, and by row and column
-
-pub index-on : (mask : List ℕ) (w i : ℕ) → onAt mask w (i / w) (i % w) ≡ isOn mask i
-unfolding onAt isOn
-index-on mask w i = rw (index-of i w)
-
-pub row-on : (mask : List ℕ) (w y x : ℕ) → onAt mask w y x ≡ isOn mask (y * w + x)
-unfolding onAt isOn
-row-on mask w y x = refl
-
--- masks with the same pixels on, by index, have them on by row and column
-pub rows-alike : (a b : List ℕ) (h w : ℕ) → ((i : ℕ) → i < h * w → isOn a i ≡ isOn b i) → (y x : ℕ) → y < h → x < w → onAt a w y x ≡ onAt b w y x
-rows-alike a b h w e y x r c = row-on a w y x ∙ e (y * w + x) (pixel-in y x h w r c) ∙ sym (row-on b w y x)
-
--- ---- within k of an on-pixel
+use Rattle.outline.specs.Growth.{nearGround}
 
 -- an on-pixel within k of pixel i
 pub record Within (mask : List ℕ) (h w k i : ℕ) : Type 0 where

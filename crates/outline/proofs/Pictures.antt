@@ -1,4 +1,5 @@
--- Two pictures whose colours are the same, as numbers, on the border and about the first picture's ground: the same reference, the same ground, found alike, and the same growth.
+-- Two pictures whose colours are the same, as numbers, on the border and about the first picture's ground: the same reference, the same
+-- ground, found alike, and the same growth.
 -- Assumes nothing.
 use mathlib.Core.Path.{_≡_, refl, sym, ap, _∙_}
 use mathlib.Core.Bool.{Bool, true, _||_}
@@ -7,17 +8,18 @@ use Prim.Native.Nat.{ℕ, zero, suc, _+_, _*_, _≤_, _<_}
 use native.Mathlib.Omega.{arith}
 use lib.Ieee.{Float}
 use Rattle.plane.specs.Search.{someBelow}
-use Rattle.plane.proofs.Search.{some-same}
-use Rattle.labels.specs.Labels.{isOn}
+use Rattle.plane.proofs.Search.{some-same, and-same}
+use Rattle.plane.specs.Mask.{isOn, maskOf}
 use Rattle.colour.specs.declared.Rgb.{Rgb}
 use Rattle.colour.specs.Colour.{differenceOf}
 use Rattle.colour.specs.Join.{joinsOf}
 use Rattle.colour.proofs.Zero.{Alike}
 use Rattle.colour.proofs.Same.{SameColour, same-refl, close-same, joins-same}
 use Rattle.outline.specs.Border.{onBorder, colourAt, referenceOf}
-use Rattle.outline.specs.Ground.{isClose, closePlane, groundFrom, groundOf, foundFrom, isFound}
-use Rattle.outline.specs.Growth.{nearGround, isEdge, isShallow, isDeep, maskOf, bodyFrom, joinsFrom, isJoining, passOf, growthOf}
-use Rattle.outline.proofs.Masks.{and-same, mask-same, near-found, near-is, Within, within-more, within-within}
+use Rattle.outline.specs.Ground.{isClose, closePlane, groundFrom, groundOf, isFound}
+use Rattle.outline.specs.Growth.{nearGround, isEdge, isShallow, isDeep, bodyFrom, joinsFrom, isJoining, passOf, growthOf}
+use Rattle.plane.proofs.Mask.{mask-same}
+use Rattle.outline.proofs.Masks.{near-found, near-is, Within, within-more, within-within}
 use Rattle.outline.proofs.Borders.{reference-same}
 use Rattle.outline.proofs.GroundLaws.{close-length, close-on, ground-same, found-same}
 use Rattle.outline.proofs.GrowthLaws.{pass-near}
@@ -28,24 +30,25 @@ module _ (one two : List Float) (h w : ℕ) (tall : 0 < h) (wide : 0 < w) where
   abbrev pub Same : ℕ → Type 0
   Same i = SameColour (colourAt one i) (colourAt two i)
 
-  -- 1. equal references, and equal close tests where the colours are the same
-  module _ (t u : Float) (tolerances : Alike t u) (border : (i : ℕ) → onBorder h w i ≡ true → Same i)
-      (about : (i : ℕ) → i < h * w → nearGround (groundOf one h w t) h w 1 i ≡ true → Same i) where
-    pub references : referenceOf one h w ≡ referenceOf two h w
-    references = reference-same one two h w border
+  -- 1. equal borders give equal references
+  pub references : ((i : ℕ) → onBorder h w i ≡ true → Same i) → referenceOf one h w ≡ referenceOf two h w
+  references border = reference-same one two h w border
 
+  -- 2. for one reference: equal close tests where the colours are the same
+  module _ (r : Rgb) (t u : Float) (tolerances : Alike t u) (border : (i : ℕ) → onBorder h w i ≡ true → Same i)
+      (about : (i : ℕ) → i < h * w → nearGround (groundOf one h w r t) h w 1 i ≡ true → Same i) where
     abbrev close : List ℕ
-    close = closePlane one h w (referenceOf one h w) t
+    close = closePlane one h w r t
 
     abbrev close′ : List ℕ
-    close′ = closePlane two h w (referenceOf one h w) u
+    close′ = closePlane two h w r u
 
     close-alike : (i : ℕ) → i < h * w → Same i → isOn close i ≡ isOn close′ i
     unfolding isClose
     close-alike i l e =
-        close-on one h w (referenceOf one h w) t i l
-        ∙ close-same (colourAt one i) (colourAt two i) (referenceOf one h w) (referenceOf one h w) e (same-refl (referenceOf one h w)) t u tolerances
-        ∙ sym (close-on two h w (referenceOf one h w) u i l)
+        close-on one h w r t i l
+        ∙ close-same (colourAt one i) (colourAt two i) r r e (same-refl r) t u tolerances
+        ∙ sym (close-on two h w r u i l)
 
     on-border : (i : ℕ) → i < h * w → onBorder h w i ≡ true → isOn close i ≡ isOn close′ i
     on-border i l e = close-alike i l (border i e)
@@ -54,21 +57,14 @@ module _ (one two : List Float) (h w : ℕ) (tall : 0 < h) (wide : 0 < w) where
     unfolding groundOf
     about-ground i l e = close-alike i l (about i l e)
 
-    other-reference : close′ ≡ closePlane two h w (referenceOf two h w) u
-    other-reference = ap (λ (r : Rgb). closePlane two h w r u) references
-
-    -- 2. equal grounds, found alike
-    pub grounds : groundOf one h w t ≡ groundOf two h w u
+    -- equal grounds, found alike
+    pub grounds : groundOf one h w r t ≡ groundOf two h w r u
     unfolding groundOf
-    grounds =
-        ground-same close close′ h w tall wide (close-length one h w (referenceOf one h w) t) (close-length two h w (referenceOf one h w) u) on-border about-ground
-        ∙ ap (λ (c : List ℕ). groundFrom c h w) other-reference
+    grounds = ground-same close close′ h w tall wide (close-length one h w r t) (close-length two h w r u) on-border about-ground
 
-    pub found-alike : isFound one h w t ≡ isFound two h w u
+    pub found-alike : isFound one h w r t ≡ isFound two h w r u
     unfolding isFound
-    found-alike =
-        found-same close close′ h w tall wide (close-length one h w (referenceOf one h w) t) (close-length two h w (referenceOf one h w) u) on-border about-ground
-        ∙ ap (λ (c : List ℕ). foundFrom c h w) other-reference
+    found-alike = found-same close close′ h w tall wide (close-length one h w r t) (close-length two h w r u) on-border about-ground
 
   -- 3. the same pixels join where the colours are the same within 5 of the background
   module _ (r : Rgb) (back : List ℕ) (near : (i : ℕ) → i < h * w → nearGround back h w 5 i ≡ true → Same i) where

@@ -18,7 +18,7 @@ rowPixels w y = table (λ (x : ℕ). y * w + x) 0 w
 unfoldable pub innerColumn : ℕ → ℕ → ℕ → List ℕ
 innerColumn h w x = table (λ (y : ℕ). y * w + x) 1 (h - 2)
 
--- document 01's border list: row 0, row h - 1, then column 0 and then column w - 1 of rows 1 to h - 2, repeats included
+-- the border list (R15): row 0, row h - 1, column 0 and column w - 1 of the rows between, repeats included
 unfoldable pub borderList : ℕ → ℕ → List ℕ
 borderList h w = rowPixels w 0 ++ rowPixels w (h - 1) ++ innerColumn h w 0 ++ innerColumn h w (w - 1)
 
@@ -27,7 +27,7 @@ unfoldable pub listed : ℕ → List ℕ → Bool
 listed i [] = false
 listed i (j ∷ l) = eqb i j || listed i l
 
--- document 01's border: the pixels of the list
+-- the border (R16): the pixels of the list
 unfoldable pub onBorder : ℕ → ℕ → ℕ → Bool
 onBorder h w i = listed i (borderList h w)
 
@@ -39,9 +39,10 @@ channelAt colours c i = getD colours (3 * i + c) nan
 unfoldable pub colourAt : List Float → ℕ → Rgb
 colourAt colours i = record { r = channelAt colours 0 i; g = channelAt colours 1 i; b = channelAt colours 2 i }
 
--- document 01's reference: of each channel the median of the border list's values
+-- the reference (R17): of each channel the median of the border list's values
 unfoldable pub referenceChannel : List Float → ℕ → ℕ → ℕ → Float
 referenceChannel colours h w c = medianOf (map (channelAt colours c) (borderList h w))
 
 unfoldable pub referenceOf : List Float → ℕ → ℕ → Rgb
-referenceOf colours h w = record { r = referenceChannel colours h w 0; g = referenceChannel colours h w 1; b = referenceChannel colours h w 2 }
+referenceOf colours h w =
+    record { r = referenceChannel colours h w 0; g = referenceChannel colours h w 1; b = referenceChannel colours h w 2 }

@@ -6,9 +6,9 @@ use mathlib.Core.List.{List}
 use mathlib.Core.Option.{Option, none, some}
 use lib.Dec.{leb}
 use lib.Ieee.{Float}
-use Rattle.plane.specs.Plane.{bit, table}
+use Rattle.plane.specs.Plane.{indexOf}
 use Rattle.plane.specs.Search.{someBelow}
-use Rattle.labels.specs.Labels.{isOn}
+use Rattle.plane.specs.Mask.{isOn, maskOf}
 use Rattle.squares.specs.Squares.{inSquare}
 use Rattle.nearest.specs.Nearest.{nearest, distanceTo}
 use Rattle.colour.specs.declared.Rgb.{Rgb}
@@ -20,11 +20,11 @@ use Rattle.outline.specs.Border.{colourAt}
 unfoldable pub nearGround : List ℕ → ℕ → ℕ → ℕ → ℕ → Bool
 nearGround back h w k i = inSquare back h w k (i / w) (i % w)
 
--- document 01's edge: not background, within 1 of it
+-- edge (R24): not background, within 1 of it
 unfoldable pub isEdge : List ℕ → ℕ → ℕ → ℕ → Bool
 isEdge back h w i = not (isOn back i) && nearGround back h w 1 i
 
--- document 01's shallow: neither background nor edge
+-- shallow (R24): neither background nor edge
 unfoldable pub isShallow : List ℕ → ℕ → ℕ → ℕ → Bool
 isShallow back h w i = not (isOn back i) && not (nearGround back h w 1 i)
 
@@ -35,33 +35,27 @@ deepReach = 4
 abbrev pub bodyReach : ℕ
 bodyReach = 36
 
--- document 01's deep: not within 4 of the background
+-- deep (R25): not within 4 of the background
 unfoldable pub isDeep : List ℕ → ℕ → ℕ → ℕ → Bool
 isDeep back h w i = not (nearGround back h w deepReach i)
-
--- the pixels of which p holds, as a mask
-unfoldable pub maskOf : ℕ → (ℕ → Bool) → List ℕ
-maskOf n p = table (λ (i : ℕ). bit (p i)) 0 n
-
--- the index of an answer of nearest
-unfoldable pub indexOf : ℕ → Option (ℕ × ℕ) → ℕ
-indexOf w none = 0
-indexOf w (some q) = q .1 * w + q .0
 
 -- whether there is an answer, near enough to (y, x)
 unfoldable pub isReach : ℕ → ℕ → Option (ℕ × ℕ) → Bool
 isReach y x none = false
 isReach y x (some q) = leb (distanceTo y x (some q)) bodyReach
 
--- the pixel whose colour is document 01's body colour of pixel i: its nearest deep pixel if that is near enough, else its nearest shallow pixel
+-- the body pixel of pixel i (R26): its nearest deep pixel if that is near enough, else its nearest shallow pixel
 unfoldable pub bodyFrom : List ℕ → List ℕ → ℕ → ℕ → ℕ → ℕ
 bodyFrom deep shallow h w i =
-    cond (isReach (i / w) (i % w) (nearest deep h w (i / w) (i % w))) (indexOf w (nearest deep h w (i / w) (i % w))) (indexOf w (nearest shallow h w (i / w) (i % w)))
+    cond (isReach (i / w) (i % w) (nearest deep h w (i / w) (i % w)))
+    (indexOf w (nearest deep h w (i / w) (i % w)))
+    (indexOf w (nearest shallow h w (i / w) (i % w)))
 
 -- whether pixel i joins the background: it is edge, and less than half as far from the reference as its body colour is
 unfoldable pub joinsFrom : List Float → Rgb → List ℕ → List ℕ → List ℕ → ℕ → ℕ → ℕ → Bool
 joinsFrom colours reference back deep shallow h w i =
-    isEdge back h w i && joinsOf (differenceOf (colourAt colours (bodyFrom deep shallow h w i)) reference) (differenceOf (colourAt colours i) reference)
+    isEdge back h w i
+    && joinsOf (differenceOf (colourAt colours (bodyFrom deep shallow h w i)) reference) (differenceOf (colourAt colours i) reference)
 
 -- the same where deep and shallow are those of the background; without a shallow pixel nothing joins
 unfoldable pub isJoining : List Float → Rgb → List ℕ → ℕ → ℕ → ℕ → Bool
@@ -69,12 +63,14 @@ isJoining colours reference back h w i =
     someBelow (h * w) (isShallow back h w)
     && joinsFrom colours reference back (maskOf (h * w) (isDeep back h w)) (maskOf (h * w) (isShallow back h w)) h w i
 
--- the background after one pass: all joins take effect together
+-- the background after one pass (R23): all joins take effect together
 unfoldable pub passOf : List Float → Rgb → List ℕ → ℕ → ℕ → List ℕ
 passOf colours reference back h w = maskOf (h * w) (λ (i : ℕ). isOn back i || isJoining colours reference back h w i)
 
--- the background after at most p passes: a pass without a join ends growth
+-- the background after at most p passes (R28, R29): a pass without a join ends growth
 unfoldable pub growthOf : List Float → Rgb → ℕ → ℕ → ℕ → List ℕ → List ℕ
 growthOf colours reference h w zero back = maskOf (h * w) (isOn back)
 growthOf colours reference h w (suc p) back =
-    cond (someBelow (h * w) (isJoining colours reference back h w)) (growthOf colours reference h w p (passOf colours reference back h w)) (maskOf (h * w) (isOn back))
+    cond (someBelow (h * w) (isJoining colours reference back h w))
+    (growthOf colours reference h w p (passOf colours reference back h w))
+    (maskOf (h * w) (isOn back))

@@ -3,5 +3,6 @@ pub mod Ground
 pub mod Growth
 pub mod Cut
 pub mod Refusal
-pub mod Outcome
+pub mod Answer
+pub mod Calls
 pub mod Premises

@@ -1,46 +1,55 @@
--- What ground, growth and cut decline, by document 01's numbers, in its order. Each takes the lengths of what is lent.
+-- What ground, growth and cut decline: their tests in order (R44 to R49, R55 to R57). Lengths are given as numbers.
 -- Assumes nothing.
 use Prim.Native.Nat.{ℕ, _*_}
-use mathlib.Core.Bool.{Bool, cond, _&&_}
-use mathlib.Core.List.{List}
-use lib.Dec.{eqb, leb}
+use mathlib.Core.Bool.{_&&_}
+use mathlib.Core.List.{List, [], _∷_, _++_}
+use lib.Dec.{leb}
 use lib.ListN.{length}
 use lib.Ieee.{Float}
 use lib.Ieee.Scale.{finite}
-use Rattle.plane.specs.Refusal.{sidesOk, roomFor, numberFor}
+use Rattle.plane.specs.Refusal.{Test, refusalOf, sidesOk, isPlane, isColours, roomFor, isRoom}
 use Rattle.plane.specs.Search.{someBelow}
-use Rattle.labels.specs.Labels.{isOn}
+use Rattle.plane.specs.Mask.{isOn}
 use Rattle.colour.specs.declared.Rgb.{Rgb}
 use Rattle.colour.specs.declared.Settings.{Settings}
 use Rattle.colour.specs.Colour.{coloursOk, rgbOk}
 use Rattle.outline.specs.Cut.{alphaMask}
 
--- the first of two numbers that is not 0
-unfoldable pub firstOf : ℕ → ℕ → ℕ
-firstOf a b = cond (eqb a 0) b a
+-- the four work buffers of growth and cut, by how many numbers each holds at least
+unfoldable pub workTests : ℕ → ℕ → ℕ → ℕ → ℕ → List Test
+workTests least nearest shallow deep marks =
+    (3, leb least nearest) ∷ (3, leb least shallow) ∷ (3, leb least deep) ∷ (3, leb least marks) ∷ []
 
--- 4 where a number that should be from 0 to 1 is not; 5 where the tolerance is infinite or no number
-unfoldable pub colourNumber : Bool → ℕ
-colourNumber ok = cond ok 0 4
+-- ground (R55): the colours, the output plane, the work buffer; then that the colours are from 0 to 1 and the tolerance is a finite number
+unfoldable pub groundLengths : ℕ → ℕ → ℕ → ℕ → ℕ → List Test
+groundLengths h w colours out work =
+    (1, sidesOk h w) ∷ (2, isColours h w colours) ∷ (3, isPlane h w out) ∷ (3, isRoom h w work) ∷ []
 
-unfoldable pub toleranceNumber : Float → ℕ
-toleranceNumber t = cond (finite t) 0 5
+unfoldable pub groundRefusal : List Float → ℕ → ℕ → Float → ℕ → ℕ → ℕ
+groundRefusal colours h w tolerance out work =
+    refusalOf (groundLengths h w (length colours) out work ++ ((4, coloursOk colours) ∷ (5, finite tolerance) ∷ []))
 
--- ground: colours, one output plane, one work buffer
-unfoldable pub groundNumber : List Float → ℕ → ℕ → Float → ℕ → ℕ → ℕ
-groundNumber colours h w tolerance out stack =
-    firstOf (numberFor (sidesOk h w) (eqb (length colours) (3 * (h * w))) (eqb out (h * w) && leb (roomFor h w) stack)) (firstOf (colourNumber (coloursOk colours)) (toleranceNumber tolerance))
+-- growth (R56): the colours and the background, the output plane, four work buffers; then that the colours and the reference are from 0
+-- to 1
+unfoldable pub growthLengths : ℕ → ℕ → ℕ → ℕ → ℕ → ℕ → ℕ → ℕ → ℕ → List Test
+growthLengths h w colours back out nearest shallow deep marks =
+    (1, sidesOk h w) ∷ (2, isColours h w colours) ∷ (2, isPlane h w back) ∷ (3, isPlane h w out)
+    ∷ workTests (roomFor h w) nearest shallow deep marks
 
--- growth: colours, a background, one output plane, four work buffers
-unfoldable pub growthNumber : List Float → ℕ → ℕ → ℕ → Rgb → ℕ → ℕ → ℕ → ℕ → ℕ → ℕ
-growthNumber colours back h w reference out near first second third =
-    firstOf
-    (numberFor (sidesOk h w) (eqb (length colours) (3 * (h * w)) && eqb back (h * w)) (eqb out (h * w) && leb (roomFor h w) near && leb (roomFor h w) first && leb (roomFor h w) second && leb (roomFor h w) third))
-    (colourNumber (coloursOk colours && rgbOk reference))
+unfoldable pub growthRefusal : List Float → ℕ → ℕ → ℕ → Rgb → ℕ → ℕ → ℕ → ℕ → ℕ → ℕ
+growthRefusal colours back h w reference out nearest shallow deep marks =
+    refusalOf
+    (growthLengths h w (length colours) back out nearest shallow deep marks ++ ((4, coloursOk colours) ∷ (4, rgbOk reference) ∷ []))
 
--- cut: colours and alpha, two output planes, four work buffers; 6 where no alpha reaches the threshold
-unfoldable pub cutNumber : List Float → List ℕ → ℕ → ℕ → Settings → ℕ → ℕ → ℕ → ℕ → ℕ → ℕ → ℕ
-cutNumber colours alpha h w s mask weights near first second third =
-    firstOf
-    (numberFor (sidesOk h w) (eqb (length colours) (3 * (h * w)) && eqb (length alpha) (h * w)) (eqb mask (h * w) && eqb weights (h * w) && leb (roomFor h w) near && leb (roomFor h w) first && leb (roomFor h w) second && leb (roomFor h w) third))
-    (firstOf (colourNumber (coloursOk colours)) (firstOf (toleranceNumber (s .«key_bg_tolerance»)) (cond (someBelow (h * w) (isOn (alphaMask alpha (h * w) s))) 0 6)))
+-- cut (R57): the colours and the alpha, two output planes, four work buffers; then the colours, the tolerance, and that some alpha
+-- reaches the threshold
+unfoldable pub cutLengths : ℕ → ℕ → ℕ → ℕ → ℕ → ℕ → ℕ → ℕ → ℕ → ℕ → List Test
+cutLengths h w colours alpha mask weights nearest shallow deep marks =
+    (1, sidesOk h w) ∷ (2, isColours h w colours) ∷ (2, isPlane h w alpha) ∷ (3, isPlane h w mask) ∷ (3, isPlane h w weights)
+    ∷ workTests (roomFor h w) nearest shallow deep marks
+
+unfoldable pub cutRefusal : List Float → List ℕ → ℕ → ℕ → Settings → ℕ → ℕ → ℕ → ℕ → ℕ → ℕ → ℕ
+cutRefusal colours alpha h w s mask weights nearest shallow deep marks =
+    refusalOf
+    (cutLengths h w (length colours) (length alpha) mask weights nearest shallow deep marks
+    ++ ((4, coloursOk colours) ∷ (5, finite (s .«key_bg_tolerance»)) ∷ (6, someBelow (h * w) (isOn (alphaMask alpha (h * w) s))) ∷ []))

@@ -14,7 +14,7 @@ use mir.Syntax.{w64}
 use mir.Val.{Fits}
 use mir.Facts.{fits-le, fits-lit}
 use borrow.Author.Count.{below-more}
-use Rattle.plane.specs.Plane.{mostSide, Sides, apart, on, bit, table, rowsUpto, planeOf}
+use Rattle.plane.specs.Plane.{longestSide, apart, on, bit, table, rowsUpto, planeOf}
 use Rattle.plane.proofs.Search.{which}
 
 -- ---- indices
@@ -40,10 +40,10 @@ pub index-of : (i w : ℕ) → i / w * w + i % w ≡ i
 index-of i w = div-add-mod' i w
 
 -- the largest plane's area fits a usize
-pub area-most : {h w : ℕ} → h ≤ mostSide → w ≤ mostSide → h * w ≤ 16777216
+pub area-most : {h w : ℕ} → h ≤ longestSide → w ≤ longestSide → h * w ≤ 4294967296
 area-most a b = mul-le-mul a b
 
-pub area-fits : {h w : ℕ} → h ≤ mostSide → w ≤ mostSide → Fits w64 (h * w)
+pub area-fits : {h w : ℕ} → h ≤ longestSide → w ≤ longestSide → Fits w64 (h * w)
 area-fits a b = fits-le (mul-le-mul a b) (fits-lit tt)
 
 -- rows and columns are as far apart from either side

@@ -1,14 +1,15 @@
 -- Laws of searching and counting below n.
 -- Assumes nothing.
 use mathlib.Core.Path.{_≡_, refl, sym, ap, _∙_}
-use mathlib.Core.Bool.{Bool, true, false, cond, _&&_, _||_}
+use mathlib.Core.Bool.{Bool, true, false, cond, not, _&&_, _||_}
 use mathlib.Core.Logic.{_⊎_, inl, inr, ⊎-elim}
 use Prim.Native.Nat.{ℕ, zero, suc, _+_, _≤_, _<_}
 use native.Mathlib.Nat.{not-suc-le-zero}
+use native.Mathlib.Numerals.{add-one}
 use native.Mathlib.Omega.{arith}
 use lib.Dec.{ltb}
 use borrow.Author.Tests.{ltb-true, ltb-false}
-use Rattle.plane.specs.Search.{someBelow, countBelow}
+use Rattle.plane.specs.Search.{someBelow, countBelow, firstBelow, lastBelow}
 
 which-of : (a b : ℕ) (t : Bool) → ltb a b ≡ t → (a < b) ⊎ (b ≤ a)
 which-of a b true e = inl (ltb-true a b e)
@@ -52,6 +53,17 @@ or-no false = refl
 pub and-no : (t : Bool) → t && false ≡ false
 and-no true = refl
 and-no false = refl
+
+pub not-is : (t : Bool) → t ≡ false → not t ≡ true
+not-is t e = rw e
+
+-- two conjunctions are equal where the first parts are, and the second parts are wherever the first hold
+pub and-same : (s t a b : Bool) → s ≡ t → (s ≡ true → a ≡ b) → s && a ≡ t && b
+and-same s t a b e h = rw (sym e) (go s h)
+  where
+    go : (r : Bool) → (r ≡ true → a ≡ b) → r && a ≡ r && b
+    go true g = g refl
+    go false g = refl
 
 pub and-is : (s t : Bool) → s ≡ true → t ≡ true → s && t ≡ true
 and-is s t p q = rw (p, q)
@@ -110,3 +122,8 @@ pub count-same : (p q : ℕ → Bool) (n : ℕ) → ((i : ℕ) → i < n → p i
 unfolding countBelow
 count-same p q zero h = refl
 count-same p q (suc n) h = rw (count-same p q n (λ i l. h i (omega arith)), h n (omega arith))
+
+-- one number more is searched
+pub some-more : (p : ℕ → Bool) (i : ℕ) (found t : Bool) → found ≡ someBelow i p → t ≡ p i → (found || t) ≡ someBelow (i + 1) p
+unfolding someBelow
+some-more p i found t e d = rw (add-one i, e, d)

@@ -1,3 +1,5 @@
 pub mod Search
 pub mod Plane
+pub mod Mask
+pub mod Box
 pub mod Refusal

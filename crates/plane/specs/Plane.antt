@@ -3,25 +3,30 @@
 use Prim.Native.Nat.{ℕ, zero, suc, _+_, _*_, _-_, _≤_}
 use mathlib.Core.Bool.{Bool, cond, not, _&&_}
 use mathlib.Core.List.{List, [], _∷_, _++_}
+use mathlib.Core.Option.{Option, none, some}
 use lib.Dec.{eqb, leb}
 use lib.ListN.{length, getD}
 
--- the largest side of a plane
+-- the largest side that the public calls accept (R1)
 abbrev pub mostSide : ℕ
 mostSide = 4096
 
--- the sides that are accepted
+-- the largest side for which the inner functions are proved
+abbrev pub longestSide : ℕ
+longestSide = 65536
+
+-- sides of a plane that is not empty and not larger than that
 pub record Sides (h w : ℕ) : Type 0 where
   pub some-rows : 1 ≤ h
   pub some-columns : 1 ≤ w
-  pub tall : h ≤ mostSide
-  pub wide : w ≤ mostSide
+  pub tall : h ≤ longestSide
+  pub wide : w ≤ longestSide
 
--- a byte of a mask: 0 is off, any other on
+-- a byte of a mask (R3): 0 is off, any other on
 unfoldable pub on : ℕ → Bool
 on b = not (eqb b 0)
 
--- the byte that is written for a pixel that is on, or off
+-- the byte that is written for a pixel that is on, or off (R3)
 unfoldable pub bit : Bool → ℕ
 bit t = cond t 1 0
 
@@ -33,7 +38,7 @@ onAt mask w y x = on (getD mask (y * w + x) 0)
 unfoldable pub apart : ℕ → ℕ → ℕ
 apart a b = (a - b) + (b - a)
 
--- document 01's "within k": (j, i) is at most k rows and at most k columns away from (y, x)
+-- within k (R4): (j, i) is at most k rows and at most k columns away from (y, x)
 unfoldable pub within : ℕ → ℕ → ℕ → ℕ → ℕ → Bool
 within k y x j i = leb (apart y j) k && leb (apart x i) k
 
@@ -50,3 +55,8 @@ rowsUpto (suc n) g = rowsUpto n g ++ g n
 -- the plane whose element at row y and column x is f y x
 unfoldable pub planeOf : {A : Type 0} → ℕ → ℕ → (ℕ → ℕ → A) → List A
 planeOf h w f = rowsUpto h (λ (y : ℕ). table (f y) 0 w)
+
+-- the index of a pixel that is given by its column and its row; 0 where there is none (R1)
+unfoldable pub indexOf : ℕ → Option (ℕ × ℕ) → ℕ
+indexOf w none = 0
+indexOf w (some q) = q .1 * w + q .0

@@ -1,3 +1,4 @@
+// Replays mask.rs's answers of labels, squares and nearest: stdin has the cases, stdout what mask.rs answered.
 fn main() {
     replay::run();
 }

@@ -12,7 +12,7 @@ use borrow.Author.Tests.{le-leb, lt-leb, lt-ltb, le-ltb, eqb-true, eqb-false, eq
 use Rattle.plane.specs.Search.{someBelow, countBelow}
 use Rattle.plane.specs.Plane.{bit, apart}
 use Rattle.plane.proofs.Search.{which, either, count-most, count-same, and-no, or-no}
-use Rattle.squares.specs.Window.{windowCount, inWindow, entering, leaving}
+use Rattle.squares.specs.steps.Window.{windowCount, inWindow, entering, leaving}
 
 -- tests joined with a known one
 pub and-yes : (t : Bool) → t && true ≡ t

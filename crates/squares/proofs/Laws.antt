@@ -15,7 +15,7 @@ use Rattle.plane.proofs.Search.{which, either, not-both, some-found, some-is, a
 use Rattle.plane.proofs.Plane.{plane-at, plane-same, plane-length, on-bit}
 use Rattle.plane.proofs.Refusal.{and-true}
 use Rattle.squares.specs.Squares.{larger, reach, inSquare, squaresPlane}
-use Rattle.squares.specs.Window.{radiusOf}
+use Rattle.squares.specs.steps.Window.{radiusOf}
 
 -- ---- the larger side and the k that is used
 

@@ -1,4 +1,5 @@
 pub mod Cases
 pub mod Count
 pub mod Laws
+pub mod Line
 pub mod Passes

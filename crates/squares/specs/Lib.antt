@@ -1,2 +1,2 @@
 pub mod Squares
-pub mod Window
+pub mod steps

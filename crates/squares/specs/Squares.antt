@@ -11,11 +11,11 @@ use Rattle.plane.specs.Plane.{bit, onAt, within, planeOf}
 unfoldable pub larger : ℕ → ℕ → ℕ
 larger h w = cond (leb h w) w h
 
--- document 01's k: iterations 0 means the larger side
+-- k (R9): 0 iterations mean the larger side
 unfoldable pub reach : ℕ → ℕ → ℕ → ℕ
 reach h w iterations = cond (eqb iterations 0) (larger h w) iterations
 
--- whether some on-pixel (j, i) of the mask is within k of (y, x)
+-- whether some on-pixel (j, i) of the mask is within k of (y, x) (R8)
 unfoldable pub inSquare : List ℕ → ℕ → ℕ → ℕ → ℕ → ℕ → Bool
 inSquare mask h w k y x = someBelow h (λ (j : ℕ). someBelow w (λ (i : ℕ). onAt mask w j i && within k y x j i))
 

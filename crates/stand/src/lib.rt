@@ -1,39 +1,30 @@
-// The C interface of the copy stand: the cut and its parts, nearest, labels and what stands beside them, on numbers and slices. A slice crosses as
-// a pointer and then its length. Each call answers document 01's number, 0 where it is accepted.
+// The C interface of the copy stand: the cut and its parts, nearest, labels and what stands beside them, on numbers and slices. A slice
+// crosses as a pointer and then its length. Each call answers a number, 0 where it is accepted, and is what the call that it names is.
 ghost use mathlib.Core.Path.{_≡_};
-ghost use mathlib.Core.Bool.{Bool, false, cond};
-ghost use Prim.Native.Nat.{ℕ, _*_};
-ghost use lib.ListN.{length};
-ghost use Rattle.plane.specs.Refusal.{after};
-ghost use Rattle.nearest.specs.Nearest.{rowsPlane, columnsPlane, distancePlane};
-ghost use Rattle.labels.specs.Labels.{parts, labelsPlane};
-ghost use Rattle.squares.specs.Squares.{squaresPlane};
-ghost use Rattle.geometry.specs.Number.{planeNumber, nearestNumber, distanceNumber, fillNumber};
-ghost use Rattle.geometry.specs.Fill.{filledColours};
-ghost use Rattle.colour.specs.Number.{zero64};
-ghost use Rattle.colour.specs.Settings.{atLeastZero};
-ghost use Rattle.outline.specs.Border.{referenceOf};
-ghost use Rattle.outline.specs.Ground.{isFound};
-ghost use Rattle.outline.specs.Growth.{growthOf};
-ghost use Rattle.outline.specs.Cut.{isKeyed, cutMask, weightsOf, cropOf};
-ghost use Rattle.outline.specs.Refusal.{groundNumber, growthNumber, cutNumber};
-ghost use Rattle.ground.specs.Answer.{flatPlane};
-ghost use Rattle.keying.specs.Answer.{cropAs};
+ghost use Rattle.geometry.specs.declared.Answer.{Answer};
+ghost use Rattle.geometry.specs.declared.Labelled.{Labelled};
+ghost use Rattle.geometry.specs.Answer.{refusalOfAnswer};
+ghost use Rattle.geometry.specs.Calls.{NearestCalled, LabelsCalled, SquaresCalled, DistanceCalled, FillCalled};
+ghost use Rattle.outline.specs.declared.Ground.{Ground};
+ghost use Rattle.keying.specs.Calls.{GroundCalled, GrowthCalled};
+ghost use Rattle.stand.specs.Exports.{Returns, CutReturns, labelsValues, groundValues, cutValues};
 use colour::Rgb;
 use colour::Settings;
+use geometry::Labelled;
+use outline::Ground;
+use outline::Outcome;
 
 // The number of an answer of labels, and the number of parts, 0 where it was declined.
 #[repr(C)]
 pub struct StandLabels {
-    pub number: u32,
+    pub refusal: u32,
     pub parts: u32,
 }
 
-// What the cut answers: document 01's number, whether it was keyed, and the crop box; all but the number 0 where it was
-// declined.
+// What the cut answers: its number, whether it was keyed, and the crop box; all but the number 0 where it was declined.
 #[repr(C)]
 pub struct StandCut {
-    pub number: u32,
+    pub refusal: u32,
     pub keyed: bool,
     pub y0: usize,
     pub y1: usize,
@@ -41,13 +32,72 @@ pub struct StandCut {
     pub x1: usize,
 }
 
-// What the search of the ground answers: document 01's number, whether it was found, and the reference, all +0 where it was
-// not.
+// What the search of the ground answers: its number, whether it was found, and the reference, all +0 where it was not.
 #[repr(C)]
 pub struct StandGround {
-    pub number: u32,
+    pub refusal: u32,
     pub found: bool,
     pub reference: Rgb,
+}
+
+// The values of an answer, as they cross.
+fn labels_values(answer: Labelled) -> StandLabels
+    ensures { λ r. ⌜ r ≡ labelsValues answer ⌝ }
+{
+    match answer {
+        Labelled::Parts(parts) => StandLabels { refusal: 0, parts },
+        Labelled::Refused(refusal) => StandLabels { refusal, parts: 0 },
+    }
+}
+
+fn ground_values(answer: Ground) -> StandGround
+    ensures { λ r. ⌜ r ≡ groundValues answer ⌝ }
+{
+    let none = Rgb {
+        r: 0.0,
+        g: 0.0,
+        b: 0.0,
+    };
+    match answer {
+        Ground::Found(reference) => StandGround {
+            refusal: 0,
+            found: true,
+            reference,
+        },
+        Ground::Absent => StandGround {
+            refusal: 0,
+            found: false,
+            reference: none,
+        },
+        Ground::Refused(refusal) => StandGround {
+            refusal,
+            found: false,
+            reference: none,
+        },
+    }
+}
+
+fn cut_values(answer: Outcome) -> StandCut
+    ensures { λ r. ⌜ r ≡ cutValues answer ⌝ }
+{
+    match answer {
+        Outcome::Done(keyed, crop) => StandCut {
+            refusal: 0,
+            keyed,
+            y0: crop.y0,
+            y1: crop.y1,
+            x0: crop.x0,
+            x1: crop.x1,
+        },
+        Outcome::Refused(refusal) => StandCut {
+            refusal,
+            keyed: false,
+            y0: 0,
+            y1: 0,
+            x0: 0,
+            x1: 0,
+        },
+    }
 }
 
 // geometry::feature_transform
@@ -56,14 +106,15 @@ pub extern "C" fn stand_nearest(
     mask: &[u8],
     h: usize,
     w: usize,
+    work: &mut [u32],
     rows: &mut [i32],
     cols: &mut [i32],
 ) -> u32
-    ensures { λ r. ⌜ r ≡ nearestNumber h w (length (now (mask .entry))) (length (now (rows .entry))) (length (now (cols .entry))) ⌝ }
-    ensures { λ r. ⌜ now (rows .exit) ≡ after r (rowsPlane (now (mask .entry)) h w) (now (rows .entry)) ⌝ }
-    ensures { λ r. ⌜ now (cols .exit) ≡ after r (columnsPlane (now (mask .entry)) h w) (now (cols .entry)) ⌝ }
+    ensures { λ r. ⌜ Returns refusalOfAnswer (λ (a : Answer). NearestCalled (now (mask .entry)) h w
+        (now (work .entry)) (now (rows .entry)) (now (cols .entry)) a
+        (now (work .exit)) (now (rows .exit)) (now (cols .exit))) r ⌝ }
 {
-    geometry::number_of(geometry::feature_transform(mask, h, w, rows, cols))
+    geometry::refusal_of(geometry::feature_transform(mask, h, w, work, rows, cols))
 }
 
 // geometry::label4
@@ -72,18 +123,14 @@ pub extern "C" fn stand_labels(
     mask: &[u8],
     h: usize,
     w: usize,
-    stack: &mut [u32],
+    parents: &mut [u32],
     labels: &mut [u32],
 ) -> StandLabels
-    ensures { λ r. ⌜ r .number ≡ planeNumber h w (length (now (mask .entry))) (length (now (labels .entry))) (length (now (stack .entry))) ⌝ }
-    ensures { λ r. ⌜ r .parts ≡ after (r .number) (parts (now (mask .entry)) h w) 0 ⌝ }
-    ensures { λ r. ⌜ now (labels .exit) ≡ after (r .number) (labelsPlane (now (mask .entry)) h w) (now (labels .entry)) ⌝ }
-    ensures { λ r. ⌜ ((r .number ≡ 0 → ⊥) → now (stack .exit) ≡ now (stack .entry)) ⌝ }
+    ensures { λ r. ⌜ Returns labelsValues (λ (a : Labelled). LabelsCalled (now (mask .entry)) h w
+        (now (parents .entry)) (now (labels .entry)) a
+        (now (parents .exit)) (now (labels .exit))) r ⌝ }
 {
-    let answer = geometry::label4(mask, h, w, stack, labels);
-    let number = geometry::labelled_number(answer);
-    let parts = geometry::labelled_parts(answer);
-    StandLabels { number, parts }
+    labels_values(geometry::label4(mask, h, w, parents, labels))
 }
 
 // geometry::binary_dilation8
@@ -96,11 +143,11 @@ pub extern "C" fn stand_squares(
     work: &mut [u8],
     out: &mut [u8],
 ) -> u32
-    ensures { λ r. ⌜ r ≡ planeNumber h w (length (now (mask .entry))) (length (now (out .entry))) (length (now (work .entry))) ⌝ }
-    ensures { λ r. ⌜ now (out .exit) ≡ after r (squaresPlane (now (mask .entry)) h w iterations) (now (out .entry)) ⌝ }
-    ensures { λ r. ⌜ ((r ≡ 0 → ⊥) → now (work .exit) ≡ now (work .entry)) ⌝ }
+    ensures { λ r. ⌜ Returns refusalOfAnswer (λ (a : Answer). SquaresCalled (now (mask .entry)) h w iterations
+        (now (work .entry)) (now (out .entry)) a
+        (now (work .exit)) (now (out .exit))) r ⌝ }
 {
-    geometry::number_of(geometry::binary_dilation8(mask, h, w, iterations, work, out))
+    geometry::refusal_of(geometry::binary_dilation8(mask, h, w, iterations, work, out))
 }
 
 // geometry::square_distance
@@ -109,15 +156,14 @@ pub extern "C" fn stand_distance(
     mask: &[u8],
     h: usize,
     w: usize,
-    rows: &mut [i32],
-    cols: &mut [i32],
+    work: &mut [u32],
     out: &mut [u32],
 ) -> u32
-    ensures { λ r. ⌜ r ≡ distanceNumber h w (length (now (mask .entry))) (length (now (out .entry))) (length (now (rows .entry))) (length (now (cols .entry))) ⌝ }
-    ensures { λ r. ⌜ now (out .exit) ≡ after r (distancePlane (now (mask .entry)) h w) (now (out .entry)) ⌝ }
-    ensures { λ r. ⌜ ((r ≡ 0 → ⊥) → (now (rows .exit) ≡ now (rows .entry)) × (now (cols .exit) ≡ now (cols .entry))) ⌝ }
+    ensures { λ r. ⌜ Returns refusalOfAnswer (λ (a : Answer). DistanceCalled (now (mask .entry)) h w
+        (now (work .entry)) (now (out .entry)) a
+        (now (work .exit)) (now (out .exit))) r ⌝ }
 {
-    geometry::number_of(geometry::square_distance(mask, h, w, rows, cols, out))
+    geometry::refusal_of(geometry::square_distance(mask, h, w, work, out))
 }
 
 // geometry::fill_transparent
@@ -127,15 +173,14 @@ pub extern "C" fn stand_fill(
     mask: &[u8],
     h: usize,
     w: usize,
-    rows: &mut [i32],
-    cols: &mut [i32],
+    work: &mut [u32],
     out: &mut [u64],
 ) -> u32
-    ensures { λ r. ⌜ r ≡ fillNumber h w (length (now (colours .entry))) (length (now (mask .entry))) (length (now (out .entry))) (length (now (rows .entry))) (length (now (cols .entry))) ⌝ }
-    ensures { λ r. ⌜ now (out .exit) ≡ after r (filledColours (now (colours .entry)) (now (mask .entry)) h w) (now (out .entry)) ⌝ }
-    ensures { λ r. ⌜ ((r ≡ 0 → ⊥) → (now (rows .exit) ≡ now (rows .entry)) × (now (cols .exit) ≡ now (cols .entry))) ⌝ }
+    ensures { λ r. ⌜ Returns refusalOfAnswer (λ (a : Answer). FillCalled (now (colours .entry)) (now (mask .entry)) h w
+        (now (work .entry)) (now (out .entry)) a
+        (now (work .exit)) (now (out .exit))) r ⌝ }
 {
-    geometry::number_of(geometry::fill_transparent(colours, mask, h, w, rows, cols, out))
+    geometry::refusal_of(geometry::fill_transparent(colours, mask, h, w, work, out))
 }
 
 // keying::subject
@@ -146,42 +191,32 @@ pub extern "C" fn stand_cut(
     h: usize,
     w: usize,
     settings: Settings,
-    near: &mut [u32],
-    first: &mut [u8],
-    second: &mut [u8],
-    third: &mut [u8],
+    nearest: &mut [u32],
+    shallow: &mut [u8],
+    deep: &mut [u8],
+    marks: &mut [u8],
     mask: &mut [u8],
     weights: &mut [f64],
 ) -> StandCut
-    ensures { λ r. ⌜ r .number ≡ cutNumber (now (colours .entry)) (now (alpha .entry)) h w settings (length (now (mask .entry))) (length (now (weights .entry))) (length (now (near .entry))) (length (now (first .entry))) (length (now (second .entry))) (length (now (third .entry))) ⌝ }
-    ensures { λ r. ⌜ r .keyed ≡ after (r .number) (isKeyed (now (colours .entry)) (now (alpha .entry)) h w settings) false ⌝ }
-    ensures { λ r. ⌜ record { y0 = r .y0; y1 = r .y1; x0 = r .x0; x1 = r .x1 } ≡ after (r .number) (cropAs (cropOf (cutMask (now (colours .entry)) (now (alpha .entry)) h w settings) h w settings)) (record { y0 = 0; y1 = 0; x0 = 0; x1 = 0 }) ⌝ }
-    ensures { λ r. ⌜ now (mask .exit) ≡ after (r .number) (cutMask (now (colours .entry)) (now (alpha .entry)) h w settings) (now (mask .entry)) ⌝ }
-    ensures { λ r. ⌜ now (weights .exit) ≡ after (r .number) (weightsOf (cutMask (now (colours .entry)) (now (alpha .entry)) h w settings) (now (alpha .entry)) (h * w)) (now (weights .entry)) ⌝ }
-    ensures { λ r. ⌜ ((r .number ≡ 0 → ⊥) → (now (near .exit) ≡ now (near .entry)) × (now (first .exit) ≡ now (first .entry)) × (now (second .exit) ≡ now (second .entry)) × (now (third .exit) ≡ now (third .entry))) ⌝ }
+    ensures { λ r. ⌜ CutReturns (now (colours .entry)) (now (alpha .entry)) h w settings
+        (record { mask = now (mask .entry); weights = now (weights .entry); nearest = now (nearest .entry);
+            shallow = now (shallow .entry); deep = now (deep .entry); marks = now (marks .entry) }) r
+        (record { mask = now (mask .exit); weights = now (weights .exit); nearest = now (nearest .exit);
+            shallow = now (shallow .exit); deep = now (deep .exit); marks = now (marks .exit) }) ⌝ }
 {
-    let answer = keying::subject(
+    cut_values(keying::subject(
         colours,
         alpha,
         h,
         w,
         settings,
-        near,
-        first,
-        second,
-        third,
+        nearest,
+        shallow,
+        deep,
+        marks,
         mask,
         weights,
-    );
-    let crop = keying::cut_crop(answer);
-    StandCut {
-        number: keying::cut_number_of(answer),
-        keyed: keying::cut_keyed(answer),
-        y0: crop.y0,
-        y1: crop.y1,
-        x0: crop.x0,
-        x1: crop.x1,
-    }
+    ))
 }
 
 // keying::flat_background
@@ -191,24 +226,14 @@ pub extern "C" fn stand_ground(
     h: usize,
     w: usize,
     tolerance: f64,
-    stack: &mut [u32],
+    work: &mut [u32],
     out: &mut [u8],
 ) -> StandGround
-    ensures { λ r. ⌜ r .number ≡ groundNumber (now (colours .entry)) h w tolerance (length (now (out .entry))) (length (now (stack .entry))) ⌝ }
-    ensures { λ r. ⌜ r .found ≡ after (r .number) (isFound (now (colours .entry)) h w tolerance) false ⌝ }
-    ensures { λ r. ⌜ r .reference ≡ cond (r .found) (referenceOf (now (colours .entry)) h w) (record { r = zero64; g = zero64; b = zero64 }) ⌝ }
-    ensures { λ r. ⌜ now (out .exit) ≡ after (r .number) (flatPlane (now (colours .entry)) h w tolerance) (now (out .entry)) ⌝ }
-    ensures { λ r. ⌜ ((r .number ≡ 0 → ⊥) → now (stack .exit) ≡ now (stack .entry)) ⌝ }
+    ensures { λ r. ⌜ Returns groundValues (λ (a : Ground). GroundCalled (now (colours .entry)) h w tolerance
+        (now (work .entry)) (now (out .entry)) a
+        (now (work .exit)) (now (out .exit))) r ⌝ }
 {
-    let answer = keying::flat_background(colours, h, w, tolerance, stack, out);
-    let number = keying::ground_number_of(answer);
-    let found = keying::ground_found(answer);
-    let reference = keying::ground_reference(answer);
-    StandGround {
-        number,
-        found,
-        reference,
-    }
+    ground_values(keying::flat_background(colours, h, w, tolerance, work, out))
 }
 
 // keying::unmix_fringe
@@ -220,27 +245,30 @@ pub extern "C" fn stand_growth(
     w: usize,
     reference: Rgb,
     passes: i64,
-    near: &mut [u32],
-    first: &mut [u8],
-    second: &mut [u8],
-    third: &mut [u8],
+    nearest: &mut [u32],
+    shallow: &mut [u8],
+    deep: &mut [u8],
+    marks: &mut [u8],
     out: &mut [u8],
 ) -> u32
-    ensures { λ r. ⌜ r ≡ growthNumber (now (colours .entry)) (length (now (background .entry))) h w reference (length (now (out .entry))) (length (now (near .entry))) (length (now (first .entry))) (length (now (second .entry))) (length (now (third .entry))) ⌝ }
-    ensures { λ r. ⌜ now (out .exit) ≡ after r (growthOf (now (colours .entry)) reference h w (atLeastZero passes) (now (background .entry))) (now (out .entry)) ⌝ }
-    ensures { λ r. ⌜ ((r ≡ 0 → ⊥) → (now (near .exit) ≡ now (near .entry)) × (now (first .exit) ≡ now (first .entry)) × (now (second .exit) ≡ now (second .entry)) × (now (third .exit) ≡ now (third .entry))) ⌝ }
+    ensures { λ r. ⌜ Returns refusalOfAnswer (λ (a : Answer).
+        GrowthCalled (now (colours .entry)) (now (background .entry)) h w reference passes
+        (record { out = now (out .entry); nearest = now (nearest .entry); shallow = now (shallow .entry);
+            deep = now (deep .entry); marks = now (marks .entry) }) a
+        (record { out = now (out .exit); nearest = now (nearest .exit); shallow = now (shallow .exit);
+            deep = now (deep .exit); marks = now (marks .exit) })) r ⌝ }
 {
-    geometry::number_of(keying::unmix_fringe(
+    geometry::refusal_of(keying::unmix_fringe(
         colours,
         background,
         h,
         w,
         reference,
         passes,
-        near,
-        first,
-        second,
-        third,
+        nearest,
+        shallow,
+        deep,
+        marks,
         out,
     ))
 }

@@ -420,27 +420,23 @@ fn memory(side: usize, lents: &Lents) {
     println!("allocated, so this is the most at any time):\n");
     println!("| call | work buffers | in MiB | outputs |\n|---|---:|---:|---:|");
     let planes = size_of_val(&lent.rows[..]) + size_of_val(&lent.cols[..]);
-    let pair = size_of_val(&lent.row_work[..]) + size_of_val(&lent.col_work[..]);
-    let near = size_of_val(&cut.near[..]);
-    let three = cut.first.len() + cut.second.len() + cut.third.len();
+    let numbers = size_of_val(&lent.numbers[..]);
+    let nearest = size_of_val(&cut.nearest[..]);
+    let three = cut.shallow.len() + cut.deep.len() + cut.marks.len();
     let of = |name, work, out| {
         let mib = work as f64 / (1 << 20) as f64;
         println!("| {name} | {} | {mib:.1} | {} |", bytes(work), bytes(out));
     };
-    of("nearest", 0, planes);
-    of(
-        "labels",
-        size_of_val(&lent.stack[..]),
-        size_of_val(&lent.labels[..]),
-    );
-    of("squares", lent.work.len(), lent.out.len());
-    of("square distance", pair, size_of_val(&lent.distance[..]));
-    of("fill", pair, size_of_val(&lent.filled[..]));
-    of("ground", near, cut.mask.len());
-    of("growth", near + three, cut.mask.len());
+    of("nearest", numbers, planes);
+    of("labels", numbers, size_of_val(&lent.labels[..]));
+    of("squares", lent.bytes.len(), lent.out.len());
+    of("square distance", numbers, size_of_val(&lent.distance[..]));
+    of("fill", numbers, size_of_val(&lent.filled[..]));
+    of("ground", nearest, cut.mask.len());
+    of("growth", nearest + three, cut.mask.len());
     of(
         "cut",
-        near + three,
+        nearest + three,
         cut.mask.len() + size_of_val(&cut.weights[..]),
     );
 }

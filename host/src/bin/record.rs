@@ -99,7 +99,7 @@ mod with {
         (mask, rows.len(), rows[0].len())
     }
 
-    /// The cases of document 01.
+    /// The proved cases (R73 to R76).
     fn document(list: &mut List) {
         for text in ["101", "1/0/1", "01/10", "00/00"] {
             let (m, h, w) = drawn(text);

@@ -6,7 +6,7 @@
 //! ```
 //!
 //! FOLDER (by default `crates` of the repository) gets `stdin` and `stdout` for each of the three, in
-//! the format that crates/replay_keying/src/lib.rt describes.
+//! the format that crates/replay/src/lib.rt describes.
 
 include!(concat!(env!("OUT_DIR"), "/the_rust.rs"));
 
@@ -45,7 +45,7 @@ mod with {
     use stand::Settings;
     use std::path::PathBuf;
 
-    /// The most bytes of a `stdin`: what replay_keying reads.
+    /// The most bytes of a `stdin`: what replay reads.
     const MOST_BYTES: usize = 262_144;
 
     struct MaskRs;
@@ -273,7 +273,7 @@ mod with {
     mod grounds {
         use super::*;
 
-        /// The cases of document 01, and grounds that only a corner joins.
+        /// The proved cases (R77, R78), and grounds that only a corner joins.
         pub fn by_hand(list: &mut List) {
             list.add(&ground(1, 1, 0.0, |_, _| WHITE));
             for last in [0, 1] {
@@ -436,7 +436,7 @@ mod with {
     mod cuts {
         use super::*;
 
-        /// The cases of document 01.
+        /// The proved cases (R77 to R79).
         pub fn document(list: &mut List) {
             for third in [0.75, 0.5] {
                 let colour = |_, x| match x {
@@ -563,21 +563,28 @@ mod with {
     mod pairs {
         use super::*;
 
-        /// A square card of rings, ring k of grey k / 8 and the middle of the grey given.
-        fn rings(side: usize, middle: f64) -> Vec<f64> {
-            let grey = |i: usize| {
+        /// The grey of ring d of a card for p passes: 1 − 1.25^(d − p − 4).
+        fn grey(p: usize, d: usize) -> f64 {
+            1.0 - (d..p + 4).fold(1.0, |power, _| power / 1.25)
+        }
+
+        /// A square card of rings, counted from the border inwards, with the middle of the grey given.
+        fn rings(p: usize, side: usize, middle: f64) -> Vec<f64> {
+            let at = |i: usize| {
                 let (y, x) = (i / side, i % side);
                 match y.min(x).min(side - 1 - y).min(side - 1 - x) {
                     ring if ring == side / 2 => middle,
-                    ring => ring as f64 / 8.0,
+                    ring => grey(p, ring),
                 }
             };
-            (0..side * side).flat_map(|i| [grey(i); 3]).collect()
+            (0..side * side).flat_map(|i| [at(i); 3]).collect()
         }
 
+        /// Twice the distance of ring p from the border's grey is below that of ring p + 4, and not
+        /// below its own.
         pub fn tight(list: &mut List) {
-            for p in 1..=3 {
-                let (joins, stays) = ((p + 4) as f64 / 8.0, 2.0 * p as f64 / 8.0);
+            for p in [1, 2, 3, 4, 8, 12] {
+                let (joins, stays) = (grey(p, p + 4), grey(p, p));
                 let side = 2 * (p + 4) + 1;
                 let pairs = [
                     (side, joins, stays),
@@ -589,7 +596,7 @@ mod with {
                         op: 'P',
                         h: side,
                         w: side,
-                        pictures: vec![rings(side, one), rings(side, two)],
+                        pictures: vec![rings(p, side, one), rings(p, side, two)],
                         alpha: vec![255; side * side],
                         settings: passes(p as i64, 0.0),
                     };

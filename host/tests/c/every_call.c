@@ -15,9 +15,9 @@ static void picture(void)
 {
     double colours[3 * PIXELS], weights[PIXELS];
     uint8_t alpha[PIXELS], background[PIXELS], mask[PIXELS];
-    uint32_t near[ROOM];
-    uint8_t first[ROOM], second[ROOM], third[ROOM];
-    StandSettings settings = {128, true, 1, 0.03125, true};
+    uint32_t nearest[ROOM];
+    uint8_t shallow[ROOM], deep[ROOM], marks[ROOM];
+    StandSettings settings = STAND_DEFAULT_SETTINGS;
     size_t room = stand_work_len(SIDE, SIDE);
     StandGround ground;
     StandCut cut;
@@ -27,21 +27,22 @@ static void picture(void)
     for (i = 0; i < 3 * PIXELS; i++) colours[i] = i / 3 == 12 ? 0.0 : 1.0;
     for (i = 0; i < PIXELS; i++) alpha[i] = 255;
 
-    ground = stand_ground(colours, 3 * PIXELS, SIDE, SIDE, 0.03125, near, room, background, PIXELS);
+    ground = stand_ground(colours, 3 * PIXELS, SIDE, SIDE, 0.03125, nearest, room, background,
+                          PIXELS);
     for (i = 0; i < PIXELS; i++) on += background[i];
-    printf("ground %u %d, %g %g %g: %d\n", (unsigned)ground.number, (int)ground.found,
+    printf("ground %u %d, %g %g %g: %d\n", (unsigned)ground.refusal, (int)ground.found,
            ground.reference.r, ground.reference.g, ground.reference.b, on);
 
     answer = stand_growth(colours, 3 * PIXELS, background, PIXELS, SIDE, SIDE, ground.reference, 1,
-                          near, room, first, room, second, room, third, room, mask, PIXELS);
+                          nearest, room, shallow, room, deep, room, marks, room, mask, PIXELS);
     for (on = 0, i = 0; i < PIXELS; i++) on += mask[i];
     printf("growth %u: %d\n", answer, on);
 
     cut = stand_cut(colours, 3 * PIXELS, alpha, PIXELS, SIDE, SIDE, settings,
-                    near, room, first, room, second, room, third, room, mask, PIXELS,
+                    nearest, room, shallow, room, deep, room, marks, room, mask, PIXELS,
                     weights, PIXELS);
     for (on = 0, i = 0; i < PIXELS; i++) on += mask[i];
-    printf("cut %u, keyed %d, crop %u %u %u %u: %d, weight %g\n", (unsigned)cut.number,
+    printf("cut %u, keyed %d, crop %u %u %u %u: %d, weight %g\n", (unsigned)cut.refusal,
            (int)cut.keyed, (unsigned)cut.y0, (unsigned)cut.y1, (unsigned)cut.x0, (unsigned)cut.x1,
            on, weights[12]);
 
@@ -50,58 +51,67 @@ static void picture(void)
     printf("refused %d %d %d,", STAND_COLOUR, STAND_TOLERANCE, STAND_ALPHA);
     settings.alpha_threshold = 256;
     cut = stand_cut(colours, 3 * PIXELS, alpha, PIXELS, SIDE, SIDE, settings,
-                    near, room, first, room, second, room, third, room, mask, PIXELS,
+                    nearest, room, shallow, room, deep, room, marks, room, mask, PIXELS,
                     weights, PIXELS);
-    printf(" %u", (unsigned)cut.number);
-    ground = stand_ground(colours, 3 * PIXELS, SIDE, SIDE, 1e308 * 10, near, room, background,
+    printf(" %u", (unsigned)cut.refusal);
+    ground = stand_ground(colours, 3 * PIXELS, SIDE, SIDE, 1e308 * 10, nearest, room, background,
                           PIXELS);
-    printf(" %u", (unsigned)ground.number);
+    printf(" %u", (unsigned)ground.refusal);
     ground.reference.g = 1.5;
     printf(" %u\n", (unsigned)stand_growth(colours, 3 * PIXELS, background, PIXELS, SIDE, SIDE,
-                                           ground.reference, 1, near, room, first, room, second,
-                                           room, third, room, mask, PIXELS));
+                                           ground.reference, 1, nearest, room, shallow, room,
+                                           deep, room, marks, room, mask, PIXELS));
 }
 
 int main(void)
 {
     const uint8_t mask[N] = {0, 9, 1, 0};
     const uint64_t colours[3 * N] = {1, 2, 3, 4, 5, 6, 7, 8, 9, 10, 11, 12};
-    int32_t rows[WORK], cols[WORK];
-    uint32_t stack[WORK], numbers[N];
+    int32_t rows[N], cols[N];
+    uint32_t words[WORK], numbers[N];
     uint64_t filled[3 * N];
-    uint8_t work[WORK], out[N];
+    uint8_t bytes[WORK], out[N];
     StandLabels parts;
     size_t room = stand_work_len(H, W);
     unsigned answer;
     int i;
 
-    answer = stand_nearest(mask, N, H, W, rows, N, cols, N);
+    answer = stand_nearest(mask, N, H, W, words, room, rows, N, cols, N);
     printf("nearest %u:", answer);
     for (i = 0; i < N; i++) printf(" %d,%d", (int)rows[i], (int)cols[i]);
 
-    parts = stand_labels(mask, N, H, W, stack, room, numbers, N);
-    printf("\nlabels %u, %u:", (unsigned)parts.number, (unsigned)parts.parts);
+    parts = stand_labels(mask, N, H, W, words, room, numbers, N);
+    printf("\nlabels %u, %u:", (unsigned)parts.refusal, (unsigned)parts.parts);
     for (i = 0; i < N; i++) printf(" %u", (unsigned)numbers[i]);
 
-    answer = stand_squares(mask, N, H, W, 1, work, room, out, N);
+    answer = stand_squares(mask, N, H, W, 1, bytes, room, out, N);
     printf("\nsquares %u:", answer);
     for (i = 0; i < N; i++) printf(" %u", (unsigned)out[i]);
 
-    answer = stand_distance(mask, N, H, W, rows, room, cols, room, numbers, N);
+    answer = stand_distance(mask, N, H, W, words, room, numbers, N);
     printf("\ndistance %u:", answer);
     for (i = 0; i < N; i++) printf(" %u", (unsigned)numbers[i]);
 
-    answer = stand_fill(colours, 3 * N, mask, N, H, W, rows, room, cols, room, filled, 3 * N);
+    answer = stand_fill(colours, 3 * N, mask, N, H, W, words, room, filled, 3 * N);
     printf("\nfill %u:", answer);
     for (i = 0; i < 3 * N; i++) printf(" %u", (unsigned)filled[i]);
 
-    parts = stand_labels(mask, N, H, STAND_MOST_SIDE + 1, stack, room, numbers, N);
+    parts = stand_labels(mask, N, H, STAND_MOST_SIDE + 1, words, room, numbers, N);
     printf("\nrefused %d %d %d, %u %u", STAND_SIDE, STAND_INPUT_LENGTH, STAND_ROOM,
-           (unsigned)parts.number, (unsigned)parts.parts);
-    printf(" %u", (unsigned)stand_nearest(mask, N, 0, W, rows, N, cols, N));
-    printf(" %u", (unsigned)stand_squares(mask, N - 1, H, W, 1, work, room, out, N));
-    printf(" %u\n", (unsigned)stand_squares(mask, N, H, W, 1, work, room - 1, out, N));
+           (unsigned)parts.refusal, (unsigned)parts.parts);
+    printf(" %u", (unsigned)stand_nearest(mask, N, 0, W, words, room, rows, N, cols, N));
+    printf(" %u", (unsigned)stand_squares(mask, N - 1, H, W, 1, bytes, room, out, N));
+    printf(" %u\n", (unsigned)stand_squares(mask, N, H, W, 1, bytes, room - 1, out, N));
 
     picture();
+
+    /* Sides that every call declines need no room; the largest that none declines need some. */
+    printf("room %lu %lu %lu %lu %lu %lu\n", (unsigned long)stand_work_len(0, 5),
+           (unsigned long)stand_work_len(5, STAND_MOST_SIDE + 1),
+           (unsigned long)stand_work_len((size_t)-1, (size_t)-1),
+           (unsigned long)stand_work_len((size_t)-1 / 2 + 1, 2), (unsigned long)stand_work_len(1, 1),
+           (unsigned long)stand_work_len(STAND_MOST_SIDE, STAND_MOST_SIDE));
+    printf("version %s %d %d %d\n", STAND_VERSION, STAND_VERSION_MAJOR, STAND_VERSION_MINOR,
+           STAND_VERSION_PATCH);
     return STAND_ACCEPTED;
 }

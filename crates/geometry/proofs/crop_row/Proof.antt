@@ -8,20 +8,21 @@ use borrow.Author.Needs.{needs}
 use borrow.Author.Tests.{eq-eqb, ne-eqb}
 use denote.Ref.{now}
 use Rattle.geometry.specs.Crop.{cropPart}
-use Rattle.geometry.proofs.Box.{InPlane, in-plane}
+use Rattle.plane.specs.Refusal.{after}
+use Rattle.geometry.proofs.Accepted.{InPlane, in-plane}
 use Rattle.geometry.proofs.crop_row.Statement.{statement}
 use Rattle.geometry.proofs.crop_row.Tie as tie
 
 got : (c : tie.Else1) → let a = c .before .before .before .args in InPlane (length (now (a .plane))) (a .w) (a .x0) (a .x1) (a .y)
 got c =
     let a = c .before .before .before .args in
-    in-plane (length (now (a .plane))) (a .h) (a .w) (a .y0) (a .y1) (a .x0) (a .x1) (a .y) (sym (c .before .crop-row-number .ensures) ∙ c .if1 .left)
+    in-plane (length (now (a .plane))) (a .h) (a .w) (a .y0) (a .y1) (a .x0) (a .x1) (a .y) (sym (c .before .crop-row-refusal .ensures) ∙ c .if1 .left)
 
 gap : (k a b : ℕ) → k + a - (k + b) ≡ a - b
 gap k a b = omega arith
 
-crop-row-number-requires : tie.Need-crop-row-number-requires
-crop-row-number-requires c κs = search needs
+crop-row-refusal-requires : tie.Need-crop-row-refusal-requires
+crop-row-refusal-requires c κs = search needs
 
 sub-result : tie.Need-sub-result
 sub-result c = search needs
@@ -33,8 +34,8 @@ part-result-end : tie.Need-part-result-end
 part-result-end c = search needs
 
 returns : tie.Need-returns
-unfolding cropPart
-returns c = rw (← c .before .before .crop-row-number .ensures, ne-eqb _ _ (c .before .if1 .taken))
+unfolding cropPart after
+returns c = rw (← c .before .before .crop-row-refusal .ensures, ne-eqb _ _ (c .before .if1 .taken))
 
 mul-result : tie.Need-mul-result
 mul-result c = let g = got c in omega arith
@@ -58,15 +59,15 @@ part-result-end-2 : tie.Need-part-result-end-2
 part-result-end-2 c = let g = got c in omega arith
 
 returns-2 : tie.Need-returns-2
-unfolding cropPart
+unfolding cropPart after
 returns-2 c =
-    rw (← c .before .before .crop-row-number .ensures, eq-eqb _ _ (c .before .if1 .left), gap (c .before .before .before .before .args .y * c .before .before .before .before .args .w))
+    rw (← c .before .before .crop-row-refusal .ensures, eq-eqb _ _ (c .before .if1 .left), gap (c .before .before .before .before .args .y * c .before .before .before .before .args .w))
 
 pub crop-row-spec : {M : Type 1} → statement M
 crop-row-spec =
     tie.close
     (tie.spec
-    crop-row-number-requires
+    crop-row-refusal-requires
     sub-result
     part-result-start
     part-result-end

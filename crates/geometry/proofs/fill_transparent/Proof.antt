@@ -1,60 +1,56 @@
 -- `geometry::fill_transparent` meets its contract.
 -- Assumes nothing.
-use mathlib.Core.Path.{_≡_, refl, sym, _∙_}
-use Prim.Native.Nat.{_*_, _-_, _≤_}
+use mathlib.Core.Path.{_≡_, refl, sym, ap, _∙_}
+use mathlib.Core.List.{List}
+use Prim.Native.Nat.{ℕ, _*_, _≤_}
 use native.Mathlib.Omega.{arith}
-use lib.ListN.{length, take, length-take}
+use lib.ListN.{length}
 use borrow.Author.Needs.{needs}
-use denote.Ref.{now}
-use Rattle.geometry.proofs.Guard.{area-of}
-use Rattle.geometry.proofs.Accepted.{done, declined, written, kept, FillOk, fill-ok}
+use Rattle.plane.specs.Search.{someBelow}
+use Rattle.plane.specs.Mask.{isOn}
+use Rattle.plane.proofs.Refusal.{written, kept, three-lines}
+use Rattle.nearest.proofs.Indexed.{front-inside}
+use Rattle.geometry.specs.declared.Answer.the-variants as answer
+use Rattle.geometry.specs.steps.Source.{coloursFrom}
+use Rattle.geometry.proofs.Accepted.{done, declined, FillOk, fill-ok}
+use Rattle.geometry.proofs.Filling.{filled-is}
 use Rattle.geometry.proofs.fill_transparent.Statement.{statement}
 use Rattle.geometry.proofs.fill_transparent.Tie as tie
 
-fill-number-requires : tie.Need-fill-number-requires
-fill-number-requires c κs = search needs
+fill-refusal-requires : tie.Need-fill-refusal-requires
+fill-refusal-requires c κs = search needs
 
 returns : tie.Need-returns
 returns c =
-    let n = c .before .fill-number in
+    let n = c .before .fill-refusal in
     let t = c .if1 .taken in
-    rw (← n .ensures) (declined (n .result) t, (sym (kept (n .result) _ _ t), λ _. (refl, refl)))
+    record {
+      answer = ap answer.Refused (n .ensures) ∙ declined _ (λ q. t (n .ensures ∙ q));
+      out-is = sym (kept _ _ _ (λ q. t (n .ensures ∙ q)));
+      kept = λ _. refl;
+    }
 
-area-requires : tie.Need-area-requires
-area-requires c κs = search needs
+nearest-indices-requires : tie.Need-nearest-indices-requires
+nearest-indices-requires c κs =
+    let accepted = c .before in
+    let k = fill-ok _ _ _ _ _ _ (sym (accepted .before .fill-refusal .ensures) ∙ accepted .if1 .left) in
+    record { sides = k .sides; mask-long = k .input; room = three-lines _ _ _ (k .sides) (k .room) }
 
--- what the number says
-fits : (c : tie.After-area) → let a = c .before .before .before .before .before .before .args in FillOk (a .h) (a .w) (length (now (a .colours))) (length (now (a .mask))) (length (now (a .out))) (length (now (a .rows))) (length (now (a .cols)))
-fits c =
-    let a = c .before .before .before .before .before .before .args in
-    fill-ok (a .h) (a .w) (length (now (a .colours))) (length (now (a .mask))) (length (now (a .out))) (length (now (a .rows))) (length (now (a .cols))) (sym (c .before .before .fill-number .ensures) ∙ c .before .if1 .left)
+any-requires : tie.Need-any-requires
+any-requires c κs = search needs
 
-area : (c : tie.After-area) → let a = c .before .before .before .before .before .before .args in c .area .result ≡ a .h * a .w
-area c = let a = c .before .before .before .before .before .before .args in c .area .ensures ∙ area-of (a .h) (a .w) (fits c .sides)
-
-sub-filled : tie.Need-sub-filled
-sub-filled c = search needs
-
-part-filled-start : tie.Need-part-filled-start
-part-filled-start c = search needs
-
-part-filled-end : tie.Need-part-filled-end
-part-filled-end c = let k = fits c in let e = area c in omega arith
-
-sub-filled-2 : tie.Need-sub-filled-2
-sub-filled-2 c = search needs
-
-part-filled-start-2 : tie.Need-part-filled-start-2
-part-filled-start-2 c = search needs
-
-part-filled-end-2 : tie.Need-part-filled-end-2
-part-filled-end-2 c = let k = fits (c .before) in let e = area (c .before) in omega arith
-
-filled-requires : tie.Need-filled-requires
-filled-requires c κs =
-    let k = fits (c .before .before .before) in
-    let e = area (c .before .before .before) in
-    (record { sides = k .sides; mask-long = k .input; rows-long = simp length-take (omega arith); cols-long = simp length-take (omega arith) }, (k .colours-long, k .output))
+colours-from-requires : tie.Need-colours-from-requires
+colours-from-requires c κs =
+    let call = c .before .before .before .before .before .nearest-indices in
+    let accepted = c .before .before .before .before .before .before .before in
+    let k = fill-ok _ _ _ _ _ _ (sym (accepted .before .fill-refusal .ensures) ∙ accepted .if1 .left) in
+    record {
+      sides = k .sides;
+      colours-long = k .colours-long;
+      out-long = k .output;
+      indices-long = omega (arith, k .room, call .kept .1 .1 .1 .0);
+      inside = front-inside _ _ _ (k .sides .some-columns) _ (call .ensures);
+    }
 
 same-length : tie.Need-same-length
 same-length c = search needs
@@ -62,31 +58,33 @@ same-length c = search needs
 same-length-2 : tie.Need-same-length-2
 same-length-2 c = search needs
 
-same-length-3 : tie.Need-same-length-3
-same-length-3 c = search needs
-
 returns-2 : tie.Need-returns-2
 returns-2 c =
-    let n = c .before .before .before .before .before .before .before .before .before .before .fill-number in
-    let z : n .result ≡ 0 = c .before .before .before .before .before .before .before .before .before .if1 .left in
-    let call = c .before .before .before .before .filled in
-    rw (← n .ensures) (done (n .result) z, (call .ensures ∙ sym (written (n .result) _ _ z), λ no. absurd (no z)))
+    let accepted = c .before .before .before .before .before .before .before .before .before .before in
+    let n = accepted .before .fill-refusal in
+    let z = sym (n .ensures) ∙ accepted .if1 .left in
+    let k = fill-ok _ _ _ _ _ _ z in
+    let call = c .before .before .before .before .before .before .before .before .nearest-indices in
+    let some = c .before .before .before .before .any in
+    let filled = c .before .before .colours-from in
+    let a = accepted .before .before .before .before .before .before .args in
+    let e : filled .last .1 .1 .1 .1 .1 .0 ≡ coloursFrom (a .colours .now) (a .h) (a .w) (call .last .1 .1 .1 .0) (someBelow (a .h * a .w) (isOn (a .mask .now))) =
+        filled .ensures ∙ rw (some .ensures, k .input) in
+    record {
+      answer = done _ z;
+      out-is = e ∙ filled-is (a .colours .now) (a .mask .now) (a .h) (a .w) _ (k .sides .some-columns) (call .ensures) ∙ sym (written _ _ _ z);
+      kept = λ bad. absurd (bad z);
+    }
 
 pub fill-transparent-spec : {M : Type 1} → statement M
 fill-transparent-spec =
     tie.close
     (tie.spec
-    fill-number-requires
+    fill-refusal-requires
     returns
-    area-requires
-    sub-filled
-    part-filled-start
-    part-filled-end
-    sub-filled-2
-    part-filled-start-2
-    part-filled-end-2
-    filled-requires
+    nearest-indices-requires
+    any-requires
+    colours-from-requires
     same-length
     same-length-2
-    same-length-3
     returns-2)

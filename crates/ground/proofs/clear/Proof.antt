@@ -1,22 +1,21 @@
 -- `ground::clear` meets its contract.
 -- Assumes nothing.
-use mathlib.Core.Path.{_≡_, refl, _∙_}
-use Prim.Native.Nat.{ℕ, _-_, _≤_, _<_}
+use mathlib.Core.Path.{_≡_, refl}
+use Prim.Native.Nat.{ℕ, _-_, _≤_}
 use native.Mathlib.Omega.{arith}
-use lib.ListN.{length, getD, length-set}
-use borrow.Author.Count.{below-none}
-use Rattle.plane.proofs.Plane.{filled, table-is}
+use lib.ListN.{length}
+use Rattle.plane.proofs.InPlace.{Changed, changed-none, changed-more, changed-end}
 use Rattle.ground.proofs.clear.Statement.{statement}
 use Rattle.ground.proofs.clear.Tie as tie
 
 abbrev Inv-loop : tie.InvT-loop
-Inv-loop out₀ i₀ i-end out i = (i-end ≡ length out₀) × (i ≤ length out₀) × (length out ≡ length out₀) × ((k : ℕ) → k < i → getD out k 0 ≡ 0)
+Inv-loop out₀ i₀ i-end out i = (i-end ≡ length out₀) × (i ≤ length out₀) × Changed 0 (λ (k : ℕ). 0) out₀ out i
 
 abbrev μ-loop : tie.MeasureT-loop
 μ-loop out₀ i₀ i-end out i = length out₀ - i
 
 loop-holds : tie.Need-loop-holds Inv-loop μ-loop
-loop-holds c = (refl, omega arith, refl, below-none (λ (k : ℕ). getD (c .args .out .now) k 0 ≡ 0))
+loop-holds c = (refl, omega arith, changed-none 0 _ _)
 
 slice-write-out : tie.Need-slice-write-out Inv-loop μ-loop
 slice-write-out c = omega arith
@@ -29,20 +28,14 @@ loop-less c = omega arith
 
 loop-again : tie.Need-loop-again Inv-loop μ-loop
 loop-again c =
-    let l = c .before .loop in (
-      l .inv .0,
-      omega arith,
-      length-set (l .out) (l .i) 0 ∙ l .inv .2,
-      filled (λ (k : ℕ). 0) (l .out) (l .i) 0 0 (omega arith) (l .inv .3) refl,
-    )
+    let l = c .before .loop in
+    (refl, omega arith, changed-more 0 (λ (k : ℕ). 0) (c .before .before .args .out .now) (l .out) (l .i) 0 (l .inv .2) (omega arith) refl)
 
 same-length : tie.Need-same-length Inv-loop μ-loop
-same-length c = c .before .loop .inv .2
+same-length c = c .before .loop .inv .2 .size
 
 returns : tie.Need-returns Inv-loop μ-loop
-returns c =
-    let l = c .before .loop in
-    table-is (λ (k : ℕ). 0) (length (c .before .before .args .out .now)) (l .out) 0 (l .inv .2) (λ k m. l .inv .3 k (omega arith))
+returns c = let l = c .before .loop in changed-end 0 _ _ (l .out) (l .i) (l .inv .2) (omega arith)
 
 pub clear-spec : {M : Type 1} → statement M
 clear-spec =

@@ -1,24 +1,22 @@
 -- `ground::close_plane` meets its contract.
 -- Assumes nothing.
 use mathlib.Core.Path.{_≡_, refl, ap, _∙_}
-use mathlib.Core.Bool.{Bool, true}
+use mathlib.Core.Bool.{true}
 use mathlib.Core.List.{List}
 use Prim.Native.Nat.{ℕ, _+_, _*_, _-_, _≤_, _<_}
 use native.Mathlib.Omega.{arith}
-use lib.ListN.{length, getD, length-set}
+use lib.ListN.{length, getD}
 use lib.Ieee.{Float, nan}
-use mir.Val.{boolByte}
-use borrow.Author.Count.{below-none}
+use borrow.Author.Needs.{needs}
 use Rattle.plane.specs.Plane.{bit}
-use Rattle.plane.proofs.Plane.{filled, table-is}
+use Rattle.plane.specs.Mask.{maskOf}
+use Rattle.plane.proofs.InPlace.{Changed, changed-none, changed-more, changed-end}
 use Rattle.colour.specs.declared.Rgb.{Rgb}
 use Rattle.colour.specs.Colour.{closeTo, rgbOk}
-use Rattle.colour.proofs.Range.{colours-at}
+use Rattle.colour.proofs.Range.{colours-at, rgb-from}
 use Rattle.outline.specs.Border.{channelAt, colourAt}
 use Rattle.outline.specs.Ground.{isClose}
-use Rattle.ground.specs.Answer.{closeAt, Closes}
-use borrow.Author.Needs.{needs}
-use Rattle.ground.proofs.Bits.{byte, three}
+use Rattle.ground.specs.steps.Picture.{Closes}
 use Rattle.ground.proofs.close_plane.Statement.{statement}
 use Rattle.ground.proofs.close_plane.Tie as tie
 
@@ -32,28 +30,35 @@ unfolding colourAt channelAt
 pixel-is colours i = let e : 3 * i + 0 ≡ 3 * i = omega arith in rw e
 
 -- and in range
-pixel-ok : (colours : List Float) (reference : Rgb) (out : List ℕ) (i : ℕ) → Closes colours reference out → i < length out → rgbOk (pixel colours i) ≡ true
-unfolding rgbOk
+pixel-ok : (colours : List Float) (reference : Rgb) (out : List ℕ) (i : ℕ) → Closes colours reference out → i < length out
+    → rgbOk (pixel colours i) ≡ true
 pixel-ok colours reference out i g l =
-    three _ _ _
+    rgb-from (pixel colours i)
     (colours-at colours (g .range) (3 * i) (omega (arith, g .input)))
     (colours-at colours (g .range) (3 * i + 1) (omega (arith, g .input)))
     (colours-at colours (g .range) (3 * i + 2) (omega (arith, g .input)))
 
-close-byte : (colours : List Float) (reference : Rgb) (tolerance : Float) (i : ℕ) (b : Bool) → b ≡ closeTo tolerance reference (pixel colours i) → boolByte b ≡ closeAt colours reference tolerance i
-unfolding closeAt isClose
-close-byte colours reference tolerance i b e = byte b ∙ ap bit (e ∙ ap (closeTo tolerance reference) (pixel-is colours i))
+-- what is written for pixel i
+abbrev mark : List Float → Rgb → Float → ℕ → ℕ
+mark colours reference tolerance i = bit (isClose colours reference tolerance i)
+
+mark-is : (colours : List Float) (reference : Rgb) (tolerance : Float) (i : ℕ)
+    → bit (closeTo tolerance reference (pixel colours i)) ≡ mark colours reference tolerance i
+unfolding isClose
+mark-is colours reference tolerance i = ap (λ (p : Rgb). bit (closeTo tolerance reference p)) (pixel-is colours i)
 
 abbrev Inv-loop : tie.InvT-loop
-Inv-loop colours reference tolerance out₀ i₀ i-end out i = (i-end ≡ length out₀) × (i ≤ length out₀) × (length out ≡ length out₀) × ((k : ℕ) → k < i → getD out k 0 ≡ closeAt colours reference tolerance k)
+Inv-loop colours reference tolerance out₀ i₀ i-end out i =
+    (i-end ≡ length out₀) × (i ≤ length out₀) × Changed 0 (mark colours reference tolerance) out₀ out i
 
 abbrev μ-loop : tie.MeasureT-loop
 μ-loop colours reference tolerance out₀ i₀ i-end out i = length out₀ - i
 
+abbrev start : tie.At-loop Inv-loop μ-loop → tie.Start Inv-loop μ-loop
+start c = c .before .before .before
+
 loop-holds : tie.Need-loop-holds Inv-loop μ-loop
-loop-holds c =
-    let a = c .before .before .args in
-    (refl, omega arith, refl, below-none (λ (k : ℕ). getD (a .out .now) k 0 ≡ closeAt (a .colours .now) (a .reference) (a .tolerance) k))
+loop-holds c = (refl, omega arith, changed-none 0 _ _)
 
 mul-t9 : tie.Need-mul-t9 Inv-loop μ-loop
 mul-t9 c = omega arith
@@ -90,12 +95,13 @@ shared-slice-read-t22 c = omega arith
 
 close-requires : tie.Need-close-requires Inv-loop μ-loop
 close-requires c κs =
-    let l = c .before .before .before .before .loop in
-    let o = c .before .before .before .before .before .before .before in
-    record { first = pixel-ok (o .args .colours .now) (o .args .reference) (o .args .out .now) (l .i) (o .pre) (omega arith); second = o .pre .good }
+    let b : tie.In-loop Inv-loop μ-loop = c .before .before .before in
+    let o = start (b .before) in
+    let a = o .args in
+    record { first = pixel-ok (a .colours .now) (a .reference) (a .out .now) (b .before .loop .i) (o .pre) (omega arith); second = o .pre .good }
 
-cast-out : tie.Need-cast-out Inv-loop μ-loop
-cast-out c = search needs
+byte-requires : tie.Need-byte-requires Inv-loop μ-loop
+byte-requires c κs = search needs
 
 slice-write-out : tie.Need-slice-write-out Inv-loop μ-loop
 slice-write-out c = omega arith
@@ -108,24 +114,19 @@ loop-less c = omega arith
 
 loop-again : tie.Need-loop-again Inv-loop μ-loop
 loop-again c =
-    let l = c .before .before .before .before .before .loop in
-    let a = c .before .before .before .before .before .before .before .before .args in
-    let made : c .close .result ≡ closeTo (a .tolerance) (a .reference) (pixel (a .colours .now) (l .i)) = c .close .ensures in (
-      refl,
-      omega arith,
-      length-set (l .out) (l .i) (boolByte (c .close .result)) ∙ l .inv .2,
-      filled (closeAt (a .colours .now) (a .reference) (a .tolerance)) (l .out) (l .i) (boolByte (c .close .result)) 0 (omega arith) (l .inv .3)
-          (close-byte (a .colours .now) (a .reference) (a .tolerance) (l .i) (c .close .result) made),
-    )
+    let b : tie.At-loop Inv-loop μ-loop = c .before .before .before .before .before .before in
+    let l = b .loop in
+    let a = start b .args in
+    let tested : c .before .close .result ≡ closeTo (a .tolerance) (a .reference) (pixel (a .colours .now) (l .i)) = c .before .close .ensures in
+    let made = c .byte .ensures ∙ ap bit tested ∙ mark-is (a .colours .now) (a .reference) (a .tolerance) (l .i) in
+    (refl, omega arith, changed-more 0 _ (a .out .now) (l .out) (l .i) (c .byte .result) (l .inv .2) (omega arith) made)
 
 same-length : tie.Need-same-length Inv-loop μ-loop
-same-length c = c .before .loop .inv .2
+same-length c = c .before .loop .inv .2 .size
 
 returns : tie.Need-returns Inv-loop μ-loop
-returns c =
-    let l = c .before .loop in
-    let a = c .before .before .before .before .args in
-    table-is (closeAt (a .colours .now) (a .reference) (a .tolerance)) (length (a .out .now)) (l .out) 0 (l .inv .2) (λ k m. l .inv .3 k (omega arith))
+unfolding maskOf
+returns c = let l = c .before .loop in changed-end 0 _ _ (l .out) (l .i) (l .inv .2) (omega arith)
 
 pub close-plane-spec : {M : Type 1} → statement M
 close-plane-spec =
@@ -146,7 +147,7 @@ close-plane-spec =
     mul-t20
     shared-slice-read-t22
     close-requires
-    cast-out
+    byte-requires
     slice-write-out
     add-i
     loop-less

@@ -8,8 +8,9 @@ use lib.ListN.{length}
 use Rattle.plane.proofs.Plane.{area-most}
 use Rattle.outline.specs.Border.{borderList}
 use Rattle.outline.specs.Ground.{countOn}
-use Rattle.ground.specs.Lines.{linePixels}
-use Rattle.ground.proofs.Border.{border-length, first-on, last-on, left-on, right-on, counts-are, last-in}
+use Rattle.flood.specs.steps.Lines.{linePixels}
+use Rattle.flood.proofs.Border.{border-length, last-in}
+use Rattle.ground.proofs.Lines.{first-on, last-on, left-on, right-on, counts-are}
 use borrow.Author.Needs.{needs}
 use Rattle.ground.proofs.mostly.Statement.{statement}
 use Rattle.ground.proofs.mostly.Tie as tie
@@ -71,7 +72,7 @@ returns : tie.Need-returns
 returns c =
     let o = c .before .before .before .before .before .before in
     let a = o .args in
-    let p = a .plane .now in
+    let p = a .mask .now in
     let n = c .before .before .before .before .between .result in
     let m : n ≡ a .h - 2 = c .before .before .before .before .between .ensures in
     let e1 : c .before .before .before .count .result ≡ countOn p (linePixels 0 1 (a .w)) = c .before .before .before .count .ensures .0 in

@@ -1,46 +1,63 @@
 -- `ground::reference` meets its contract.
 -- Assumes nothing.
-use Rattle.colour.specs.Colour.{rgbOk}
-use Rattle.outline.specs.Border.{referenceOf}
+use mathlib.Core.Path.{_≡_}
+use mathlib.Core.List.{List}
+use Prim.Native.Nat.{ℕ}
+use native.Mathlib.Omega.{arith}
+use lib.Ieee.{Float}
 use borrow.Author.Needs.{needs}
-use Rattle.ground.proofs.Bits.{three}
+use Rattle.colour.specs.declared.Rgb.{Rgb}
+use Rattle.colour.proofs.Range.{rgb-from}
+use Rattle.outline.specs.Border.{referenceChannel, referenceOf}
+use Rattle.ground.specs.steps.Picture.{Picture}
+use Rattle.ground.proofs.Values.{same-picture}
 use Rattle.ground.proofs.reference.Statement.{statement}
 use Rattle.ground.proofs.reference.Tie as tie
 
-slice-aggregate-channel : tie.Need-slice-aggregate-channel
-slice-aggregate-channel c = search needs
+-- a colour of the three channels' references is the reference
+reference-is : (colours : List Float) (h w : ℕ) (r g b : Float)
+    → r ≡ referenceChannel colours h w 0 → g ≡ referenceChannel colours h w 1 → b ≡ referenceChannel colours h w 2
+    → _≡_ {A = Rgb} (record { r = r; g = g; b = b }) (referenceOf colours h w)
+unfolding referenceOf
+reference-is colours h w r g b p q s = rw (p, q, s)
+
+-- the places after each channel, and the picture with the work buffer there
+abbrev start : tie.After-channel → tie.Start
+start c = c .before .before .before .before
+
+abbrev red : tie.After-channel2 → tie.After-channel
+red c = c .before .before .before .before
+
+abbrev green : tie.After-channel3 → tie.After-channel2
+green c = c .before .before .before .before
+
+picture-1 : (c : tie.After-channel) → let a = start c .args in Picture (a .colours .now) (a .h) (a .w) (c .channel .last .1 .1 .1 .1 .0)
+picture-1 c = same-picture (start c .pre) (c .channel .last .1 .1 .1 .1 .0) (c .channel .kept .1 .1 .1 .1 .0)
+
+picture-2 : (c : tie.After-channel2) → let a = start (red c) .args in Picture (a .colours .now) (a .h) (a .w) (c .channel2 .last .1 .1 .1 .1 .0)
+picture-2 c = same-picture (picture-1 (red c)) (c .channel2 .last .1 .1 .1 .1 .0) (c .channel2 .kept .1 .1 .1 .1 .0)
 
 channel-requires : tie.Need-channel-requires
 channel-requires c κs = search needs
 
-slice-aggregate-channel-2 : tie.Need-slice-aggregate-channel-2
-slice-aggregate-channel-2 c = search needs
-
 channel-requires-2 : tie.Need-channel-requires-2
-channel-requires-2 c κs = search needs
-
-slice-aggregate-channel-3 : tie.Need-slice-aggregate-channel-3
-slice-aggregate-channel-3 c = search needs
+channel-requires-2 c κs = (picture-1 (c .before .before .before), omega arith)
 
 channel-requires-3 : tie.Need-channel-requires-3
-channel-requires-3 c κs = search needs
+channel-requires-3 c κs = (picture-2 (c .before .before .before), omega arith)
+
+same-length : tie.Need-same-length
+same-length c = search needs
 
 returns : tie.Need-returns
-unfolding referenceOf rgbOk
 returns c =
-    let r = c .before .before .before .before .before .before .before .channel .ensures in
-    let g = c .before .before .before .before .channel2 .ensures in
-    let b = c .before .channel3 .ensures in
-    (rw (r .0, g .0, b .0), three _ _ _ (r .1) (g .1) (b .1))
+    let blue : tie.After-channel3 = c .before .before in
+    let b = blue .channel3 .ensures in
+    let g = green blue .channel2 .ensures in
+    let r = red (green blue) .channel .ensures in
+    let a = start (red (green blue)) .args in
+    (reference-is (a .colours .now) (a .h) (a .w) _ _ _ (r .0) (g .0) (b .0), rgb-from _ (r .1) (g .1) (b .1))
 
 pub reference-spec : {M : Type 1} → statement M
 reference-spec =
-    tie.close
-    (tie.spec
-    slice-aggregate-channel
-    channel-requires
-    slice-aggregate-channel-2
-    channel-requires-2
-    slice-aggregate-channel-3
-    channel-requires-3
-    returns)
+    tie.close (tie.spec channel-requires channel-requires-2 channel-requires-3 same-length returns)

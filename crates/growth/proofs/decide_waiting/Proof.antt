@@ -1,42 +1,42 @@
 -- `growth::decide_waiting` meets its contract.
 -- Assumes nothing.
-use mathlib.Core.Path.{_≡_, refl, ap, _∙_}
+use mathlib.Core.Path.{ap, _∙_}
 use mathlib.Core.Bool.{cond}
-use Prim.Native.Nat.{ℕ, _-_, _≤_, _<_}
+use Prim.Native.Nat.{ℕ, _-_, _≤_}
 use native.Mathlib.Omega.{arith}
 use lib.Dec.{eqb}
-use lib.ListN.{length, getD, length-set}
+use lib.ListN.{length, getD}
 use Rattle.plane.specs.Plane.{bit}
-use Rattle.plane.proofs.Plane.{filled, table-is}
-use Rattle.nearest.proofs.InPlace.{untouched}
-use Rattle.growth.specs.Marks.{waits, joinsWith, lastMark}
+use Rattle.plane.proofs.InPlace.{Changed, changed-none, changed-more, changed-end}
+use Rattle.growth.specs.steps.Marks.{joinsWith, waits, lastMark}
 use Rattle.growth.proofs.decide_waiting.Statement.{statement}
 use Rattle.growth.proofs.decide_waiting.Tie as tie
 
 abbrev Inv-loop : tie.InvT-loop
-Inv-loop colours reference near marks₀ i₀ marks i =
-    (i ≤ length marks₀)
-    × (length marks ≡ length marks₀)
-    × ((k : ℕ) → k < i → getD marks k 0 ≡ lastMark colours reference near marks₀ k)
-    × ((k : ℕ) → i ≤ k → getD marks k 0 ≡ getD marks₀ k 0)
+Inv-loop colours reference nearest marks₀ i₀ marks i = (i ≤ length marks₀) × Changed 0 (lastMark colours reference nearest marks₀) marks₀ marks i
 
 abbrev μ-loop : tie.MeasureT-loop
-μ-loop colours reference near marks₀ i₀ marks i = length marks₀ - i
+μ-loop colours reference nearest marks₀ i₀ marks i = length marks₀ - i
 
 loop-holds : tie.Need-loop-holds Inv-loop μ-loop
-loop-holds c = (omega arith, refl, (λ k h. absurd (omega arith)), (λ k h. refl))
+loop-holds c = (omega arith, changed-none 0 _ _)
 
 mul-last-mark : tie.Need-mul-last-mark Inv-loop μ-loop
 mul-last-mark c = omega arith
 
 shared-slice-read-last-mark : tie.Need-shared-slice-read-last-mark Inv-loop μ-loop
-shared-slice-read-last-mark c = omega arith
+shared-slice-read-last-mark c = omega (arith, c .before .before .loop .inv .1 .size)
 
 slice-read-last-mark : tie.Need-slice-read-last-mark Inv-loop μ-loop
 slice-read-last-mark c = omega arith
 
 last-mark-requires : tie.Need-last-mark-requires Inv-loop μ-loop
-last-mark-requires c κs = let l = c .before .before .before .loop in let o = c .before .before .before .before .before .before .before .pre in let t = c .before .before .loop-test .taken in (omega (arith, o .inside (l .i) (omega arith), o .colours-long), omega (arith, o .colours-long))
+last-mark-requires c κs =
+    let l = c .before .before .before .loop in
+    let p = c .before .before .before .before .before .before .before .pre in
+    let t = c .before .before .loop-test .taken in
+    let size = l .inv .1 .size in
+    (omega (arith, p .inside (l .i) (omega arith), p .colours-long), omega (arith, p .colours-long))
 
 slice-write-marks : tie.Need-slice-write-marks Inv-loop μ-loop
 slice-write-marks c = omega arith
@@ -52,22 +52,18 @@ unfolding lastMark
 loop-again c =
     let l = c .before .before .before .before .loop in
     let a = c .before .before .before .before .before .before .before .before .args in
-    let v = c .last-mark .result in
-    let e : v ≡ lastMark (a .colours .now) (a .reference) (a .near .now) (a .marks .now) (l .i) = c .last-mark .ensures ∙ ap (λ (m : ℕ). cond (eqb m waits) (bit (joinsWith (a .colours .now) (a .reference) (getD (a .near .now) (l .i) 0) (l .i))) m) (l .inv .3 (l .i) (omega arith)) in (
-      omega arith,
-      length-set (l .marks) (l .i) v ∙ l .inv .1,
-      filled (lastMark (a .colours .now) (a .reference) (a .near .now) (a .marks .now)) (l .marks) (l .i) v 0 (omega arith) (l .inv .2) e,
-      untouched 0 (a .marks .now) (l .marks) (l .i) v (l .inv .3),
-    )
+    let f = lastMark (a .colours .now) (a .reference) (a .nearest .now) (a .marks .now) in
+    let size = l .inv .1 .size in
+    let e =
+    c .last-mark .ensures
+    ∙ ap (λ (m : ℕ). cond (eqb m waits) (bit (joinsWith (a .colours .now) (a .reference) (getD (a .nearest .now) (l .i) 0) (l .i))) m) (l .inv .1 .back (l .i) (omega arith)) in
+    (omega arith, changed-more 0 f (a .marks .now) (l .marks) (l .i) (c .last-mark .result) (l .inv .1) (omega arith) e)
 
 same-length : tie.Need-same-length Inv-loop μ-loop
-same-length c = c .before .loop .inv .1
+same-length c = c .before .loop .inv .1 .size
 
 returns : tie.Need-returns Inv-loop μ-loop
-returns c =
-    let l = c .before .loop in
-    let a = c .before .before .before .before .before .args in
-    table-is (lastMark (a .colours .now) (a .reference) (a .near .now) (a .marks .now)) (length (a .marks .now)) (l .marks) 0 (l .inv .1) (λ k g. l .inv .2 k (omega arith))
+returns c = let l = c .before .loop in changed-end 0 _ _ (l .marks) (l .i) (l .inv .1) (omega (arith, l .inv .1 .size))
 
 pub decide-waiting-spec : {M : Type 1} → statement M
 decide-waiting-spec =

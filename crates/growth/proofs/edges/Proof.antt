@@ -1,38 +1,40 @@
 -- `growth::edges` meets its contract.
 -- Assumes nothing.
-use mathlib.Core.Path.{_≡_, sym, _∙_}
-use mathlib.Core.Bool.{not, _&&_}
-use Prim.Native.Nat.{ℕ, _-_, _≤_, _<_}
+use mathlib.Core.Path.{_≡_, ap, _∙_}
+use mathlib.Core.Bool.{Bool, not, _&&_}
+use Prim.Native.Nat.{ℕ, _-_, _≤_}
 use native.Mathlib.Omega.{arith}
-use lib.ListN.{length, getD, length-set}
+use lib.Dec.{eqb}
+use lib.ListN.{length, getD}
 use borrow.Author.Needs.{needs}
-use Rattle.plane.specs.Plane.{bit}
-use Rattle.plane.proofs.Plane.{filled, table-is}
-use Rattle.labels.specs.Labels.{isOn}
+use Rattle.plane.specs.Plane.{bit, table}
+use Rattle.plane.specs.Mask.{isOn, maskOf}
+use Rattle.plane.proofs.Mask.{off-byte}
+use Rattle.plane.proofs.InPlace.{Changed, changed-none, changed-more, changed-end}
+use Rattle.growth.specs.steps.Marks.{edgeTest}
 use Rattle.growth.proofs.edges.Statement.{statement}
 use Rattle.growth.proofs.edges.Tie as tie
 
 abbrev Inv-loop : tie.InvT-loop
-Inv-loop some back shallow marks₀ i₀ marks i =
-    (i ≤ length back) × (length marks ≡ length back) × ((k : ℕ) → k < i → getD marks k 0 ≡ bit (some && not (isOn back k) && not (isOn shallow k)))
+Inv-loop some back shallow marks₀ i₀ marks i = (i ≤ length back) × Changed 0 (λ (k : ℕ). bit (edgeTest some back shallow k)) marks₀ marks i
 
 abbrev μ-loop : tie.MeasureT-loop
 μ-loop some back shallow marks₀ i₀ marks i = length back - i
 
 loop-holds : tie.Need-loop-holds Inv-loop μ-loop
-loop-holds c = (omega arith, search needs, λ k h. absurd (omega arith))
+loop-holds c = (omega arith, changed-none 0 _ _)
 
-shared-slice-read-edge : tie.Need-shared-slice-read-edge Inv-loop μ-loop
-shared-slice-read-edge c = omega arith
+shared-slice-read-byte : tie.Need-shared-slice-read-byte Inv-loop μ-loop
+shared-slice-read-byte c = omega arith
 
-shared-slice-read-edge-2 : tie.Need-shared-slice-read-edge-2 Inv-loop μ-loop
-shared-slice-read-edge-2 c = omega arith
+shared-slice-read-byte-2 : tie.Need-shared-slice-read-byte-2 Inv-loop μ-loop
+shared-slice-read-byte-2 c = omega arith
 
-edge-requires : tie.Need-edge-requires Inv-loop μ-loop
-edge-requires c κs = search needs
+byte-requires : tie.Need-byte-requires Inv-loop μ-loop
+byte-requires c κs = search needs
 
 slice-write-marks : tie.Need-slice-write-marks Inv-loop μ-loop
-slice-write-marks c = omega arith
+slice-write-marks c = omega (arith, c .before .before .before .before .loop .inv .1 .size)
 
 add-i : tie.Need-add-i Inv-loop μ-loop
 add-i c = omega arith
@@ -41,24 +43,29 @@ loop-less : tie.Need-loop-less Inv-loop μ-loop
 loop-less c = omega arith
 
 loop-again : tie.Need-loop-again Inv-loop μ-loop
-unfolding isOn
+unfolding edgeTest
 loop-again c =
     let l = c .before .before .before .before .loop in
-    let a = c .before .before .before .before .before .before .before .before .args in
-    let v = c .edge .result in (
-      omega arith,
-      length-set (l .marks) (l .i) v ∙ l .inv .1,
-      filled (λ (k : ℕ). bit (a .some && not (isOn (a .back .now) k) && not (isOn (a .shallow .now) k))) (l .marks) (l .i) v 0 (omega arith) (l .inv .2) (c .edge .ensures),
-    )
+    let o = c .before .before .before .before .before .before .before .before in
+    let a = o .args in
+    let f : ℕ → ℕ = λ (k : ℕ). bit (edgeTest (a .some) (a .back .now) (a .shallow .now) k) in
+    let e : c .byte .result ≡ f (l .i) =
+    c .byte .ensures
+    ∙ ap (λ (t : Bool). bit (a .some && t && eqb (getD (a .shallow .now) (l .i) 0) 0)) (off-byte (a .back .now) (l .i))
+    ∙ ap (λ (t : Bool). bit (a .some && not (isOn (a .back .now) (l .i)) && t)) (off-byte (a .shallow .now) (l .i)) in
+    (omega arith, changed-more 0 f (a .marks .now) (l .marks) (l .i) (c .byte .result) (l .inv .1) (omega (arith, o .pre .1)) e)
 
 same-length : tie.Need-same-length Inv-loop μ-loop
-same-length c = c .before .loop .inv .1 ∙ sym (c .before .before .before .before .before .pre .1)
+same-length c = c .before .loop .inv .1 .size
 
 returns : tie.Need-returns Inv-loop μ-loop
+unfolding maskOf
 returns c =
     let l = c .before .loop in
-    let a = c .before .before .before .before .before .args in
-    table-is (λ (k : ℕ). bit (a .some && not (isOn (a .back .now) k) && not (isOn (a .shallow .now) k))) (length (a .back .now)) (l .marks) 0 (l .inv .1) (λ k g. l .inv .2 k (omega arith))
+    let o = c .before .before .before .before .before in
+    let a = o .args in
+    changed-end 0 _ _ (l .marks) (l .i) (l .inv .1) (omega (arith, o .pre .1))
+    ∙ ap (table (λ (k : ℕ). bit (edgeTest (a .some) (a .back .now) (a .shallow .now) k)) 0) (o .pre .1)
 
 pub edges-spec : {M : Type 1} → statement M
 edges-spec =
@@ -67,9 +74,9 @@ edges-spec =
     Inv-loop
     μ-loop
     loop-holds
-    shared-slice-read-edge
-    shared-slice-read-edge-2
-    edge-requires
+    shared-slice-read-byte
+    shared-slice-read-byte-2
+    byte-requires
     slice-write-marks
     add-i
     loop-less

@@ -1,7 +1,7 @@
 -- `growth::joins_with` meets its contract.
 -- Assumes nothing.
 use borrow.Author.Needs.{needs}
-use Rattle.growth.specs.Marks.{joinsWith}
+use Rattle.growth.specs.steps.Marks.{joinsWith}
 use Rattle.growth.proofs.joins_with.Statement.{statement}
 use Rattle.growth.proofs.joins_with.Tie as tie
 

@@ -4,7 +4,7 @@ use mathlib.Core.Path.{ap, _∙_}
 use Prim.Native.Nat.{ℕ}
 use borrow.Author.Tests.{eq-eqb, ne-eqb}
 use Rattle.plane.specs.Plane.{bit}
-use Rattle.growth.specs.Marks.{joinsWith}
+use Rattle.growth.specs.steps.Marks.{joinsWith}
 use borrow.Author.Needs.{needs}
 use Rattle.growth.proofs.last_mark.Statement.{statement}
 use Rattle.growth.proofs.last_mark.Tie as tie

@@ -1,16 +1,15 @@
 -- `growth::lay` meets its contract.
 -- Assumes nothing.
 use mathlib.Core.Path.{_≡_, ap, _∙_}
-use mathlib.Core.Bool.{Bool, not, _&&_}
+use mathlib.Core.Bool.{Bool}
 use mathlib.Core.List.{List}
 use lib.ListN.{length}
-use Rattle.plane.specs.Plane.{bit, table}
 use Rattle.plane.specs.Search.{someBelow}
-use Rattle.labels.specs.Labels.{isOn}
+use Rattle.plane.specs.Mask.{isOn, maskOf, complementOf}
 use Prim.Native.Nat.{ℕ, _*_}
 use native.Mathlib.Omega.{arith}
-use Rattle.outline.specs.Growth.{isShallow, maskOf}
-use Rattle.growth.specs.Marks.{complementOf}
+use Rattle.outline.specs.Growth.{isShallow}
+use Rattle.growth.specs.steps.Marks.{edgeTest}
 use Rattle.growth.proofs.Laying.{deep-laid, shallow-laid, edge-laid}
 use borrow.Author.Needs.{needs}
 use Rattle.growth.proofs.lay.Statement.{statement}
@@ -55,16 +54,22 @@ returns c =
     let a = o .args in
     let back = a .back .now in
     let n = a .h * a .w in
-    let first : List ℕ = c .before .before .before .before .before .before .before .before .before .complement2 .last .0 in
-    let first-is : first ≡ maskOf n (isShallow back (a .h) (a .w)) = c .before .before .before .before .before .before .before .before .before .complement2 .ensures ∙ ap complementOf (c .before .before .before .before .before .before .before .before .before .before .before .before .before .before .before .dilate2 .ensures .0) ∙ shallow-laid back (a .h) (a .w) (o .pre .0 .some-columns) in
+    let shallow : List ℕ = c .before .before .before .before .before .before .before .before .before .complement2 .last .0 in
+    let shallow-made : shallow ≡ maskOf n (isShallow back (a .h) (a .w)) =
+    c .before .before .before .before .before .before .before .before .before .complement2 .ensures
+    ∙ ap complementOf (c .before .before .before .before .before .before .before .before .before .before .before .before .before .before .before .dilate2 .ensures .0)
+    ∙ shallow-laid back (a .h) (a .w) (o .pre .0 .some-columns) in
     record {
-      shallow = first-is;
-      deep = c .before .before .before .before .before .before .before .before .before .before .before .before .before .before .before .before .before .before .before .before .complement .ensures ∙ ap complementOf (c .before .before .before .before .before .before .before .before .before .before .before .before .before .before .before .before .before .before .before .before .before .before .before .before .before .before .dilate .ensures .0) ∙ deep-laid back (a .h) (a .w) (o .pre .0 .some-columns);
-      edge =
+      shallow-is = shallow-made;
+      deep-is =
+          c .before .before .before .before .before .before .before .before .before .before .before .before .before .before .before .before .before .before .before .before .complement .ensures
+          ∙ ap complementOf (c .before .before .before .before .before .before .before .before .before .before .before .before .before .before .before .before .before .before .before .before .before .before .before .before .before .before .dilate .ensures .0)
+          ∙ deep-laid back (a .h) (a .w) (o .pre .0 .some-columns);
+      marks-are =
           c .before .before .edges .ensures
-          ∙ ap (λ (t : Bool). table (λ (i : ℕ). bit (t && not (isOn back i) && not (isOn first i))) 0 (length back)) (c .before .before .before .before .before .any .ensures)
-          ∙ ap (table (λ (i : ℕ). bit (someBelow (length first) (isOn first) && not (isOn back i) && not (isOn first i))) 0) (o .pre .1 .0)
-          ∙ edge-laid back (a .h) (a .w) (o .pre .0 .some-columns) first first-is;
+          ∙ ap (λ (t : Bool). maskOf (length back) (edgeTest t back shallow)) (c .before .before .before .before .before .any .ensures)
+          ∙ ap (λ (m : ℕ). maskOf m (edgeTest (someBelow (length shallow) (isOn shallow)) back shallow)) (o .pre .1 .0)
+          ∙ edge-laid back (a .h) (a .w) (o .pre .0 .some-columns) shallow shallow-made;
     }
 
 pub lay-spec : {M : Type 1} → statement M

@@ -6,7 +6,7 @@ use Prim.Native.Nat.{ℕ, _/_, _%_}
 use native.Mathlib.Omega.{arith}
 use borrow.Author.Tests.{not-true}
 use Rattle.plane.specs.Plane.{bit}
-use Rattle.growth.specs.Marks.{joinsWith}
+use Rattle.growth.specs.steps.Marks.{joinsWith}
 use Rattle.growth.proofs.Marks.{near-empty, near-waits, near-decides}
 use borrow.Author.Needs.{needs}
 use Rattle.growth.proofs.near_mark.Statement.{statement}

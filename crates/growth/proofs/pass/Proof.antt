@@ -3,7 +3,7 @@
 use mathlib.Core.Path.{_∙_}
 use mathlib.Core.List.{List}
 use Prim.Native.Nat.{ℕ}
-use Rattle.growth.specs.Marks.{Laid}
+use Rattle.growth.specs.steps.Marks.{Laid}
 use Rattle.growth.proofs.Marks.{joins-some, joins-pass}
 use borrow.Author.Needs.{needs}
 use Rattle.growth.proofs.pass.Statement.{statement}
@@ -37,16 +37,16 @@ returns : tie.Need-returns
 returns c =
     let o = c .before .before .before .before .before .before .before .before .before .before .before .before .before .before .before .before .before .before .before .before .before .before .before .before .before .before .before .before .before .before .before in
     let a = o .args in
-    let first : List ℕ = c .before .before .before .before .before .before .before .before .before .before .before .before .before .before .before .before .before .before .before .before .lay .last .1 .1 .1 .0 in
-    let second : List ℕ = c .before .before .before .before .before .before .before .before .before .before .before .before .before .before .before .before .before .before .before .before .lay .last .1 .1 .1 .1 .0 in
-    let third : List ℕ = c .before .before .before .before .before .before .before .before .before .before .before .before .before .before .before .before .before .before .before .before .lay .last .1 .1 .1 .1 .1 .0 in
-    let laid : Laid (a .back .now) (a .h) (a .w) first second third = c .before .before .before .before .before .before .before .before .before .before .before .before .before .before .before .before .before .before .before .before .lay .ensures in
+    let shallow : List ℕ = c .before .before .before .before .before .before .before .before .before .before .before .before .before .before .before .before .before .before .before .before .lay .last .1 .1 .1 .0 in
+    let deep : List ℕ = c .before .before .before .before .before .before .before .before .before .before .before .before .before .before .before .before .before .before .before .before .lay .last .1 .1 .1 .1 .0 in
+    let edges : List ℕ = c .before .before .before .before .before .before .before .before .before .before .before .before .before .before .before .before .before .before .before .before .lay .last .1 .1 .1 .1 .1 .0 in
+    let laid : Laid (a .back .now) (a .h) (a .w) shallow deep edges = c .before .before .before .before .before .before .before .before .before .before .before .before .before .before .before .before .before .before .before .before .lay .ensures in
     let marks : List ℕ = c .before .before .before .before .before .before .before .before .before .decide .last .1 .1 .1 .1 .1 .1 .1 .0 in
     let long = o .pre .1 .back-long in (
       c .before .before .settle .ensures .0
-          ∙ joins-pass (a .colours .now) (a .reference) (a .back .now) (a .h) (a .w) first second third (laid .shallow) (laid .deep) (laid .edge) marks (c .before .before .before .before .before .before .before .before .before .decide .ensures) _ long,
+          ∙ joins-pass (a .colours .now) (a .reference) (a .back .now) (a .h) (a .w) shallow deep edges laid marks (c .before .before .before .before .before .before .before .before .before .decide .ensures) _ long,
       c .before .before .settle .ensures .1
-          ∙ joins-some (a .colours .now) (a .reference) (a .back .now) (a .h) (a .w) first second third (laid .shallow) (laid .deep) (laid .edge) marks (c .before .before .before .before .before .before .before .before .before .decide .ensures) _ long,
+          ∙ joins-some (a .colours .now) (a .reference) (a .back .now) (a .h) (a .w) shallow deep edges laid marks (c .before .before .before .before .before .before .before .before .before .decide .ensures) _ long,
     )
 
 pub pass-spec : {M : Type 1} → statement M

@@ -1,35 +1,29 @@
 -- `growth::settle` meets its contract.
 -- Assumes nothing.
-use mathlib.Core.Path.{_≡_, refl, sym, ap, _∙_}
-use mathlib.Core.Bool.{Bool, _||_}
-use Prim.Native.Nat.{ℕ, _-_, _≤_, _<_}
+use mathlib.Core.Path.{_≡_, refl, ap, _∙_}
+use mathlib.Core.Bool.{_||_}
+use Prim.Native.Nat.{ℕ, _-_, _≤_}
 use native.Mathlib.Omega.{arith}
-use lib.ListN.{length, getD, length-set}
+use lib.ListN.{length}
 use borrow.Author.Needs.{needs}
 use Rattle.plane.specs.Plane.{on, bit}
 use Rattle.plane.specs.Search.{someBelow}
-use Rattle.plane.proofs.Plane.{filled, table-is}
-use Rattle.labels.specs.Labels.{isOn}
-use Rattle.nearest.proofs.InPlace.{untouched}
-use Rattle.outline.specs.Growth.{maskOf}
-use Rattle.growth.proofs.Bytes.{some-more}
+use Rattle.plane.specs.Mask.{isOn, maskOf}
+use Rattle.plane.proofs.Search.{some-more}
+use Rattle.plane.proofs.InPlace.{Changed, changed-none, changed-more, changed-end}
 use Rattle.growth.proofs.settle.Statement.{statement}
 use Rattle.growth.proofs.settle.Tie as tie
 
 abbrev Inv-loop : tie.InvT-loop
 Inv-loop marks back₀ joined₀ i₀ back joined i =
-    (i ≤ length back₀)
-    × (length back ≡ length back₀)
-    × ((k : ℕ) → k < i → getD back k 0 ≡ bit (isOn back₀ k || isOn marks k))
-    × ((k : ℕ) → i ≤ k → getD back k 0 ≡ getD back₀ k 0)
-    × (joined ≡ someBelow i (isOn marks))
+    (i ≤ length back₀) × Changed 0 (λ (k : ℕ). bit (isOn back₀ k || isOn marks k)) back₀ back i × (joined ≡ someBelow i (isOn marks))
 
 abbrev μ-loop : tie.MeasureT-loop
 μ-loop marks back₀ joined₀ i₀ back joined i = length back₀ - i
 
 loop-holds : tie.Need-loop-holds Inv-loop μ-loop
 unfolding someBelow
-loop-holds c = (omega arith, refl, (λ k h. absurd (omega arith)), (λ k h. refl), refl)
+loop-holds c = (omega arith, changed-none 0 _ _, refl)
 
 shared-slice-read-m : tie.Need-shared-slice-read-m Inv-loop μ-loop
 shared-slice-read-m c = omega arith
@@ -54,17 +48,15 @@ unfolding isOn on
 loop-again c =
     let l = c .before .before .before .before .loop in
     let a = c .before .before .before .before .before .before .before .args in
-    let v = c .byte .result in
-    let e : v ≡ bit (isOn (a .back .now) (l .i) || isOn (a .marks .now) (l .i)) = c .byte .ensures ∙ ap (λ (b : ℕ). bit (on b || isOn (a .marks .now) (l .i))) (l .inv .3 (l .i) (omega arith)) in (
+    let f : ℕ → ℕ = λ (k : ℕ). bit (isOn (a .back .now) k || isOn (a .marks .now) k) in
+    let e = c .byte .ensures ∙ ap (λ (b : ℕ). bit (on b || isOn (a .marks .now) (l .i))) (l .inv .1 .back (l .i) (omega arith)) in (
       omega arith,
-      length-set (l .back) (l .i) v ∙ l .inv .1,
-      filled (λ (k : ℕ). bit (isOn (a .back .now) k || isOn (a .marks .now) k)) (l .back) (l .i) v 0 (omega arith) (l .inv .2) e,
-      untouched 0 (a .back .now) (l .back) (l .i) v (l .inv .3),
-      ap (λ (t : Bool). t || isOn (a .marks .now) (l .i)) (l .inv .4) ∙ sym (some-more (l .i) (isOn (a .marks .now))),
+      changed-more 0 f (a .back .now) (l .back) (l .i) (c .byte .result) (l .inv .1) (omega arith) e,
+      some-more (isOn (a .marks .now)) (l .i) (l .joined) (isOn (a .marks .now) (l .i)) (l .inv .2) refl,
     )
 
 same-length : tie.Need-same-length Inv-loop μ-loop
-same-length c = c .before .loop .inv .1
+same-length c = c .before .loop .inv .1 .size
 
 returns : tie.Need-returns Inv-loop μ-loop
 unfolding maskOf
@@ -72,7 +64,7 @@ returns c =
     let l = c .before .loop in
     let a = c .before .before .before .before .args in
     let e : l .i ≡ length (a .back .now) = omega arith in
-    (table-is (λ (k : ℕ). bit (isOn (a .back .now) k || isOn (a .marks .now) k)) (length (a .back .now)) (l .back) 0 (l .inv .1) (λ k g. l .inv .2 k (omega arith)), l .inv .4 ∙ ap (λ (n : ℕ). someBelow n (isOn (a .marks .now))) e)
+    (changed-end 0 _ _ (l .back) (l .i) (l .inv .1) (omega arith), l .inv .2 ∙ ap (λ (n : ℕ). someBelow n (isOn (a .marks .now))) e)
 
 pub settle-spec : {M : Type 1} → statement M
 settle-spec =

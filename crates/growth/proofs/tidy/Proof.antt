@@ -1,30 +1,24 @@
 -- `growth::tidy` meets its contract.
 -- Assumes nothing.
-use mathlib.Core.Path.{_≡_, refl, ap, _∙_}
-use Prim.Native.Nat.{ℕ, _-_, _≤_, _<_}
+use mathlib.Core.Path.{ap, _∙_}
+use Prim.Native.Nat.{ℕ, _-_, _≤_}
 use native.Mathlib.Omega.{arith}
-use lib.ListN.{length, getD, length-set}
+use lib.ListN.{length}
 use borrow.Author.Needs.{needs}
 use Rattle.plane.specs.Plane.{on, bit}
-use Rattle.plane.proofs.Plane.{filled, table-is}
-use Rattle.labels.specs.Labels.{isOn}
-use Rattle.nearest.proofs.InPlace.{untouched}
-use Rattle.outline.specs.Growth.{maskOf}
+use Rattle.plane.specs.Mask.{isOn, maskOf}
+use Rattle.plane.proofs.InPlace.{Changed, changed-none, changed-more, changed-end}
 use Rattle.growth.proofs.tidy.Statement.{statement}
 use Rattle.growth.proofs.tidy.Tie as tie
 
 abbrev Inv-loop : tie.InvT-loop
-Inv-loop back₀ i₀ back i =
-    (i ≤ length back₀)
-    × (length back ≡ length back₀)
-    × ((k : ℕ) → k < i → getD back k 0 ≡ bit (isOn back₀ k))
-    × ((k : ℕ) → i ≤ k → getD back k 0 ≡ getD back₀ k 0)
+Inv-loop back₀ i₀ back i = (i ≤ length back₀) × Changed 0 (λ (k : ℕ). bit (isOn back₀ k)) back₀ back i
 
 abbrev μ-loop : tie.MeasureT-loop
 μ-loop back₀ i₀ back i = length back₀ - i
 
 loop-holds : tie.Need-loop-holds Inv-loop μ-loop
-loop-holds c = (omega arith, refl, (λ k h. absurd (omega arith)), (λ k h. refl))
+loop-holds c = (omega arith, changed-none 0 _ _)
 
 slice-read-byte : tie.Need-slice-read-byte Inv-loop μ-loop
 slice-read-byte c = omega arith
@@ -46,23 +40,15 @@ unfolding isOn on
 loop-again c =
     let l = c .before .before .before .loop in
     let a = c .before .before .before .before .before .args in
-    let v = c .byte .result in
-    let e : v ≡ bit (isOn (a .back .now) (l .i)) = c .byte .ensures ∙ ap (λ (b : ℕ). bit (on b)) (l .inv .3 (l .i) (omega arith)) in (
-      omega arith,
-      length-set (l .back) (l .i) v ∙ l .inv .1,
-      filled (λ (k : ℕ). bit (isOn (a .back .now) k)) (l .back) (l .i) v 0 (omega arith) (l .inv .2) e,
-      untouched 0 (a .back .now) (l .back) (l .i) v (l .inv .3),
-    )
+    let e = c .byte .ensures ∙ ap (λ (b : ℕ). bit (on b)) (l .inv .1 .back (l .i) (omega arith)) in
+    (omega arith, changed-more 0 (λ (k : ℕ). bit (isOn (a .back .now) k)) (a .back .now) (l .back) (l .i) (c .byte .result) (l .inv .1) (omega arith) e)
 
 same-length : tie.Need-same-length Inv-loop μ-loop
-same-length c = c .before .loop .inv .1
+same-length c = c .before .loop .inv .1 .size
 
 returns : tie.Need-returns Inv-loop μ-loop
 unfolding maskOf
-returns c =
-    let l = c .before .loop in
-    let a = c .before .before .before .args in
-    table-is (λ (k : ℕ). bit (isOn (a .back .now) k)) (length (a .back .now)) (l .back) 0 (l .inv .1) (λ k g. l .inv .2 k (omega arith))
+returns c = let l = c .before .loop in changed-end 0 _ _ (l .back) (l .i) (l .inv .1) (omega arith)
 
 pub tidy-spec : {M : Type 1} → statement M
 tidy-spec =

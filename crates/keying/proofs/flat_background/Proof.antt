@@ -1,35 +1,34 @@
 -- `keying::flat_background` meets its contract.
 -- Assumes nothing.
-use mathlib.Core.Path.{_≡_, refl, sym, _∙_}
-use lib.ListN.{length}
+use mathlib.Core.Path.{_≡_, refl, sym, ap, _∙_}
+use Prim.Native.Nat.{ℕ}
 use borrow.Author.Needs.{needs}
-use denote.Ref.{now}
-use Rattle.geometry.proofs.Accepted.{written, kept}
-use Rattle.keying.proofs.Grounds.{ground-ok, refused-is, found-is, absent-is}
+use Rattle.plane.proofs.Refusal.{written, kept}
+use Rattle.outline.specs.Answer.{groundFor}
+use Rattle.outline.specs.Border.{referenceOf}
+use Rattle.outline.specs.declared.Ground.the-variants as ground
+use Rattle.keying.proofs.Accepted.{ground-declined, ground-ok}
 use Rattle.keying.proofs.flat_background.Statement.{statement}
 use Rattle.keying.proofs.flat_background.Tie as tie
 
-ground-number-requires : tie.Need-ground-number-requires
-ground-number-requires c κs = search needs
+ground-refusal-requires : tie.Need-ground-refusal-requires
+ground-refusal-requires c κs = search needs
 
 returns : tie.Need-returns
 returns c =
-    let a = c .before .before .before .before .before .args in
-    let n = c .before .ground-number in
+    let n = c .before .ground-refusal in
     let t = c .if1 .taken in
-    rw (← n .ensures) (refused-is (a .colours .now) (a .h) (a .w) (a .tolerance) (n .result) t, (sym (kept (n .result) _ _ t), λ _. refl))
+    record {
+      answer = ap ground.Refused (n .ensures) ∙ ground-declined _ _ _ _ _ _ (λ q. t (n .ensures ∙ q));
+      out-is = sym (kept _ _ _ (λ q. t (n .ensures ∙ q)));
+      kept = λ _. refl;
+    }
 
 flat-ground-requires : tie.Need-flat-ground-requires
 flat-ground-requires c κs =
-    let a = c .before .before .before .before .before .before .before .args in
-    let k = ground-ok (a .colours .now) (a .h) (a .w) (a .tolerance) (length (now (a .out))) (length (now (a .stack))) (sym (c .before .before .before .ground-number .ensures) ∙ c .before .before .if1 .left) in
-    record { picture = k .picture; output = k .output; room = k .room }
-
-enum-known-answer : tie.Need-enum-known-answer
-enum-known-answer c = search needs
-
-enum-told : tie.Need-enum-told
-enum-told c = search needs
+    let accepted = c .before .before in
+    let k = ground-ok _ _ _ _ _ _ (sym (accepted .before .ground-refusal .ensures) ∙ accepted .if1 .left) in
+    record { picture = record { sides = k .sides; input = k .input; range = k .range; room = k .room }; output = k .output }
 
 same-length : tie.Need-same-length
 same-length c = search needs
@@ -39,44 +38,16 @@ same-length-2 c = search needs
 
 returns-2 : tie.Need-returns-2
 returns-2 c =
-    let a = c .before .before .before .before .before .before .before .before .before .before .before .before .before .before .args in
-    let n = c .before .before .before .before .before .before .before .before .before .before .ground-number in
-    let z : n .result ≡ 0 = c .before .before .before .before .before .before .before .before .before .if1 .left in
-    let call = c .before .before .before .before .before .before .flat-ground in
-    rw (← n .ensures) (
-      absent-is (a .colours .now) (a .h) (a .w) (a .tolerance) (n .result) (call .result) z (call .ensures .0) (c .before .match .keys2),
-      (call .ensures .1 ∙ sym (written (n .result) _ _ z), λ no. absurd (no z)),
-    )
-
-same-length-3 : tie.Need-same-length-3
-same-length-3 c = search needs
-
-same-length-4 : tie.Need-same-length-4
-same-length-4 c = search needs
-
-returns-3 : tie.Need-returns-3
-returns-3 c =
-    let a = c .before .before .before .before .before .before .before .before .before .before .before .before .before .before .before .args in
-    let n = c .before .before .before .before .before .before .before .before .before .before .before .ground-number in
-    let z : n .result ≡ 0 = c .before .before .before .before .before .before .before .before .before .before .if1 .left in
-    let call = c .before .before .before .before .before .before .before .flat-ground in
-    rw (← n .ensures) (
-      found-is (a .colours .now) (a .h) (a .w) (a .tolerance) (n .result) _ z (sym (call .ensures .0) ∙ c .before .answer .given .1),
-      (call .ensures .1 ∙ sym (written (n .result) _ _ z), λ no. absurd (no z)),
-    )
+    let a = c .before .before .before .before .before .before .before .before .before .before .before .before .args in
+    let accepted = c .before .before .before .before .before .before .before in
+    let n = accepted .before .ground-refusal in
+    let z = sym (n .ensures) ∙ accepted .if1 .left in
+    let call = c .before .before .before .before .flat-ground in
+    record {
+      answer = call .ensures .0 ∙ ap (λ (k : ℕ). groundFor k (a .colours .now) (a .h) (a .w) (referenceOf (a .colours .now) (a .h) (a .w)) (a .tolerance)) (sym z);
+      out-is = call .ensures .1 ∙ sym (written _ _ _ z);
+      kept = λ bad. absurd (bad z);
+    }
 
 pub flat-background-spec : {M : Type 1} → statement M
-flat-background-spec =
-    tie.close
-    (tie.spec
-    ground-number-requires
-    returns
-    flat-ground-requires
-    enum-known-answer
-    enum-told
-    same-length
-    same-length-2
-    returns-2
-    same-length-3
-    same-length-4
-    returns-3)
+flat-background-spec = tie.close (tie.spec ground-refusal-requires returns flat-ground-requires same-length same-length-2 returns-2)

@@ -9,10 +9,10 @@ use types.Run.{OneOf}
 use denote.Enum.Declared.{tagOf}
 use borrow.Author.Needs.{needs}
 use Rattle.colour.specs.declared.Rgb.{Rgb}
-use Rattle.keying.specs.declared.Ground.{Ground}
-use Rattle.keying.specs.declared.Ground.the-variants.{Found, Absent, Refused}
-use Rattle.keying.specs.Answer.{groundReference}
-use Rattle.keying.proofs.Ground as ground
+use Rattle.outline.specs.declared.Ground.{Ground}
+use Rattle.outline.specs.declared.Ground.the-variants.{Found, Absent, Refused}
+use Rattle.outline.specs.Answer.{groundReference}
+use Rattle.outline.proofs.Ground as ground
 use Rattle.keying.proofs.ground_reference.Statement.{statement}
 use Rattle.keying.proofs.ground_reference.Tie as tie
 

@@ -1,59 +1,106 @@
 -- `keying::subject` meets its contract.
 -- Assumes nothing.
-use mathlib.Core.Path.{_≡_, refl, sym, _∙_}
+use mathlib.Core.Path.{_≡_, sym, ap, _∙_}
 use Prim.Native.Nat.{_*_}
 use lib.ListN.{length}
-use denote.Ref.{now}
-use Rattle.geometry.proofs.Accepted.{written, kept}
-use Rattle.outline.specs.Cut.{cutMask, weightsOf}
-use Rattle.keying.proofs.Cuts.{CutOk, cut-ok, cut-declined, cut-done}
 use borrow.Author.Needs.{needs}
+use Rattle.plane.specs.Plane.{Sides}
+use Rattle.colour.proofs.Range.{is}
+use Rattle.outline.specs.Calls.{Buffers, refusalIn, HeldIn}
+use Rattle.outline.specs.Cut.{weightsOf}
+use Rattle.outline.proofs.CutLaws.{Taken, taken}
+use Rattle.keying.proofs.Accepted.{cut-refused, cut-made}
 use Rattle.keying.proofs.subject.Statement.{statement}
 use Rattle.keying.proofs.subject.Tie as tie
 
-cut-number-requires : tie.Need-cut-number-requires
-cut-number-requires c κs = search needs
+cut-refusal-requires : tie.Need-cut-refusal-requires
+cut-refusal-requires c κs = search needs
+
+-- what is known once the number is
+module _ (c : tie.After-cut-refusal) where
+  abbrev known-colours : tie.After-shared-slice-known
+  known-colours = c .before .before .before .before .before .before .before .before
+
+  abbrev start : tie.Start
+  start = known-colours .before
+
+  abbrev lent : Buffers
+  lent =
+      record {
+        mask = start .args .mask .now;
+        weights = start .args .weights .now;
+        nearest = start .args .nearest .now;
+        shallow = start .args .shallow .now;
+        deep = start .args .deep .now;
+        marks = start .args .marks .now;
+      }
+
+  -- every f64 in memory is a binary64 number
+  held : HeldIn (start .args .colours .now) (start .args .s)
+  held =
+      record {
+        picture = λ i l. known-colours .shared-slice-known .given i;
+        tolerance = is _ (start .good .1 .1 .1 .1 .0 .1 .1 .1 .1 .1 .0 .1);
+      }
+
+  accepted : c .cut-refusal .result ≡ 0
+      → refusalIn (start .args .colours .now) (start .args .alpha .now) (start .args .h) (start .args .w) (start .args .s) lent ≡ 0
+  accepted z = sym (c .cut-refusal .ensures) ∙ z
+
+  room : c .cut-refusal .result ≡ 0
+      → Taken (start .args .colours .now) (start .args .alpha .now) (start .args .h) (start .args .w) (start .args .s) lent
+  room z = taken _ _ _ _ _ lent (accepted z)
 
 returns : tie.Need-returns
 returns c =
-    let a = c .before .before .before .before .before .before .before .before .before .before .args in
-    let n = c .before .cut-number in
-    let t = c .if1 .taken in
-    rw (← n .ensures) (
-      cut-declined (a .colours .now) (a .alpha .now) (a .h) (a .w) (a .s) (n .result) t,
-      (sym (kept (n .result) _ _ t), (sym (kept (n .result) _ _ t), λ _. (refl, refl, refl, refl))),
-    )
-
--- what the number says
-fits : (c : tie.Else1) → let a = c .before .before .before .before .before .before .before .before .before .before .args in CutOk (a .colours .now) (a .alpha .now) (a .h) (a .w) (length (now (a .mask))) (length (now (a .weights))) (length (now (a .near))) (length (now (a .first))) (length (now (a .second))) (length (now (a .third)))
-fits c = let a = c .before .before .before .before .before .before .before .before .before .before .args in cut-ok (a .colours .now) (a .alpha .now) (a .h) (a .w) (a .s) (length (now (a .mask))) (length (now (a .weights))) (length (now (a .near))) (length (now (a .first))) (length (now (a .second))) (length (now (a .third))) (sym (c .before .cut-number .ensures) ∙ c .if1 .left)
+    let n = c .before in
+    let a = start n .args in
+    cut-refused (a .colours .now) (a .alpha .now) (a .h) (a .w) (a .s) (lent n) _ (n .cut-refusal .ensures) (c .if1 .taken) (held n)
 
 cut-mask-requires : tie.Need-cut-mask-requires
 cut-mask-requires c κs =
-    let k = fits (c .before .before .before .before .before) in (
-      record {
-        sides = k .sides;
-        colours-long = k .colours-long;
-        range = k .range;
-        mask-long = k .mask-long;
-        near-long = k .near-long;
-        first-long = k .first-long;
-        second-long = k .second-long;
-        third-long = k .third-long;
-      },
-      k .alpha-long,
-    )
+    let e = c .before .before .before .before .before in
+    let k = room (e .before) (e .if1 .left) in
+    (record {
+      sides = k .sides;
+      colours-long = k .colours-long;
+      range = k .range;
+      mask-long = k .mask-long;
+      nearest-long = k .nearest-long;
+      shallow-long = k .shallow-long;
+      deep-long = k .deep-long;
+      marks-long = k .marks-long;
+    }, k .alpha-long)
+
+-- once the mask is made, the number is known to be 0
+module _ (c : tie.After-cut-mask) where
+  abbrev else1 : tie.Else1
+  else1 = c .before .before .before .before .before .before
+
+  abbrev number : tie.After-cut-refusal
+  number = else1 .before
+
+  mask-long : length (c .cut-mask .last .1 .1 .1 .1 .1 .1 .1 .1 .1 .0) ≡ start number .args .h * start number .args .w
+  mask-long = c .cut-mask .kept .1 .1 .1 .1 .1 .1 .1 .1 .1 .0 ∙ room number (else1 .if1 .left) .mask-long
+
+  weights-long : length (start number .args .weights .now) ≡ start number .args .h * start number .args .w
+  weights-long = room number (else1 .if1 .left) .weights-long
+
+  alpha-long : length (start number .args .alpha .now) ≡ start number .args .h * start number .args .w
+  alpha-long = room number (else1 .if1 .left) .alpha-long
+
+abbrev made : tie.After-weights-arg2 → tie.After-cut-mask
+made c = c .before .before .before .before .before .before .before .before .before .before .before .before
 
 weights-requires : tie.Need-weights-requires
 weights-requires c κs =
-    let k = fits (c .before .before .before .before .before .before .before .before .before .before .before .before .before .before .before .before .before .before) in
-    let e = c .before .before .before .before .before .before .before .before .before .before .before .before .cut-mask .kept .1 .1 .1 .1 .1 .1 .1 .1 .1 .0 in
-    (e ∙ k .mask-long ∙ sym (k .weights-long), k .alpha-long ∙ sym (k .weights-long))
+    let m = made c in
+    (mask-long m ∙ sym (weights-long m), alpha-long m ∙ sym (weights-long m))
 
 crop-of-requires : tie.Need-crop-of-requires
 crop-of-requires c κs =
-    let k = fits (c .before .before .before .before .before .before .before .before .before .before .before .before .before .before .before .before .before .before .before .before .before .before) in
-    record { sides = k .sides; size = c .before .before .before .before .before .before .before .before .before .before .before .before .before .before .before .before .cut-mask .kept .1 .1 .1 .1 .1 .1 .1 .1 .1 .0 ∙ k .mask-long }
+    let m = made (c .before .before .before .before) in
+    (room (number m) (else1 m .if1 .left) .sides, mask-long m)
 
 same-length : tie.Need-same-length
 same-length c = search needs
@@ -75,24 +122,18 @@ same-length-6 c = search needs
 
 returns-2 : tie.Need-returns-2
 returns-2 c =
-    let a = c .before .before .before .before .before .before .before .before .before .before .before .before .before .before .before .before .before .before .before .before .before .before .before .before .before .before .before .before .before .before .before .before .before .args in
-    let n = c .before .before .before .before .before .before .before .before .before .before .before .before .before .before .before .before .before .before .before .before .before .before .before .before .cut-number in
-    let z : n .result ≡ 0 = c .before .before .before .before .before .before .before .before .before .before .before .before .before .before .before .before .before .before .before .before .before .before .before .if1 .left in
-    let k = fits (c .before .before .before .before .before .before .before .before .before .before .before .before .before .before .before .before .before .before .before .before .before .before .before) in
-    let m = c .before .before .before .before .before .before .before .before .before .before .before .before .before .before .before .before .before .cut-mask .ensures in
-    let v = c .before .before .before .before .weights .ensures in
-    let w : c .before .before .before .before .weights .last .1 .1 .0 ≡ weightsOf (cutMask (a .colours .now) (a .alpha .now) (a .h) (a .w) (a .s)) (a .alpha .now) (a .h * a .w) = v ∙ rw (m .1, k .weights-long) in
-    let x = c .crop-of .ensures in
-    rw (← n .ensures) (
-      cut-done (a .colours .now) (a .alpha .now) (a .h) (a .w) (a .s) (n .result) z _ _ (m .0) (rw (m .1) at x),
-      (m .1 ∙ sym (written (n .result) _ _ z), (w ∙ sym (written (n .result) _ _ z), λ no. absurd (no z))),
-    )
+    let w = c .before .before .before .before in
+    let m = made (w .before) in
+    let n = number m in
+    let a = start n .args in
+    cut-made (a .colours .now) (a .alpha .now) (a .h) (a .w) (a .s) (lent n) _ _ _ (accepted n (else1 m .if1 .left)) (m .cut-mask .ensures .0) (m .cut-mask .ensures .1)
+    (w .weights .ensures ∙ ap (weightsOf _ _) (weights-long m)) (c .crop-of .ensures) (held n)
 
 pub subject-spec : {M : Type 1} → statement M
 subject-spec =
     tie.close
     (tie.spec
-    cut-number-requires
+    cut-refusal-requires
     returns
     cut-mask-requires
     weights-requires

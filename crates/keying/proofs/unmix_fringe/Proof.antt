@@ -1,46 +1,70 @@
 -- `keying::unmix_fringe` meets its contract.
 -- Assumes nothing.
-use mathlib.Core.Path.{_≡_, refl, sym, ap, _∙_}
-use mir.Syntax.{w64}
-use mir.Facts.{toZ-ofZ}
-use Rattle.colour.specs.Settings.{atLeastZero}
-use lib.ListN.{length}
-use denote.Ref.{now}
-use Rattle.geometry.proofs.Accepted.{done, declined, written, kept}
-use Rattle.keying.proofs.Cuts.{GrowthOk, growth-ok}
+use mathlib.Core.Path.{_≡_, sym, ap, _∙_}
 use borrow.Author.Needs.{needs}
+use mir.Syntax.{w64}
+use mir.Val.{toZ, ofZ}
+use mir.Facts.{toZ-ofZ}
+use native.Mathlib.Omega.{arith}
+use Rattle.plane.proofs.Refusal.{three-lines}
+use Rattle.colour.specs.Settings.{atLeastZero}
+use Rattle.keying.specs.Calls.{GrowthBuffers, growthRefusalIn}
+use Rattle.keying.proofs.Accepted.{GrowthOk, growth-ok, growth-refused, growth-made}
 use Rattle.keying.proofs.unmix_fringe.Statement.{statement}
 use Rattle.keying.proofs.unmix_fringe.Tie as tie
 
-growth-number-requires : tie.Need-growth-number-requires
-growth-number-requires c κs = search needs
+growth-refusal-requires : tie.Need-growth-refusal-requires
+growth-refusal-requires c κs = search needs
+
+-- what is known once the number is
+module _ (c : tie.After-growth-refusal) where
+  abbrev start : tie.Start
+  start = c .before .before .before .before .before .before .before .before
+
+  abbrev lent : GrowthBuffers
+  lent =
+      record {
+        out = start .args .out .now;
+        nearest = start .args .nearest .now;
+        shallow = start .args .shallow .now;
+        deep = start .args .deep .now;
+        marks = start .args .marks .now;
+      }
+
+  accepted : c .growth-refusal .result ≡ 0
+      → growthRefusalIn (start .args .colours .now) (start .args .background .now) (start .args .h) (start .args .w) (start .args .reference) lent ≡ 0
+  accepted z = sym (c .growth-refusal .ensures) ∙ z
+
+  room : c .growth-refusal .result ≡ 0 → GrowthOk (start .args .colours .now) (start .args .background .now) (start .args .h) (start .args .w) lent
+  room z = growth-ok _ _ _ _ (start .args .reference) lent (accepted z)
 
 returns : tie.Need-returns
 returns c =
-    let n = c .before .growth-number in
-    let t = c .if1 .taken in
-    rw (← n .ensures) (declined (n .result) t, (sym (kept (n .result) _ _ t), λ _. (refl, refl, refl, refl)))
-
--- what the number says
-fits : (c : tie.Else1) → let a = c .before .before .before .before .before .before .before .before .before .args in GrowthOk (a .colours .now) (length (now (a .background))) (a .h) (a .w) (length (now (a .out))) (length (now (a .near))) (length (now (a .first))) (length (now (a .second))) (length (now (a .third)))
-fits c = let a = c .before .before .before .before .before .before .before .before .before .args in growth-ok (a .colours .now) (length (now (a .background))) (a .h) (a .w) (a .reference) (length (now (a .out))) (length (now (a .near))) (length (now (a .first))) (length (now (a .second))) (length (now (a .third))) (sym (c .before .growth-number .ensures) ∙ c .if1 .left)
+    let n = c .before in
+    let a = start n .args in
+    growth-refused (a .colours .now) (a .background .now) (a .h) (a .w) (a .reference) (a .p) (lent n) _ (n .growth-refusal .ensures) (c .if1 .taken)
 
 copy-requires : tie.Need-copy-requires
-copy-requires c κs = let k = fits (c .before) in k .back-long ∙ sym (k .out-long)
+copy-requires c κs =
+    let e = c .before in
+    let k = room (e .before) (e .if1 .left) in
+    k .back-long ∙ sym (k .out-long)
 
 count-of-requires : tie.Need-count-of-requires
 count-of-requires c κs = search needs
 
 grow-requires : tie.Need-grow-requires
 grow-requires c κs =
-    let k = fits (c .before .before .before .before .before .before .before .before .before .before) in
+    let copied = c .before .before .before .before .before .before .before .before in
+    let e = copied .before .before in
+    let k = room (e .before) (e .if1 .left) in
     record {
       picture = record { sides = k .sides; colours-long = k .colours-long };
-      back-long = c .before .before .before .before .before .before .before .before .copy .kept .1 .0 ∙ k .out-long;
-      near-long = k .near-long;
-      first-long = k .first-long;
-      second-long = k .second-long;
-      third-long = k .third-long;
+      nearest-long = three-lines _ _ _ (k .sides) (k .nearest-long);
+      shallow-long = omega (arith, k .shallow-long);
+      deep-long = omega (arith, k .deep-long);
+      marks-long = omega (arith, k .marks-long);
+      back-long = copied .copy .kept .1 .0 ∙ k .out-long;
     }
 
 same-length : tie.Need-same-length
@@ -60,18 +84,20 @@ same-length-5 c = search needs
 
 returns-2 : tie.Need-returns-2
 returns-2 c =
-    let n = c .before .before .before .before .before .before .before .before .before .before .before .before .before .before .before .before .before .before .before .before .before .before .growth-number in
-    let z : n .result ≡ 0 = c .before .before .before .before .before .before .before .before .before .before .before .before .before .before .before .before .before .before .before .before .before .if1 .left in
-    let o = c .before .before .before .before .before .before .before .before .before .before .before .before .before .before .before .before .before .before .before .before .before .before .before .before .before .before .before .before .before .before in
-    let p : c .before .before .before .before .before .before .before .before .before .before .before .before .before .before .before .before .count-of .result ≡ atLeastZero (o .args .p) = c .before .before .before .before .before .before .before .before .before .before .before .before .before .before .before .before .count-of .ensures ∙ ap atLeastZero (toZ-ofZ {w = w64} {z = o .args .p} (o .fits .p)) in
-    let e = c .before .before .before .before .before .before .before .before .before .before .grow .ensures in
-    rw (← n .ensures) (done (n .result) z, (e ∙ rw (c .before .before .before .before .before .before .before .before .before .before .before .before .before .before .before .before .before .before .before .copy .ensures, p) (sym (written (n .result) _ _ z)), λ no. absurd (no z)))
+    let grown = c .before .before .before .before .before .before .before .before .before .before in
+    let counted = grown .before .before .before .before .before .before in
+    let copied = counted .before .before .before in
+    let e = copied .before .before in
+    let a = start (e .before) .args in
+    let t : toZ w64 (ofZ w64 (a .p)) ≡ a .p = toZ-ofZ {w = w64} {z = a .p} (start (e .before) .fits .p) in
+    growth-made (a .colours .now) (a .background .now) (a .h) (a .w) (a .reference) (a .p) (lent (e .before)) _ _ _
+    (accepted (e .before) (e .if1 .left)) (counted .count-of .ensures ∙ ap atLeastZero t) (copied .copy .ensures) (grown .grow .ensures)
 
 pub unmix-fringe-spec : {M : Type 1} → statement M
 unmix-fringe-spec =
     tie.close
     (tie.spec
-    growth-number-requires
+    growth-refusal-requires
     returns
     copy-requires
     count-of-requires

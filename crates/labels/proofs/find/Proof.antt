@@ -4,7 +4,7 @@ use mathlib.Core.Path.{_≡_, refl, sym, ap, _∙_}
 use Prim.Native.Nat.{ℕ, _≤_}
 use native.Mathlib.Omega.{arith}
 use lib.ListN.{length, getD, set}
-use Rattle.labels.specs.Trees.{Forest}
+use Rattle.labels.specs.steps.Trees.{Forest}
 use Rattle.labels.proofs.Forests.{parent-most, grandparent, halved}
 use Rattle.labels.proofs.find.Statement.{statement}
 use Rattle.labels.proofs.find.Tie as tie

@@ -6,7 +6,7 @@ use Prim.Native.Nat.{_+_, _-_, _≤_}
 use native.Mathlib.Omega.{arith}
 use lib.Dec.{eqb}
 use lib.ListN.{getD, set}
-use Rattle.labels.specs.Trees.{Numbered}
+use Rattle.labels.specs.steps.Trees.{Numbered}
 use Rattle.labels.proofs.Numbers.{count-few, none-numbered, one-numbered}
 use Rattle.labels.proofs.flatten.Statement.{statement}
 use Rattle.labels.proofs.flatten.Tie as tie

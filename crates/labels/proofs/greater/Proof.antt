@@ -1,7 +1,7 @@
 -- `labels::greater` meets its contract.
 -- Assumes nothing.
 use borrow.Author.Tests.{lt-ltb, le-ltb}
-use Rattle.labels.specs.Trees.{larger}
+use Rattle.labels.specs.steps.Trees.{larger}
 use Rattle.labels.proofs.greater.Statement.{statement}
 use Rattle.labels.proofs.greater.Tie as tie
 

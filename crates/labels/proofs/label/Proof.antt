@@ -4,8 +4,7 @@ use mathlib.Core.Path.{_∙_}
 use Prim.Native.Nat.{_+_, _*_}
 use native.Mathlib.Omega.{arith}
 use borrow.Author.Needs.{needs}
-use Rattle.plane.proofs.Plane.{area-most}
-use Rattle.labels.specs.Trees.{Scanned, Numbered}
+use Rattle.labels.specs.steps.Trees.{Scanned, Numbered}
 use Rattle.labels.proofs.Numbers.{label-in, roots-all, numbers-are, labels-stay}
 use Rattle.labels.proofs.label.Statement.{statement}
 use Rattle.labels.proofs.label.Tie as tie
@@ -20,7 +19,7 @@ flatten-requires c κs =
     let g = o .pre in
     let f = c .before .before .before .before .before .scan in
     let s : Scanned (a .mask .now) (f .last .1 .1 .1 .1 .0) (f .last .1 .1 .1 .0) (a .h) (a .w) (a .h * a .w) (f .result) = f .ensures in
-    (record { rep = s .rep; forest = s .forest }, omega (arith, s .few, area-most (g .sides .tall) (g .sides .wide)))
+    (record { rep = s .rep; forest = s .forest }, omega (arith, s .few, g .few))
 
 same-length : tie.Need-same-length
 same-length c = search needs

@@ -5,7 +5,7 @@ use mathlib.Core.Logic.{inl, inr}
 use Prim.Native.Nat.{ℕ, _+_}
 use borrow.Author.Needs.{needs}
 use lib.ListN.{set}
-use Rattle.labels.specs.Trees.{dark, fresh, from-above, from-left, from-both}
+use Rattle.labels.specs.steps.Trees.{dark, fresh, from-above, from-left, from-both}
 use Rattle.labels.proofs.Forests.{positive}
 use Rattle.labels.proofs.place.Statement.{statement}
 use Rattle.labels.proofs.place.Tie as tie

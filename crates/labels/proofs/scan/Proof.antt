@@ -5,8 +5,7 @@ use Prim.Native.Nat.{ℕ, _+_, _*_, _-_, _≤_}
 use native.Mathlib.Nat.{zero-mul, add-mul, one-mul}
 use native.Mathlib.Omega.{arith}
 use lib.ListN.{length, length-set}
-use Rattle.labels.specs.Labels.{Given}
-use Rattle.labels.specs.Trees.{Scanned}
+use Rattle.labels.specs.steps.Trees.{Scanned, Given}
 use Rattle.labels.proofs.Scanning.{none-scanned}
 use Rattle.labels.proofs.scan.Statement.{statement}
 use Rattle.labels.proofs.scan.Tie as tie
@@ -27,7 +26,7 @@ loop-holds c =
     let a = o .args in
     let g = o .pre in (
       omega arith,
-      record { sides = g .sides; input = g .input; output = g .output; room = omega (arith, g .room, length-set (a .parents .now) 0 0) },
+      record { sides = g .sides; few = g .few; input = g .input; output = g .output; room = omega (arith, g .room, length-set (a .parents .now) 0 0) },
       rw (zero-mul (a .w)) (none-scanned (a .mask .now) (a .labels .now) (a .parents .now) (a .h) (a .w) (omega (arith, g .room))),
       refl,
     )
@@ -54,6 +53,7 @@ loop-again c =
       omega arith,
       record {
         sides = g .sides;
+        few = g .few;
         input = g .input;
         output = f .kept .1 .1 .1 .1 .1 .1 .0 ∙ g .output;
         room = omega (arith, g .room, f .kept .1 .1 .1 .1 .1 .0);

@@ -4,10 +4,9 @@ use mathlib.Core.Path.{_≡_, refl, sym, _∙_}
 use Prim.Native.Nat.{_+_, _*_, _-_, _≤_}
 use native.Mathlib.Omega.{arith}
 use lib.ListN.{length, getD, length-set}
-use Rattle.plane.proofs.Plane.{area-most, row-in}
-use Rattle.labels.specs.Labels.{Given}
-use Rattle.labels.specs.Trees.{Placed, upAt, leftAt, diagAt, larger, Scanned}
-use Rattle.labels.proofs.Scanning.{pixel-inside, area-small, placeable, row-step, next-left, next-diag}
+use Rattle.plane.proofs.Plane.{row-in}
+use Rattle.labels.specs.steps.Trees.{Placed, upAt, leftAt, diagAt, larger, Scanned, Given}
+use Rattle.labels.proofs.Scanning.{pixel-inside, placeable, row-step, next-left, next-diag}
 use Rattle.labels.proofs.scan_row.Statement.{statement}
 use Rattle.labels.proofs.scan_row.Tie as tie
 
@@ -28,7 +27,7 @@ mul-start : tie.Need-mul-start Inv-loop μ-loop
 mul-start c =
     let o = c .before .before .before in
     let g = o .pre .given in
-    omega (arith, row-in (o .args .y) (o .args .h) (o .args .w) (o .pre .row), area-most (g .sides .tall) (g .sides .wide))
+    omega (arith, row-in (o .args .y) (o .args .h) (o .args .w) (o .pre .row), g .few)
 
 loop-holds : tie.Need-loop-holds Inv-loop μ-loop
 unfolding leftAt diagAt
@@ -45,7 +44,7 @@ add-i c =
     let a = o .args in
     let g = l .inv .2 in
     let inside = pixel-inside g (a .y) (l .x) (l .m) (o .pre .row) (c .loop-test .taken) (l .inv .3) in
-    let small = area-small g (a .y) (l .x) (l .m) (o .pre .row) (c .loop-test .taken) (l .inv .3) in
+    let small = g .few in
     omega arith
 
 upper-requires : tie.Need-upper-requires Inv-loop μ-loop
@@ -56,7 +55,7 @@ upper-requires c κs =
     let a = o .args in
     let g = l .inv .2 in
     let inside = pixel-inside g (a .y) (l .x) (l .m) (o .pre .row) (c .before .loop-test .taken) (l .inv .3) in
-    let small = area-small g (a .y) (l .x) (l .m) (o .pre .row) (c .before .loop-test .taken) (l .inv .3) in
+    let small = g .few in
     omega (arith, g .output)
 
 shared-slice-read-place : tie.Need-shared-slice-read-place Inv-loop μ-loop
@@ -67,7 +66,7 @@ shared-slice-read-place c =
     let a = o .args in
     let g = l .inv .2 in
     let inside = pixel-inside g (a .y) (l .x) (l .m) (o .pre .row) (c .before .before .before .loop-test .taken) (l .inv .3) in
-    let small = area-small g (a .y) (l .x) (l .m) (o .pre .row) (c .before .before .before .loop-test .taken) (l .inv .3) in
+    let small = g .few in
     omega (arith, g .input)
 
 place-requires : tie.Need-place-requires Inv-loop μ-loop
@@ -78,7 +77,7 @@ place-requires c κs =
     let a = o .args in
     let g = l .inv .2 in
     let inside = pixel-inside g (a .y) (l .x) (l .m) (o .pre .row) (c .before .before .before .before .loop-test .taken) (l .inv .3) in
-    let small = area-small g (a .y) (l .x) (l .m) (o .pre .row) (c .before .before .before .before .loop-test .taken) (l .inv .3) in
+    let small = g .few in
     let p = placeable g (a .y) (l .x) (l .m) (o .pre .row) (c .before .before .before .before .loop-test .taken) (l .inv .3) in
     record { trees = p .trees; left-in = rw (l .inv .4) (p .left-in); up-in = rw (c .before .before .upper .ensures) (p .up-in); room = p .room; small = p .small }
 
@@ -90,7 +89,7 @@ mul-labels c =
     let a = o .args in
     let g = l .inv .2 in
     let inside = pixel-inside g (a .y) (l .x) (l .m) (o .pre .row) (c .before .before .before .before .before .before .before .loop-test .taken) (l .inv .3) in
-    let small = area-small g (a .y) (l .x) (l .m) (o .pre .row) (c .before .before .before .before .before .before .before .loop-test .taken) (l .inv .3) in
+    let small = g .few in
     omega arith
 
 slice-write-labels : tie.Need-slice-write-labels Inv-loop μ-loop
@@ -101,7 +100,7 @@ slice-write-labels c =
     let a = o .args in
     let g = l .inv .2 in
     let inside = pixel-inside g (a .y) (l .x) (l .m) (o .pre .row) (c .before .before .before .before .before .before .before .loop-test .taken) (l .inv .3) in
-    let small = area-small g (a .y) (l .x) (l .m) (o .pre .row) (c .before .before .before .before .before .before .before .loop-test .taken) (l .inv .3) in
+    let small = g .few in
     omega (arith, g .output)
 
 greater-requires : tie.Need-greater-requires Inv-loop μ-loop
@@ -132,7 +131,7 @@ loop-again c =
     let d : c .greater .result ≡ larger (l .m) (f .result) = c .greater .ensures in (
       omega arith,
       refl,
-      record { sides = g .sides; input = g .input; output = length-set (l .labels) t (f .result) ∙ g .output; room = omega (arith, g .room, f .kept .1 .1 .1 .1 .1 .0) },
+      record { sides = g .sides; few = g .few; input = g .input; output = length-set (l .labels) t (f .result) ∙ g .output; room = omega (arith, g .room, f .kept .1 .1 .1 .1 .1 .0) },
       rw d (row-step g (a .y) (l .x) (l .m) (o .pre .row) taken (l .inv .3) new (f .result) q),
       next-left g (a .y) (l .x) (l .m) (o .pre .row) taken (l .inv .3) new (f .result),
       e ∙ next-diag g (a .y) (l .x) (l .m) (o .pre .row) taken (l .inv .3) new (f .result),

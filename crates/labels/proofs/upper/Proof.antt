@@ -1,7 +1,7 @@
 -- `labels::upper` meets its contract.
 -- Assumes nothing.
 use borrow.Author.Tests.{lt-ltb, le-ltb}
-use Rattle.labels.specs.Trees.{upAt}
+use Rattle.labels.specs.steps.Trees.{upAt}
 use borrow.Author.Needs.{needs}
 use Rattle.labels.proofs.upper.Statement.{statement}
 use Rattle.labels.proofs.upper.Tie as tie

@@ -1,36 +1,56 @@
 -- `line::build` meets its contract.
 -- Assumes nothing.
-use mathlib.Core.Path.{_≡_, refl, ap, _∙_}
+use mathlib.Core.Path.{_≡_, refl, sym, ap, _∙_, subst}
+use mathlib.Core.List.{List}
 use mathlib.Core.Logic.{⊎-elim}
-use Prim.Native.Nat.{_-_, _≤_}
+use Prim.Native.Nat.{ℕ, _-_, _≤_}
 use lib.ListN.{length}
 use native.Mathlib.Omega.{arith}
-use Rattle.line.specs.Envelope.{Stack}
-use Rattle.line.proofs.Push.{skipped, nothing-yet}
+use Rattle.line.specs.steps.Part.{part}
+use Rattle.line.specs.steps.Envelope.{siteAt, startAt, Stack, Stacked}
+use Rattle.line.proofs.Push.{nothing-yet, same-costs, stacked-skip, stacked-next}
 use Rattle.line.proofs.build.Statement.{statement}
 use Rattle.line.proofs.build.Tie as tie
 
 abbrev Inv-loop : tie.InvT-loop
-Inv-loop costs s₀ t₀ count₀ u₀ s t count u =
-    (u ≤ length costs) × (length s ≡ length s₀) × (length t ≡ length t₀) × Stack costs s t u count
+Inv-loop work₀ costs stack n count₀ u₀ work count u =
+    (u ≤ n) × (length work ≡ length work₀) × Stacked work₀ work costs stack n u count
 
 abbrev μ-loop : tie.MeasureT-loop
-μ-loop costs s₀ t₀ count₀ u₀ s t count u = length costs - u
+μ-loop work₀ costs stack n count₀ u₀ work count u = n - u
 
 loop-holds : tie.Need-loop-holds Inv-loop μ-loop
-loop-holds c = let a = c .before .before .before .args in (omega arith, refl, refl, nothing-yet (a .costs .now) (a .s .now) (a .t .now))
+loop-holds c =
+    let a = c .before .args in
+    (omega arith, refl, record { kept = λ i g. refl; whole = nothing-yet (part (a .work .now) (a .costs) (a .n)) (siteAt (a .work .now) (a .stack)) (startAt (a .work .now) (a .stack)) })
+
+add-if1 : tie.Need-add-if1 Inv-loop μ-loop
+add-if1 c = let p = c .before .before .before .pre in omega (arith, p .costs-first, p .room)
 
 mul-if1 : tie.Need-mul-if1 Inv-loop μ-loop
-mul-if1 c = omega arith
+mul-if1 c = let p = c .before .before .before .pre in omega (arith, p .costs-first, p .room)
 
-shared-slice-read-if1 : tie.Need-shared-slice-read-if1 Inv-loop μ-loop
-shared-slice-read-if1 c = omega arith
+slice-read-if1 : tie.Need-slice-read-if1 Inv-loop μ-loop
+slice-read-if1 c = let p = c .before .before .before .before .pre in let e = c .before .before .loop .inv .1 in omega (arith, p .costs-first, p .room)
 
 push-site-requires : tie.Need-push-site-requires Inv-loop μ-loop
 push-site-requires c κs =
-    let l = c .before .before .before .before .before .loop in
-    let room = c .before .before .before .before .before .before .before .before .before .pre in
-    (record { short = room .short; sites = omega arith; starts = omega arith }, (c .before .before .before .before .loop-test .taken, (c .before .before .if1 .taken, l .inv .3)))
+    let l = c .before .before .before .before .loop in
+    let o = c .before .before .before .before .before .before in
+    let a = o .args in
+    let room = o .pre in
+    let t = c .before .before .before .loop-test .taken in
+    let e = l .inv .1 in (
+      record { short = room .short; costs-first = room .costs-first; room = omega (arith, room .room) },
+      (
+        t,
+        (
+          c .before .if1 .taken,
+          subst (λ (v : List ℕ). Stack v (siteAt (l .work) (a .stack)) (startAt (l .work) (a .stack)) (l .u) (l .count))
+              (sym (same-costs (a .work .now) (l .work) (a .costs) (a .stack) (a .n) (l .u) (l .count) room e t (l .inv .2))) (l .inv .2 .whole),
+        ),
+      ),
+    )
 
 add-u : tie.Need-add-u Inv-loop μ-loop
 add-u c = omega arith
@@ -42,33 +62,31 @@ loop-again : tie.Need-loop-again Inv-loop μ-loop
 loop-again c =
     let b = c .before .before .before in
     let l = b .loop in
-    let a = b .before .before .before .before .args in
+    let o = b .before .before in
+    let a = o .args in
+    let t = c .before .before .loop-test .taken in
     ⊎-elim
     (λ w. (
       omega arith,
-      ap length (w .8) ∙ w .3 .kept .1 .0 ∙ l .inv .1,
-      ap length (w .9) ∙ w .3 .kept .1 .1 .0 ∙ l .inv .2,
-      rw (w .8, w .9, w .10) (w .3 .ensures),
+      ap length (w .5) ∙ w .2 .kept .0 ∙ l .inv .1,
+      rw (w .5, w .6) (stacked-next (a .work .now) (l .work) (a .costs) (a .stack) (a .n) (l .u) (l .count) (o .pre) (l .inv .1) t (l .inv .2) (w .2 .last .0) (w .2 .result) (w .2 .ensures)),
     ))
     (λ w. (
       omega arith,
       ap length (w .1) ∙ l .inv .1,
-      ap length (w .2) ∙ l .inv .2,
-      rw (w .1, w .2, w .3) (skipped (a .costs .now) (l .s) (l .t) (l .u) (l .count) (l .inv .3) (λ h. (let z = w .0 .left in absurd (omega arith)))),
+      rw (w .1, w .2) (stacked-skip (a .work .now) (l .work) (a .costs) (a .stack) (a .n) (l .u) (l .count) (o .pre) (l .inv .1) t (l .inv .2) (let z = w .0 .left in omega arith)),
     ))
     (c .if1 .came)
 
 same-length : tie.Need-same-length Inv-loop μ-loop
 same-length c = c .before .loop .inv .1
 
-same-length-2 : tie.Need-same-length-2 Inv-loop μ-loop
-same-length-2 c = c .before .loop .inv .2
-
 returns : tie.Need-returns Inv-loop μ-loop
 returns c =
-    let b = c .before in
-    let e : b .loop .u ≡ length (b .before .before .before .before .args .costs .now) = omega arith in
-    rw e at (b .loop .inv .3)
+    let l = c .before .loop in
+    let a = c .before .before .before .args in
+    let e : l .u ≡ a .n = omega arith in
+    subst (λ (m : ℕ). Stacked (a .work .now) (l .work) (a .costs) (a .stack) (a .n) m (l .count)) e (l .inv .2)
 
 pub build-spec : {M : Type 1} → statement M
 build-spec =
@@ -77,12 +95,12 @@ build-spec =
     Inv-loop
     μ-loop
     loop-holds
+    add-if1
     mul-if1
-    shared-slice-read-if1
+    slice-read-if1
     push-site-requires
     add-u
     loop-less
     loop-again
     same-length
-    same-length-2
     returns)

@@ -1,60 +1,88 @@
 -- `line::drop_worse` meets its contract.
 -- Assumes nothing.
-use mathlib.Core.Path.{_≡_, subst}
+use mathlib.Core.Path.{_≡_, sym, ap, subst}
 use mathlib.Core.Logic.{⊎-elim}
-use Prim.Native.Nat.{ℕ, _-_, _*_, _≤_, _<_}
+use Prim.Native.Nat.{ℕ, _+_, _-_, _*_, _/_, _%_, _≤_, _<_}
 use native.Mathlib.Nat.{mul-le-mul}
-use lib.ListN.{length, getD}
+use lib.ListN.{getD}
 use native.Mathlib.Omega.{arith}
 use Rattle.plane.proofs.Search.{which}
-use Rattle.line.specs.Line.{Site, valueAt}
-use Rattle.line.specs.Envelope.{height}
-use Rattle.line.proofs.Squares.{balance, square-fits}
-use Rattle.line.proofs.Push.{at-start}
+use Rattle.line.specs.steps.Envelope.{siteAt, heightAt, Stays}
+use Rattle.line.proofs.Squares.{square-fits}
 use borrow.Author.Needs.{needs}
 use Rattle.line.proofs.drop_worse.Statement.{statement}
 use Rattle.line.proofs.drop_worse.Tie as tie
 
 abbrev Inv-loop : tie.InvT-loop
-Inv-loop costs s t count u k₀ k =
-    (k ≤ count) × ((q : ℕ) → k ≤ q → q < count → valueAt costs (getD t q 0) u < valueAt costs (getD t q 0) (getD s q 0))
+Inv-loop work costs stack count u most k₀ k =
+    (k ≤ count) × ((q : ℕ) → k ≤ q → q < count → Stays work costs stack u q → ⊥)
 
 abbrev μ-loop : tie.MeasureT-loop
-μ-loop costs s t count u k₀ k = k
+μ-loop work costs stack count u most k₀ k = k
 
--- the top: where it starts, its site, which lies to the left of u, and how large the numbers are
-facts : (c : tie.After-wide2 Inv-loop μ-loop)
-    → (c .before .before .wide .result ≡ getD (c .before .before .before .before .before .before .before .before .before .args .t .now) (c .before .before .before .before .before .loop .k - 1) 0)
-    × (c .wide2 .result ≡ getD (c .before .before .before .before .before .before .before .before .before .args .s .now) (c .before .before .before .before .before .loop .k - 1) 0)
-    × (c .wide2 .result < c .before .before .before .before .before .before .before .before .before .args .u)
-    × Site (c .before .before .before .before .before .before .before .before .before .args .costs .now) (c .wide2 .result)
-    × (c .before .before .wide .result < 65536)
-    × (c .before .before .before .before .before .before .before .before .before .args .u < 65536)
-    × (c .wide2 .result < length (c .before .before .before .before .before .before .before .before .before .args .costs .now))
-    × (c .before .before .wide .result * (2 * (c .before .before .before .before .before .before .before .before .before .args .u - c .wide2 .result)) ≤ 8589934592)
+abbrev top : tie.After-wide Inv-loop μ-loop → ℕ
+top c = c .before .before .before .loop .k - 1
+
+abbrev start : tie.After-wide Inv-loop μ-loop → tie.Start Inv-loop μ-loop
+start c = c .before .before .before .before .before .before .before
+
+-- the top: its site lies to the left of u, and how large the numbers are
+pub record Top (c : tie.After-wide Inv-loop μ-loop) : Type 0 where
+  pub entry : c .wide .result ≡ getD (start c .args .work .now) (start c .args .stack + top c) 0
+  pub left : c .wide .result / 65536 < start c .args .u
+  pub far : c .wide .result % 65536 * (2 * (start c .args .u - c .wide .result / 65536)) ≤ 8589934592
+
+facts : (c : tie.After-wide Inv-loop μ-loop) → Top c
 facts c =
-    let l = c .before .before .before .before .before .loop in
-    let p = c .before .before .before .before .before .before .before .before .before .pre in
-    let a = c .before .before .before .before .before .before .before .before .before .args in
-    let st = p .1 .1 .1 in
-    let t = c .before .before .before .before .loop-test .taken in
-    let low = l .inv .0 in
-    let sm = st .small in
-    let ends = p .1 .0 in
-    let short = p .0 .short in
-    let lead = at-start (a .costs .now) (a .s .now) (a .t .now) (a .u) (a .count) st (l .k - 1) (omega arith) in
-    let inside = st .inside (l .k - 1) (omega arith) in
-    let ex : c .before .before .wide .result ≡ getD (a .t .now) (l .k - 1) 0 = c .before .before .wide .ensures in
-    let ei : c .wide2 .result ≡ getD (a .s .now) (l .k - 1) 0 = c .wide2 .ensures in
-    let left = lead .inside in
-    let m : c .before .before .wide .result * (2 * (a .u - c .wide2 .result)) ≤ 65536 * 131072 = mul-le-mul {n₁ = c .before .before .wide .result} {m₁ = 2 * (a .u - c .wide2 .result)} {n₂ = 65536} {m₂ = 131072} (omega arith) (omega arith) in
-    (ex, ei, omega arith, rw ei (lead .site), omega arith, omega arith, omega arith, m)
+    let a = start c .args in
+    let p = start c .pre in
+    let e : c .wide .result ≡ getD (a .work .now) (a .stack + top c) 0 = c .wide .ensures in
+    let t = c .before .before .loop-test .taken in
+    let low = c .before .before .before .loop .inv .0 in
+    let z = p .left (top c) (omega arith) in
+    let short = p .short in
+    record {
+      entry = e;
+      left = (let v : c .wide .result / 65536 ≡ siteAt (a .work .now) (a .stack) (top c) = ap (λ (n : ℕ). n / 65536) e in omega arith);
+      far = mul-le-mul {n₁ = c .wide .result % 65536} {m₁ = 2 * (a .u - c .wide .result / 65536)} {n₂ = 65536} {m₂ = 131072} (omega arith) (omega arith);
+    }
+
+-- the test says whether the top stays
+stays : (c : tie.After-high2 Inv-loop μ-loop)
+    → (c .high2 .result + c .before .before .wide .result % 65536 * (2 * (start (c .before .before) .args .u - c .before .before .wide .result / 65536)) ≤ c .before .before .before .before .before .before .high .result
+    → Stays (start (c .before .before) .args .work .now) (start (c .before .before) .args .costs) (start (c .before .before) .args .stack) (start (c .before .before) .args .u) (top (c .before .before)))
+    × (Stays (start (c .before .before) .args .work .now) (start (c .before .before) .args .costs) (start (c .before .before) .args .stack) (start (c .before .before) .args .u) (top (c .before .before))
+    → c .high2 .result + c .before .before .wide .result % 65536 * (2 * (start (c .before .before) .args .u - c .before .before .wide .result / 65536)) ≤ c .before .before .before .before .before .before .high .result)
+stays c =
+    let b = c .before .before in
+    let a = start b .args in
+    let e = facts b .entry in
+    let i = b .wide .result / 65536 in
+    let hi : c .high2 .result ≡ heightAt (a .work .now) (a .costs) i = c .high2 .ensures in
+    let hu : b .before .before .before .before .high .result ≡ heightAt (a .work .now) (a .costs) (a .u) = b .before .before .before .before .high .ensures in
+    let by : ℕ → Type 0 = λ (m : ℕ). heightAt (a .work .now) (a .costs) (m / 65536) + m % 65536 * (2 * (a .u - m / 65536)) ≤ heightAt (a .work .now) (a .costs) (a .u) in
+    ((λ t. subst by e (omega arith)), (λ g. (let v = subst by (sym e) g in omega arith)))
+
+add-high : tie.Need-add-high Inv-loop μ-loop
+add-high c = omega arith
+
+mul-high : tie.Need-mul-high Inv-loop μ-loop
+mul-high c = omega arith
+
+shared-slice-read-high : tie.Need-shared-slice-read-high Inv-loop μ-loop
+shared-slice-read-high c = omega arith
+
+high-requires : tie.Need-high-requires Inv-loop μ-loop
+high-requires c κs = search needs
 
 loop-holds : tie.Need-loop-holds Inv-loop μ-loop
 loop-holds c = (omega arith, (λ q l h. absurd (omega arith)))
 
 sub-top : tie.Need-sub-top Inv-loop μ-loop
 sub-top c = omega arith
+
+add-wide : tie.Need-add-wide Inv-loop μ-loop
+add-wide c = omega arith
 
 mul-wide : tie.Need-mul-wide Inv-loop μ-loop
 mul-wide c = omega arith
@@ -65,84 +93,56 @@ shared-slice-read-wide c = omega arith
 wide-requires : tie.Need-wide-requires Inv-loop μ-loop
 wide-requires c κs = search needs
 
-mul-wide-2 : tie.Need-mul-wide-2 Inv-loop μ-loop
-mul-wide-2 c = omega arith
-
-shared-slice-read-wide-2 : tie.Need-shared-slice-read-wide-2 Inv-loop μ-loop
-shared-slice-read-wide-2 c = omega arith
-
-wide-requires-2 : tie.Need-wide-requires-2 Inv-loop μ-loop
-wide-requires-2 c κs = search needs
-
 sub-far : tie.Need-sub-far Inv-loop μ-loop
-sub-far c = let f = facts c in omega (arith, f .2)
+sub-far c = let f = facts c in omega (arith, f .left)
 
 mul-far : tie.Need-mul-far Inv-loop μ-loop
-mul-far c = let f = facts c in omega (arith, f .5)
+mul-far c = let f = facts c in omega (arith, start c .pre .short)
 
 mul-far-2 : tie.Need-mul-far-2 Inv-loop μ-loop
-mul-far-2 c = let f = facts c in omega (arith, f .7)
+mul-far-2 c = let f = facts c in omega (arith, f .far)
 
-high-requires : tie.Need-high-requires Inv-loop μ-loop
-high-requires c κs = let f = facts c in let a = c .before .before .before .before .before .before .before .before .before .args in (f .6, (f .3, omega (arith, f .2, f .5)))
+add-high-2 : tie.Need-add-high-2 Inv-loop μ-loop
+add-high-2 c = let f = facts c in omega (arith, f .left, start c .pre .costs-first, start c .pre .room)
+
+mul-high-2 : tie.Need-mul-high-2 Inv-loop μ-loop
+mul-high-2 c = let f = facts c in omega (arith, f .left, start c .pre .costs-first, start c .pre .room)
+
+shared-slice-read-high-2 : tie.Need-shared-slice-read-high-2 Inv-loop μ-loop
+shared-slice-read-high-2 c = let f = facts (c .before) in omega (arith, f .left, start (c .before) .pre .costs-first, start (c .before) .pre .room)
+
+high-requires-2 : tie.Need-high-requires-2 Inv-loop μ-loop
+high-requires-2 c κs = let f = facts (c .before) in omega (arith, f .left, start (c .before) .pre .short)
 
 add-if1 : tie.Need-add-if1 Inv-loop μ-loop
 add-if1 c =
-    let f = facts (c .before) in
-    let a = c .before .before .before .before .before .before .before .before .before .before .args in
-    let e : c .high .result ≡ height (a .costs .now) (c .before .wide2 .result) = c .high .ensures in
-    let q = square-fits (c .before .wide2 .result) (omega (arith, f .2, f .5)) in
-    omega (arith, f .3, f .7)
-
-high-requires-2 : tie.Need-high-requires-2 Inv-loop μ-loop
-high-requires-2 c κs = let f = facts (c .before) in let p = c .before .before .before .before .before .before .before .before .before .before .pre in (p .1 .0, (p .1 .1 .0, omega (arith, f .5)))
+    let b = c .before .before in
+    let f = facts b in
+    let i = b .wide .result / 65536 in
+    let q = square-fits i (omega (arith, f .left, start b .pre .short)) in
+    omega (arith, f .far, c .high2 .ensures, c .before .shared-slice-known4 .given (start b .args .costs + i))
 
 returns : tie.Need-returns Inv-loop μ-loop
 returns c =
-    let f = facts (c .before .before .before) in
-    let l = c .before .before .before .before .before .before .before .before .loop in
-    let a = c .before .before .before .before .before .before .before .before .before .before .before .before .args in
-    let k = l .k in
-    let x = c .before .before .before .before .before .wide .result in
-    let i = c .before .before .before .wide2 .result in
-    let left = f .2 in
-    let b = balance (a .costs .now) x i (a .u) (omega arith) in
-    let hi : c .before .before .high .result ≡ height (a .costs .now) i = c .before .before .high .ensures in
-    let hu : c .before .high2 .result ≡ height (a .costs .now) (a .u) = c .before .high2 .ensures in
-    let t = c .if1 .taken in
-    let v : valueAt (a .costs .now) x i ≤ valueAt (a .costs .now) x (a .u) = omega arith in
-    record {
-      fewer = l .inv .0;
-      worse = l .inv .1;
-      better = λ h. rw (f .0, f .1) at v;
-    }
+    let b = c .before .before .before in
+    let l = b .before .before .before .loop in
+    record { fewer = l .inv .0; worse = l .inv .1; better = λ h. stays (c .before) .0 (c .if1 .taken) }
 
 loop-less : tie.Need-loop-less Inv-loop μ-loop
 loop-less c = omega arith
 
 loop-again : tie.Need-loop-again Inv-loop μ-loop
 loop-again c =
-    let f = facts (c .before .before .before) in
-    let l = c .before .before .before .before .before .before .before .before .loop in
-    let a = c .before .before .before .before .before .before .before .before .before .before .before .before .args in
-    let k = l .k in
-    let x = c .before .before .before .before .before .wide .result in
-    let i = c .before .before .before .wide2 .result in
-    let left = f .2 in
-    let b = balance (a .costs .now) x i (a .u) (omega arith) in
-    let hi : c .before .before .high .result ≡ height (a .costs .now) i = c .before .before .high .ensures in
-    let hu : c .before .high2 .result ≡ height (a .costs .now) (a .u) = c .before .high2 .ensures in
-    let t = c .if1 .left in
-    let v : valueAt (a .costs .now) x (a .u) < valueAt (a .costs .now) x i = omega arith in
-    let here : valueAt (a .costs .now) (getD (a .t .now) (k - 1) 0) (a .u) < valueAt (a .costs .now) (getD (a .t .now) (k - 1) 0) (getD (a .s .now) (k - 1) 0) = rw (f .0, f .1) at v in (
+    let b = c .before .before .before in
+    let l = b .before .before .before .loop in
+    let a = start b .args in
+    let here : Stays (a .work .now) (a .costs) (a .stack) (a .u) (top b) → ⊥ = λ g. (let t = c .if1 .left in let z = stays (c .before) .1 g in omega arith) in (
       omega arith,
       (λ q g h.
           ⊎-elim
-          (λ (z : k - 1 < q). l .inv .1 q (omega arith) h)
-          (λ (z : q ≤ k - 1).
-          let e : k - 1 ≡ q = omega arith in
-          subst (λ (m : ℕ). valueAt (a .costs .now) (getD (a .t .now) m 0) (a .u) < valueAt (a .costs .now) (getD (a .t .now) m 0) (getD (a .s .now) m 0)) e here)
-          (which (k - 1) q)),
+          (λ (z : top b < q). l .inv .1 q (omega arith) h)
+          (λ (z : q ≤ top b). (let e : top b ≡ q = omega arith in subst (λ (m : ℕ). Stays (a .work .now) (a .costs) (a .stack) (a .u) m → ⊥) e here))
+          (which (top b) q)),
     )
 
 returns-2 : tie.Need-returns-2 Inv-loop μ-loop
@@ -154,20 +154,24 @@ drop-worse-spec =
     (tie.spec
     Inv-loop
     μ-loop
+    add-high
+    mul-high
+    shared-slice-read-high
+    high-requires
     loop-holds
     sub-top
+    add-wide
     mul-wide
     shared-slice-read-wide
     wide-requires
-    mul-wide-2
-    shared-slice-read-wide-2
-    wide-requires-2
     sub-far
     mul-far
     mul-far-2
-    high-requires
-    add-if1
+    add-high-2
+    mul-high-2
+    shared-slice-read-high-2
     high-requires-2
+    add-if1
     returns
     loop-less
     loop-again

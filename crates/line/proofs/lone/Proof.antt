@@ -17,6 +17,9 @@ returns c = λ e. not-both false e refl
 add-next : tie.Need-add-next
 add-next c = search needs
 
+add-result : tie.Need-add-result
+add-result c = search needs
+
 mul-result : tie.Need-mul-result
 mul-result c = search needs
 
@@ -28,11 +31,12 @@ returns-2 c =
     let a = c .before .before .before .args in
     let n = c .before .before .if1 .left in
     let l = c .before .if2 .taken in
-    λ e. record { after = omega arith; within = l; bound = eqb-true (getD (a .costs .now) (a .x + 1) 0) 0 e }
+    λ e. record { after = omega arith; within = l; bound = eqb-true (getD (a .work .now) (a .costs + (a .x + 1)) 0) 0 e }
 
 returns-3 : tie.Need-returns-3
 returns-3 c = λ e. not-both false e refl
 
 pub lone-spec : {M : Type 1} → statement M
 lone-spec =
-    tie.close (tie.spec returns add-next mul-result shared-slice-read-result returns-2 returns-3)
+    tie.close
+    (tie.spec returns add-next add-result mul-result shared-slice-read-result returns-2 returns-3)

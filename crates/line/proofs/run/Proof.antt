@@ -1,10 +1,11 @@
 -- `line::run` meets its contract.
 -- Assumes nothing.
-use mathlib.Core.Path.{_∙_}
-use lib.ListN.{length}
+use mathlib.Core.Path.{ap, _∙_}
+use Prim.Native.Nat.{ℕ, _+_, _-_}
+use lib.ListN.{replicate}
 use native.Mathlib.Omega.{arith}
-use Rattle.line.specs.Envelope.{Stack}
-use Rattle.line.proofs.Best.{no-line}
+use Rattle.line.proofs.Part.{part-length}
+use Rattle.line.proofs.Runs.{segments, ran-spread, ran-none}
 use borrow.Author.Needs.{needs}
 use Rattle.line.proofs.run.Statement.{statement}
 use Rattle.line.proofs.run.Tie as tie
@@ -12,58 +13,72 @@ use Rattle.line.proofs.run.Tie as tie
 build-requires : tie.Need-build-requires
 build-requires c κs = search needs
 
+add-e : tie.Need-add-e
+add-e c = search needs
+
+mul-fill : tie.Need-mul-fill
+mul-fill c = search needs
+
+sub-fill : tie.Need-sub-fill
+sub-fill c = search needs
+
+part-fill-start : tie.Need-part-fill-start
+part-fill-start c = search needs
+
+part-fill-end : tie.Need-part-fill-end
+part-fill-end c = search needs
+
 fill-requires : tie.Need-fill-requires
 fill-requires c κs = search needs
 
 same-length : tie.Need-same-length
 same-length c = search needs
 
-same-length-2 : tie.Need-same-length-2
-same-length-2 c = search needs
-
-same-length-3 : tie.Need-same-length-3
-same-length-3 c = search needs
-
 returns : tie.Need-returns
 returns c =
-    let o = c .before .before .before .before .before .before .before .before .before .before .before .before .before .before .before .before in
-    let b = c .before .before .before .before .before .before .before .before .before .build in
-    let st : Stack (o .args .costs .now) (b .last .1 .0) (b .last .1 .1 .0) (length (o .args .costs .now)) (b .result) = b .ensures in
-    c .before .before .fill .ensures ∙ no-line (o .args .costs .now) (o .args .base) (st .empty (c .before .before .before .before .if1 .taken)) _ (o .pre .1 .0)
+    let s = c .before .before .before .before .before .before .before in
+    let b = s .build in
+    let o = s .before .before .before in
+    let a = o .args in
+    let t = c .before .before .before .before .if1 .taken in
+    let k = a .out + a .n - a .out in
+    let z = b .kept .0 in
+    ran-none (a .work .now) (b .last .0) (a .out) (a .costs) (a .stack) (a .n) (a .base) (b .result) (o .pre .0) (b .kept .0) (b .ensures) (c .before .before .fill .last .0) k t (omega arith)
+    (c .before .before .fill .ensures ∙ ap (λ (m : ℕ). replicate m 4294967295) (part-length (b .last .0) (a .out) k (omega (arith, o .pre .0 .out-first, o .pre .0 .costs-first, o .pre .0 .room))))
 
 answer-requires : tie.Need-answer-requires
 answer-requires c κs =
-    let o = c .before .before .before .before .before .before .before .before .before .before .before .before .before .before .before in
-    let b = c .before .before .before .before .before .before .before .before .build in
-    let n = c .before .before .before .if1 .left in
-    let ks = b .kept .1 .0 in
-    let kt = b .kept .1 .1 .0 in
-    (record { short = o .pre .0 .short; sites = omega arith; starts = omega arith }, (o .pre .1 .0, (o .pre .1 .1, (omega arith, b .ensures))))
+    let s = c .before .before .before .before in
+    let b = s .build in
+    let o = s .before .before .before in
+    let a = o .args in
+    let n = c .before .if1 .left in
+    segments (a .work .now) (b .last .0) (a .out) (a .costs) (a .stack) (a .n) (a .base) (b .result) (o .pre .0) (b .kept .0) (b .ensures) (omega arith) (o .pre .1)
 
-same-length-4 : tie.Need-same-length-4
-same-length-4 c = search needs
-
-same-length-5 : tie.Need-same-length-5
-same-length-5 c = search needs
-
-same-length-6 : tie.Need-same-length-6
-same-length-6 c = search needs
+same-length-2 : tie.Need-same-length-2
+same-length-2 c = search needs
 
 returns-2 : tie.Need-returns-2
-returns-2 c = search needs
+returns-2 c =
+    let s = c .before .before .before .before .before .before .before in
+    let b = s .build in
+    let o = s .before .before .before in
+    let a = o .args in
+    ran-spread (a .work .now) (b .last .0) (a .out) (a .costs) (a .stack) (a .n) (a .base) (b .result) (o .pre .0) (b .kept .0) (b .ensures) (c .before .before .answer .last .0) (c .before .before .answer .ensures)
 
 pub run-spec : {M : Type 1} → statement M
 run-spec =
     tie.close
     (tie.spec
     build-requires
+    add-e
+    mul-fill
+    sub-fill
+    part-fill-start
+    part-fill-end
     fill-requires
     same-length
-    same-length-2
-    same-length-3
     returns
     answer-requires
-    same-length-4
-    same-length-5
-    same-length-6
+    same-length-2
     returns-2)

@@ -2,23 +2,26 @@
 -- Assumes nothing.
 use mathlib.Core.Path.{_≡_, subst}
 use Prim.Native.Nat.{ℕ, _+_, _-_, _≤_}
-use lib.ListN.{length, getD}
+use lib.ListN.{getD}
 use native.Mathlib.Omega.{arith}
 use Rattle.line.proofs.run_end.Statement.{statement}
 use Rattle.line.proofs.run_end.Tie as tie
 
 abbrev Inv-loop : tie.InvT-loop
-Inv-loop costs x k₀ k =
-    (x ≤ k) × (k ≤ length costs)
+Inv-loop work costs n x k₀ k =
+    (x ≤ k) × (k ≤ n)
 
 abbrev μ-loop : tie.MeasureT-loop
-μ-loop costs x k₀ k = length costs - k
+μ-loop work costs n x k₀ k = n - k
 
 loop-holds : tie.Need-loop-holds Inv-loop μ-loop
 loop-holds c = omega arith
 
 add-next : tie.Need-add-next Inv-loop μ-loop
 add-next c = omega arith
+
+add-if1 : tie.Need-add-if1 Inv-loop μ-loop
+add-if1 c = omega arith
 
 mul-if1 : tie.Need-mul-if1 Inv-loop μ-loop
 mul-if1 c = omega arith
@@ -31,7 +34,11 @@ returns c =
     let l = c .before .before .before .loop in
     let a = c .before .before .before .before .args in
     let e : l .k ≡ l .k + 1 - 1 = omega arith in
-    record { after = omega arith; within = omega arith; bound = λ g. subst (λ (i : ℕ). getD (a .costs .now) i 0 ≡ 0) e (c .if1 .taken) }
+    record {
+      after = omega arith;
+      within = omega arith;
+      bound = λ g. subst (λ (i : ℕ). getD (a .work .now) (a .costs + i) 0 ≡ 0) e (c .if1 .taken);
+    }
 
 loop-less : tie.Need-loop-less Inv-loop μ-loop
 loop-less c = omega arith
@@ -50,6 +57,7 @@ run-end-spec =
     μ-loop
     loop-holds
     add-next
+    add-if1
     mul-if1
     shared-slice-read-if1
     returns

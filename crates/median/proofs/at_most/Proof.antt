@@ -3,29 +3,33 @@
 use mathlib.Core.Path.{_≡_, refl, sym, ap, _∙_}
 use mathlib.Core.Bool.{Bool, true, false, cond}
 use mathlib.Core.List.{List}
-use Prim.Native.Nat.{ℕ, _+_, _-_, _≤_, _<_}
+use Prim.Native.Nat.{ℕ, _+_, _-_, _/_, _≤_, _<_}
 use native.Mathlib.Nat.{add-assoc, add-zero, zero-add}
 use native.Mathlib.Numerals.{add-one}
 use native.Mathlib.Omega.{arith}
-use lib.ListN.{length, getD, drop, drop-of-length-le}
+use lib.ListN.{length, drop, drop-of-length-le}
 use lib.Seq.{drop-cons}
 use lib.Ieee.{Float, nan, le}
 use mir.Val.{boolByte}
 use borrow.Author.Needs.{needs}
-use Rattle.median.specs.Steps.{atMost}
+use Rattle.median.specs.steps.Values.{floatAt, floatsOf}
+use Rattle.median.specs.steps.Select.{atMost}
+use Rattle.median.proofs.Values.{floats-length, floats-at}
 use Rattle.median.proofs.at_most.Statement.{statement}
 use Rattle.median.proofs.at_most.Tie as tie
 
 abbrev Inv-loop : tie.InvT-loop
-Inv-loop values t n₀ i₀ i-end n i = (i-end ≡ length values) × (i ≤ length values) × (n ≤ i) × (atMost t values ≡ n + atMost t (drop i values))
+Inv-loop values t n₀ i₀ i-end n i =
+    (i-end ≡ length values / 2) × (i ≤ length values / 2) × (n ≤ i) × (atMost t (floatsOf values) ≡ n + atMost t (drop i (floatsOf values)))
 
 abbrev μ-loop : tie.MeasureT-loop
-μ-loop values t n₀ i₀ i-end n i = length values - i
+μ-loop values t n₀ i₀ i-end n i = length values / 2 - i
 
--- the rest begins with the value at i
-rest : (t : Float) (l : List Float) (i : ℕ) → i < length l → atMost t (drop i l) ≡ cond (le (getD l i nan) t) 1 0 + atMost t (drop (i + 1) l)
+-- the rest begins with value i
+rest : (t : Float) (v : List ℕ) (i : ℕ) → i < length (floatsOf v)
+    → atMost t (drop i (floatsOf v)) ≡ cond (le (floatAt v i) t) 1 0 + atMost t (drop (i + 1) (floatsOf v))
 unfolding atMost
-rest t l i h = rw (add-one i, drop-cons l i nan h)
+rest t v i h = rw (add-one i, drop-cons (floatsOf v) i nan h, floats-at v i h)
 
 -- a test as a number
 byte : (b : Bool) → boolByte b ≡ cond b 1 0
@@ -39,11 +43,12 @@ byte-le false = omega arith
 loop-holds : tie.Need-loop-holds Inv-loop μ-loop
 loop-holds c = (refl, omega arith, omega arith, sym (zero-add _))
 
-mul-n : tie.Need-mul-n Inv-loop μ-loop
-mul-n c = omega arith
+-- value i is there
+inside : (c : tie.In-loop Inv-loop μ-loop) → c .before .loop .i < length (floatsOf (c .before .before .before .args .values .now))
+inside c = omega (arith, floats-length (c .before .before .before .args .values .now))
 
-shared-slice-read-n : tie.Need-shared-slice-read-n Inv-loop μ-loop
-shared-slice-read-n c = omega arith
+value-requires : tie.Need-value-requires Inv-loop μ-loop
+value-requires c κs = record { inside = inside c; ok = c .before .before .before .pre }
 
 cast-n : tie.Need-cast-n Inv-loop μ-loop
 cast-n c = search needs
@@ -51,9 +56,9 @@ cast-n c = search needs
 add-n : tie.Need-add-n Inv-loop μ-loop
 add-n c =
     let l = c .before .before .loop in
-    let a = c .before .before .before .args in
-    let h : l .n < length (a .values .now) = omega arith in
-    omega (arith, byte-le (le (getD (a .values .now) (l .i) nan) (a .t)))
+    let s = c .before .before .before .before in
+    let h : l .n < length (s .args .values .now) / 2 = omega arith in
+    omega (arith, byte-le (le (c .value .result) (s .args .t)))
 
 add-i : tie.Need-add-i Inv-loop μ-loop
 add-i c = omega arith
@@ -64,9 +69,11 @@ loop-less c = omega arith
 loop-again : tie.Need-loop-again Inv-loop μ-loop
 loop-again c =
     let l = c .before .before .loop in
-    let a = c .before .before .before .args in
-    let b = le (getD (a .values .now) (l .i) nan) (a .t) in
-    let more : atMost (a .t) (drop (l .i) (a .values .now)) ≡ boolByte b + atMost (a .t) (drop (l .i + 1) (a .values .now)) = rest (a .t) (a .values .now) (l .i) (omega arith) ∙ ap (λ (k : ℕ). k + atMost (a .t) (drop (l .i + 1) (a .values .now))) (sym (byte b)) in (
+    let a = c .before .before .before .before .args in
+    let v = a .values .now in
+    let b = le (c .value .result) (a .t) in
+    let more : atMost (a .t) (drop (l .i) (floatsOf v)) ≡ boolByte b + atMost (a .t) (drop (l .i + 1) (floatsOf v)) =
+    rest (a .t) v (l .i) (inside (c .before)) ∙ rw (byte b, c .value .ensures) in (
       refl,
       omega arith,
       omega (arith, byte-le b),
@@ -77,8 +84,12 @@ returns : tie.Need-returns Inv-loop μ-loop
 unfolding atMost
 returns c =
     let l = c .before .loop in
-    let a = c .before .before .args in
-    sym (l .inv .3 ∙ ap (λ (r : List Float). l .n + atMost (a .t) r) (drop-of-length-le (a .values .now) {i = l .i} (omega arith)) ∙ add-zero (l .n))
+    let a = c .before .before .before .args in
+    let v = a .values .now in
+    sym (
+    l .inv .3
+    ∙ ap (λ (r : List Float). l .n + atMost (a .t) r) (drop-of-length-le (floatsOf v) {i = l .i} (omega (arith, floats-length v)))
+    ∙ add-zero (l .n))
 
 pub at-most-spec : {M : Type 1} → statement M
 at-most-spec =
@@ -87,8 +98,7 @@ at-most-spec =
     Inv-loop
     μ-loop
     loop-holds
-    mul-n
-    shared-slice-read-n
+    value-requires
     cast-n
     add-n
     add-i

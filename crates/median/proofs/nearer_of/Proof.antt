@@ -1,6 +1,6 @@
 -- `median::nearer_of` meets its contract.
 -- Assumes nothing.
-use Rattle.median.specs.Steps.{nearer}
+use Rattle.median.specs.steps.Select.{nearer}
 use Rattle.median.proofs.nearer_of.Statement.{statement}
 use Rattle.median.proofs.nearer_of.Tie as tie
 

@@ -10,14 +10,16 @@ use borrow.Author.Needs.{needs}
 use borrow.Author.Tests.{lt-ltb, le-ltb, leb-true, leb-false}
 use Rattle.colour.proofs.Zero.{plus-zero-is}
 use Rattle.median.specs.Median.{placed}
-use Rattle.median.specs.Steps.{atMost}
+use Rattle.median.specs.steps.Values.{floatsOf}
+use Rattle.median.specs.steps.Select.{atMost}
+use Rattle.median.proofs.Values.{floats-held}
 use Rattle.median.proofs.Pattern.{key, key-back, bits-number, oneBits}
 use Rattle.median.proofs.Places.{placed-good, placed-bound, bits-rank}
 use Rattle.median.proofs.select.Statement.{statement}
 use Rattle.median.proofs.select.Tie as tie
 
 abbrev Inv-loop : tie.InvT-loop
-Inv-loop values k lo₀ hi₀ lo hi = (lo ≤ key (placed values k)) × (key (placed values k) ≤ hi) × (hi ≤ oneBits)
+Inv-loop values k lo₀ hi₀ lo hi = (lo ≤ key (placed (floatsOf values) k)) × (key (placed (floatsOf values) k) ≤ hi) × (hi ≤ oneBits)
 
 abbrev μ-loop : tie.MeasureT-loop
 μ-loop values k lo₀ hi₀ lo hi = hi - lo
@@ -28,7 +30,7 @@ number v h = rw (bits-number v h) tt
 loop-holds : tie.Need-loop-holds Inv-loop μ-loop
 loop-holds c =
     let a = c .before .args in
-    (omega arith, placed-bound (a .values .now) (λ i h. c .shared-slice-known .given i) (c .before .pre .ok) (a .k) (c .before .pre .inside), omega arith)
+    (omega arith, placed-bound (floatsOf (a .values .now)) (floats-held (a .values .now)) (c .before .pre .ok) (a .k) (c .before .pre .inside), omega arith)
 
 sub-mid : tie.Need-sub-mid Inv-loop μ-loop
 sub-mid c = omega arith
@@ -51,9 +53,9 @@ loop-again c =
     let s = c .before .before .before .before in
     let a = s .before .args in
     let mid = l .lo + (l .hi - l .lo) / 2 in
-    let counted : c .before .at-most .result ≡ atMost (ofBits binary64 mid) (a .values .now) = c .before .at-most .ensures in
-    let rank = bits-rank (a .values .now) (λ i h. s .shared-slice-known .given i) (s .before .pre .ok) (a .k) (s .before .pre .inside) mid (omega arith) in
-    let more : a .k < atMost (ofBits binary64 mid) (a .values .now) = omega arith in
+    let counted : c .before .at-most .result ≡ atMost (ofBits binary64 mid) (floatsOf (a .values .now)) = c .before .at-most .ensures in
+    let rank = bits-rank (floatsOf (a .values .now)) (floats-held (a .values .now)) (s .before .pre .ok) (a .k) (s .before .pre .inside) mid (omega arith) in
+    let more : a .k < atMost (ofBits binary64 mid) (floatsOf (a .values .now)) = omega arith in
     (l .inv .0, leb-true _ _ (sym rank ∙ lt-ltb _ _ more), omega arith)
 
 add-lo : tie.Need-add-lo Inv-loop μ-loop
@@ -68,10 +70,10 @@ loop-again-2 c =
     let s = c .before .before .before .before in
     let a = s .before .args in
     let mid = l .lo + (l .hi - l .lo) / 2 in
-    let counted : c .before .at-most .result ≡ atMost (ofBits binary64 mid) (a .values .now) = c .before .at-most .ensures in
-    let rank = bits-rank (a .values .now) (λ i h. s .shared-slice-known .given i) (s .before .pre .ok) (a .k) (s .before .pre .inside) mid (omega arith) in
-    let few : atMost (ofBits binary64 mid) (a .values .now) ≤ a .k = omega arith in
-    let above : mid < key (placed (a .values .now) (a .k)) = leb-false _ _ (sym rank ∙ le-ltb _ _ few) in
+    let counted : c .before .at-most .result ≡ atMost (ofBits binary64 mid) (floatsOf (a .values .now)) = c .before .at-most .ensures in
+    let rank = bits-rank (floatsOf (a .values .now)) (floats-held (a .values .now)) (s .before .pre .ok) (a .k) (s .before .pre .inside) mid (omega arith) in
+    let few : atMost (ofBits binary64 mid) (floatsOf (a .values .now)) ≤ a .k = omega arith in
+    let above : mid < key (placed (floatsOf (a .values .now)) (a .k)) = leb-false _ _ (sym rank ∙ le-ltb _ _ few) in
     (omega arith, l .inv .1, l .inv .2)
 
 float-from-bits-result : tie.Need-float-from-bits-result Inv-loop μ-loop
@@ -82,8 +84,8 @@ returns c =
     let s = c .before .before in
     let a = s .before .args in
     let l = c .before .loop in
-    let x = placed (a .values .now) (a .k) in
-    let good = placed-good (a .values .now) (λ i h. s .shared-slice-known .given i) (s .before .pre .ok) (a .k) (s .before .pre .inside) in
+    let x = placed (floatsOf (a .values .now)) (a .k) in
+    let good = placed-good (floatsOf (a .values .now)) (floats-held (a .values .now)) (s .before .pre .ok) (a .k) (s .before .pre .inside) in
     let found : l .lo ≡ key x = omega arith in
     ap (ofBits binary64) found ∙ key-back x (good .held) ∙ sym (plus-zero-is x (good .held))
 

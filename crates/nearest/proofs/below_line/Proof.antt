@@ -1,33 +1,35 @@
 -- `nearest::below_line` meets its contract.
 -- Assumes nothing.
-use mathlib.Core.Path.{_≡_, refl, ap, _∙_}
-use mathlib.Core.Bool.{cond}
-use Prim.Native.Nat.{ℕ, _-_, _≤_, _<_}
+use mathlib.Core.Path.{_≡_, refl, ap, _∙_, subst}
+use Prim.Native.Nat.{ℕ, _+_, _-_, _≤_}
 use lib.ListN.{length, getD, length-set}
 use native.Mathlib.Omega.{arith}
+use Rattle.line.specs.steps.Part.{Written}
+use Rattle.line.proofs.Part.{written-none, written-more}
+use mathlib.Core.Bool.{cond}
 use Rattle.plane.specs.Plane.{on}
-use Rattle.plane.proofs.Plane.{table-is, filled}
-use Rattle.nearest.specs.Stages.{ownOr}
-use Rattle.nearest.proofs.InPlace.{untouched}
 use borrow.Author.Needs.{needs}
 use Rattle.nearest.proofs.below_line.Statement.{statement}
 use Rattle.nearest.proofs.below_line.Tie as tie
 
 abbrev Inv-loop : tie.InvT-loop
-Inv-loop mask y near₀ x₀ near x =
-    (x ≤ length near₀)
-    × (length near ≡ length near₀)
-    × ((k : ℕ) → k < x → getD near k 0 ≡ ownOr mask y near₀ k)
-    × ((k : ℕ) → x ≤ k → getD near k 0 ≡ getD near₀ k 0)
+Inv-loop mask y work₀ row next x₀ work x =
+    (x ≤ length mask) × (length work ≡ length work₀) × Written (λ (k : ℕ). cond (on (getD mask k 0)) y (getD work₀ (row + length mask + k) 0)) row x work₀ work
 
 abbrev μ-loop : tie.MeasureT-loop
-μ-loop mask y near₀ x₀ near x = length near₀ - x
+μ-loop mask y work₀ row next x₀ work x = length mask - x
+
+add-next : tie.Need-add-next Inv-loop μ-loop
+add-next c = omega arith
 
 loop-holds : tie.Need-loop-holds Inv-loop μ-loop
-loop-holds c = (omega arith, refl, (λ k h. absurd (omega arith)), (λ k h. refl))
+loop-holds c = let a = c .before .before .args in (omega arith, refl, written-none (λ (k : ℕ). cond (on (getD (a .mask .now) k 0)) (a .y) (getD (a .work .now) (a .row + length (a .mask .now) + k) 0)) (a .row) (a .work .now))
 
 shared-slice-read-own-row : tie.Need-shared-slice-read-own-row Inv-loop μ-loop
 shared-slice-read-own-row c = omega arith
+
+add-own-row : tie.Need-add-own-row Inv-loop μ-loop
+add-own-row c = omega arith
 
 mul-own-row : tie.Need-mul-own-row Inv-loop μ-loop
 mul-own-row c = omega arith
@@ -38,11 +40,14 @@ slice-read-own-row c = omega arith
 own-row-requires : tie.Need-own-row-requires Inv-loop μ-loop
 own-row-requires c κs = search needs
 
-mul-near : tie.Need-mul-near Inv-loop μ-loop
-mul-near c = omega arith
+add-work : tie.Need-add-work Inv-loop μ-loop
+add-work c = omega arith
 
-slice-write-near : tie.Need-slice-write-near Inv-loop μ-loop
-slice-write-near c = omega arith
+mul-work : tie.Need-mul-work Inv-loop μ-loop
+mul-work c = omega arith
+
+slice-write-work : tie.Need-slice-write-work Inv-loop μ-loop
+slice-write-work c = omega arith
 
 add-x : tie.Need-add-x Inv-loop μ-loop
 add-x c = omega arith
@@ -51,17 +56,16 @@ loop-less : tie.Need-loop-less Inv-loop μ-loop
 loop-less c = omega arith
 
 loop-again : tie.Need-loop-again Inv-loop μ-loop
-unfolding ownOr
 loop-again c =
     let l = c .before .before .before .before .loop in
-    let a = c .before .before .before .before .before .before .before .args in
-    let v = c .own-row .result in
-    let b : getD (l .near) (l .x) 0 ≡ getD (a .near .now) (l .x) 0 = l .inv .3 (l .x) (omega arith) in
-    let e : v ≡ ownOr (a .mask .now) (a .y) (a .near .now) (l .x) = c .own-row .ensures ∙ ap (cond (on (getD (a .mask .now) (l .x) 0)) (a .y)) b in (
+    let o = c .before .before .before .before .before .before .before in
+    let a = o .args in
+    let z = l .inv .1 in
+    let e : c .own-row .result ≡ cond (on (getD (a .mask .now) (l .x) 0)) (a .y) (getD (l .work) (a .row + length (a .mask .now) + l .x) 0) = c .own-row .ensures in (
       omega arith,
-      length-set (l .near) (l .x) v ∙ l .inv .1,
-      filled (ownOr (a .mask .now) (a .y) (a .near .now)) (l .near) (l .x) v 0 (omega arith) (l .inv .2) e,
-      untouched 0 (a .near .now) (l .near) (l .x) v (l .inv .3),
+      length-set (l .work) (a .row + l .x) _ ∙ z,
+      written-more (λ (k : ℕ). cond (on (getD (a .mask .now) k 0)) (a .y) (getD (a .work .now) (a .row + length (a .mask .now) + k) 0)) (a .row) (l .x) (a .work .now) (l .work) (c .own-row .result) (l .inv .2) (omega (arith, o .pre .room))
+          (e ∙ ap (cond (on (getD (a .mask .now) (l .x) 0)) (a .y)) (l .inv .2 .behind (a .row + length (a .mask .now) + l .x) (omega arith))),
     )
 
 same-length : tie.Need-same-length Inv-loop μ-loop
@@ -71,7 +75,8 @@ returns : tie.Need-returns Inv-loop μ-loop
 returns c =
     let l = c .before .loop in
     let a = c .before .before .before .before .args in
-    table-is (ownOr (a .mask .now) (a .y) (a .near .now)) (length (a .near .now)) (l .near) 0 (l .inv .1) (λ k g. l .inv .2 k (omega arith))
+    let e : l .x ≡ length (a .mask .now) = omega arith in
+    subst (λ (k : ℕ). Written (λ (k : ℕ). cond (on (getD (a .mask .now) k 0)) (a .y) (getD (a .work .now) (a .row + length (a .mask .now) + k) 0)) (a .row) k (a .work .now) (l .work)) e (l .inv .2)
 
 pub below-line-spec : {M : Type 1} → statement M
 below-line-spec =
@@ -79,13 +84,16 @@ below-line-spec =
     (tie.spec
     Inv-loop
     μ-loop
+    add-next
     loop-holds
     shared-slice-read-own-row
+    add-own-row
     mul-own-row
     slice-read-own-row
     own-row-requires
-    mul-near
-    slice-write-near
+    add-work
+    mul-work
+    slice-write-work
     add-x
     loop-less
     loop-again

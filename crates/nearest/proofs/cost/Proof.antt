@@ -2,13 +2,12 @@
 -- Assumes nothing.
 use mathlib.Core.Path.{_≡_}
 use mathlib.Core.Logic.{⊎-elim}
-use Prim.Native.Nat.{_*_, _≤_}
-use native.Mathlib.Nat.{mul-le-mul}
 use native.Mathlib.Omega.{arith}
 use borrow.Author.Tests.{lt-ltb, le-ltb}
-use borrow.Author.Needs.{needs}
 use Rattle.plane.specs.Plane.{apart}
-use Rattle.nearest.specs.Stages.{squareCost}
+use Rattle.line.proofs.Squares.{gap-fits}
+use Rattle.nearest.specs.steps.Stages.{squareCost}
+use borrow.Author.Needs.{needs}
 use Rattle.nearest.proofs.cost.Statement.{statement}
 use Rattle.nearest.proofs.cost.Tie as tie
 
@@ -21,16 +20,15 @@ sub-d : tie.Need-sub-d
 sub-d c = search needs
 
 mul-result : tie.Need-mul-result
-unfolding apart
 mul-result c =
-    let d = c .before .before .if1 .d in
-    let e = measured (c .before .before) in
-    let m : d * d ≤ 1073741824 * 1073741824 = mul-le-mul {n₁ = d} {m₁ = d} {n₂ = 1073741824} {m₂ = 1073741824} (omega arith) (omega arith) in
+    let j = c .before .before in
+    let a = j .before .args in
+    let m = gap-fits (a .y) (a .r) (j .if1 .d) (measured j) (omega arith) (c .before .if2 .taken) in
     omega arith
 
 returns : tie.Need-returns
 unfolding squareCost
-returns c = rw (lt-ltb _ _ (c .if2 .taken), measured (c .before .before))
+returns c = rw (lt-ltb _ _ (c .before .if2 .taken), measured (c .before .before))
 
 returns-2 : tie.Need-returns-2
 unfolding squareCost

@@ -1,39 +1,46 @@
 -- `nearest::costs_line` meets its contract.
 -- Assumes nothing.
-use mathlib.Core.Path.{_≡_, sym, _∙_}
-use Prim.Native.Nat.{ℕ, _-_, _≤_, _<_}
+use mathlib.Core.Path.{_≡_, refl, ap, _∙_, subst}
+use Prim.Native.Nat.{ℕ, _+_, _-_, _≤_}
 use lib.ListN.{length, getD, length-set}
 use native.Mathlib.Omega.{arith}
-use Rattle.plane.proofs.Plane.{table-is, filled}
-use Rattle.nearest.specs.Stages.{squareCost, costsLine}
+use Rattle.line.specs.steps.Part.{Written}
+use Rattle.line.proofs.Part.{written-none, written-more}
+use Rattle.nearest.specs.steps.Stages.{squareCost}
 use borrow.Author.Needs.{needs}
 use Rattle.nearest.proofs.costs_line.Statement.{statement}
 use Rattle.nearest.proofs.costs_line.Tie as tie
 
 abbrev Inv-loop : tie.InvT-loop
-Inv-loop y near costs₀ x₀ costs x =
-    (x ≤ length near) × (length costs ≡ length near) × ((k : ℕ) → k < x → getD costs k 0 ≡ squareCost y (getD near k 0))
+Inv-loop y work₀ near costs w x₀ work x =
+    (x ≤ w) × (length work ≡ length work₀) × Written (λ (k : ℕ). squareCost y (getD work₀ (near + k) 0)) costs x work₀ work
 
 abbrev μ-loop : tie.MeasureT-loop
-μ-loop y near costs₀ x₀ costs x = length near - x
+μ-loop y work₀ near costs w x₀ work x = w - x
 
 loop-holds : tie.Need-loop-holds Inv-loop μ-loop
-loop-holds c = (omega arith, c .before .before .pre .0, (λ k h. absurd (omega arith)))
+loop-holds c = let a = c .before .args in (omega arith, refl, written-none (λ (k : ℕ). squareCost (a .y) (getD (a .work .now) (a .near + k) 0)) (a .costs) (a .work .now))
+
+add-cost : tie.Need-add-cost Inv-loop μ-loop
+add-cost c = omega arith
 
 mul-cost : tie.Need-mul-cost Inv-loop μ-loop
 mul-cost c = omega arith
 
-shared-slice-read-cost : tie.Need-shared-slice-read-cost Inv-loop μ-loop
-shared-slice-read-cost c = omega arith
+slice-read-cost : tie.Need-slice-read-cost Inv-loop μ-loop
+slice-read-cost c = omega arith
 
 cost-requires : tie.Need-cost-requires Inv-loop μ-loop
 cost-requires c κs = search needs
 
-mul-costs : tie.Need-mul-costs Inv-loop μ-loop
-mul-costs c = omega arith
+add-work : tie.Need-add-work Inv-loop μ-loop
+add-work c = omega arith
 
-slice-write-costs : tie.Need-slice-write-costs Inv-loop μ-loop
-slice-write-costs c = omega arith
+mul-work : tie.Need-mul-work Inv-loop μ-loop
+mul-work c = omega arith
+
+slice-write-work : tie.Need-slice-write-work Inv-loop μ-loop
+slice-write-work c = omega arith
 
 add-x : tie.Need-add-x Inv-loop μ-loop
 add-x c = omega arith
@@ -44,22 +51,25 @@ loop-less c = omega arith
 loop-again : tie.Need-loop-again Inv-loop μ-loop
 loop-again c =
     let l = c .before .before .before .loop in
-    let a = c .before .before .before .before .before .before .args in
-    let v = c .cost .result in (
+    let o = c .before .before .before .before .before in
+    let a = o .args in
+    let z = l .inv .1 in
+    let e : c .cost .result ≡ squareCost (a .y) (getD (l .work) (a .near + l .x) 0) = c .cost .ensures in (
       omega arith,
-      length-set (l .costs) (l .x) v ∙ l .inv .1,
-      filled (λ (k : ℕ). squareCost (a .y) (getD (a .near .now) k 0)) (l .costs) (l .x) v 0 (omega arith) (l .inv .2) (c .cost .ensures),
+      length-set (l .work) (a .costs + l .x) _ ∙ z,
+      written-more (λ (k : ℕ). squareCost (a .y) (getD (a .work .now) (a .near + k) 0)) (a .costs) (l .x) (a .work .now) (l .work) (c .cost .result) (l .inv .2) (omega (arith, o .pre .room))
+          (e ∙ ap (squareCost (a .y)) (l .inv .2 .before (a .near + l .x) (omega (arith, o .pre .apart)))),
     )
 
 same-length : tie.Need-same-length Inv-loop μ-loop
-same-length c = c .before .loop .inv .1 ∙ sym (c .before .before .before .before .pre .0)
+same-length c = c .before .loop .inv .1
 
 returns : tie.Need-returns Inv-loop μ-loop
-unfolding costsLine
 returns c =
     let l = c .before .loop in
-    let a = c .before .before .before .before .args in
-    table-is (λ (k : ℕ). squareCost (a .y) (getD (a .near .now) k 0)) (length (a .near .now)) (l .costs) 0 (l .inv .1) (λ k g. l .inv .2 k (omega arith))
+    let a = c .before .before .before .args in
+    let e : l .x ≡ a .w = omega arith in
+    subst (λ (k : ℕ). Written (λ (k : ℕ). squareCost (a .y) (getD (a .work .now) (a .near + k) 0)) (a .costs) k (a .work .now) (l .work)) e (l .inv .2)
 
 pub costs-line-spec : {M : Type 1} → statement M
 costs-line-spec =
@@ -68,11 +78,13 @@ costs-line-spec =
     Inv-loop
     μ-loop
     loop-holds
+    add-cost
     mul-cost
-    shared-slice-read-cost
+    slice-read-cost
     cost-requires
-    mul-costs
-    slice-write-costs
+    add-work
+    mul-work
+    slice-write-work
     add-x
     loop-less
     loop-again

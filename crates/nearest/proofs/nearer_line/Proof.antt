@@ -1,91 +1,113 @@
 -- `nearest::nearer_line` meets its contract.
 -- Assumes nothing.
-use mathlib.Core.Path.{_≡_, refl, ap, _∙_}
-use Prim.Native.Nat.{ℕ, _-_, _≤_, _<_}
-use lib.IntN.{pos}
+use mathlib.Core.Path.{_≡_, refl, ap, _∙_, subst}
+use Prim.Native.Nat.{ℕ, _+_, _-_, _≤_, _<_}
 use lib.ListN.{length, getD, length-set}
 use native.Mathlib.Omega.{arith}
-use mir.Syntax.{w32}
-use mir.Facts.{toZ-ofZ}
-use Rattle.plane.proofs.Plane.{table-is, filled}
-use Rattle.nearest.specs.Stages.{codeOf, nearer, nearerLine}
-use Rattle.nearest.proofs.InPlace.{untouched}
-use borrow.Author.Needs.{needs}
+use Rattle.line.specs.steps.Part.{Written}
+use Rattle.line.proofs.Part.{written-none, written-more}
+use Rattle.nearest.specs.steps.Stages.{nearer}
 use Rattle.nearest.proofs.nearer_line.Statement.{statement}
 use Rattle.nearest.proofs.nearer_line.Tie as tie
 
 abbrev Inv-loop : tie.InvT-loop
-Inv-loop y rows near₀ x₀ near x =
-    (x ≤ length near₀)
-    × (length near ≡ length near₀)
-    × ((k : ℕ) → k < x → getD near k 0 ≡ nearer y (codeOf (getD rows k (pos 0))) (getD near₀ k 0))
-    × ((k : ℕ) → x ≤ k → getD near k 0 ≡ getD near₀ k 0)
+Inv-loop y work₀ row near w x₀ work x =
+    (x ≤ w) × (length work ≡ length work₀) × Written (λ (k : ℕ). nearer y (getD work₀ (row + k) 0) (getD work₀ (near + k) 0)) near x work₀ work
 
 abbrev μ-loop : tie.MeasureT-loop
-μ-loop y rows near₀ x₀ near x = length near₀ - x
+μ-loop y work₀ row near w x₀ work x = w - x
+
+-- the two numbers that are read are those of the start
+pub record Read (c : tie.In-loop Inv-loop μ-loop) : Type 0 where
+  pub a-is : getD (c .before .loop .work) (c .before .before .before .args .row + c .before .loop .x) 0 ≡ getD (c .before .before .before .args .work .now) (c .before .before .before .args .row + c .before .loop .x) 0
+  pub b-is : getD (c .before .loop .work) (c .before .before .before .args .near + c .before .loop .x) 0 ≡ getD (c .before .before .before .args .work .now) (c .before .before .before .args .near + c .before .loop .x) 0
+  pub inside : c .before .loop .x < c .before .before .before .args .w
+  pub apart : c .before .before .before .args .row + c .before .before .before .args .w ≤ c .before .before .before .args .near
+  pub room : c .before .before .before .args .near + c .before .before .before .args .w ≤ length (c .before .loop .work)
+
+read : (c : tie.In-loop Inv-loop μ-loop) → Read c
+read c =
+    let l = c .before .loop in
+    let o = c .before .before .before in
+    let a = o .args in
+    let t = c .loop-test .taken in
+    let e = l .inv .1 in
+    record {
+      a-is = l .inv .2 .before (a .row + l .x) (omega (arith, o .pre .apart));
+      b-is = l .inv .2 .behind (a .near + l .x) (omega arith);
+      inside = t;
+      apart = o .pre .apart;
+      room = omega (arith, o .pre .room);
+    }
 
 loop-holds : tie.Need-loop-holds Inv-loop μ-loop
-loop-holds c = (omega arith, refl, (λ k h. absurd (omega arith)), (λ k h. refl))
+loop-holds c = let a = c .before .args in (omega arith, refl, written-none (λ (k : ℕ). nearer (a .y) (getD (a .work .now) (a .row + k) 0) (getD (a .work .now) (a .near + k) 0)) (a .near) (a .work .now))
 
-mul-code : tie.Need-mul-code Inv-loop μ-loop
-mul-code c = omega arith
+add-a : tie.Need-add-a Inv-loop μ-loop
+add-a c = let r = read c in omega arith
 
-shared-slice-copy-out-code : tie.Need-shared-slice-copy-out-code Inv-loop μ-loop
-shared-slice-copy-out-code c = omega arith
+mul-a : tie.Need-mul-a Inv-loop μ-loop
+mul-a c = let r = read c in omega arith
 
-code-requires : tie.Need-code-requires Inv-loop μ-loop
-code-requires c κs = search needs
+slice-read-a : tie.Need-slice-read-a Inv-loop μ-loop
+slice-read-a c = let r = read (c .before) in omega arith
+
+add-b : tie.Need-add-b Inv-loop μ-loop
+add-b c = let r = read (c .before) in omega arith
 
 mul-b : tie.Need-mul-b Inv-loop μ-loop
-mul-b c = omega arith
+mul-b c = let r = read (c .before) in omega arith
 
 slice-read-b : tie.Need-slice-read-b Inv-loop μ-loop
-slice-read-b c = omega arith
+slice-read-b c = let r = read (c .before .before) in omega arith
 
 nearer-row-requires : tie.Need-nearer-row-requires Inv-loop μ-loop
 nearer-row-requires c κs =
-    let l = c .before .before .before .before .loop in
-    let o = c .before .before .before .before .before .before in
-    let b = l .inv .3 (l .x) (omega arith) in
-    let k = o .pre .1 .1 .low (l .x) (omega arith) in
-    (o .pre .1 .0, (c .before .code .ensures .1, omega arith))
+    let i = c .before .before in
+    let r = read i in
+    let p = i .before .before .before .pre in
+    let x = i .before .loop .x in
+    let g = p .row-low x (r .inside) in
+    let h = p .near-low x (r .inside) in
+    (p .row-in, omega arith, omega arith)
 
-mul-near : tie.Need-mul-near Inv-loop μ-loop
-mul-near c = omega arith
+add-work : tie.Need-add-work Inv-loop μ-loop
+add-work c = let r = read (c .before .before .before) in omega arith
 
-slice-write-near : tie.Need-slice-write-near Inv-loop μ-loop
-slice-write-near c = omega arith
+mul-work : tie.Need-mul-work Inv-loop μ-loop
+mul-work c = let r = read (c .before .before .before) in omega arith
+
+slice-write-work : tie.Need-slice-write-work Inv-loop μ-loop
+slice-write-work c = let r = read (c .before .before .before) in omega arith
 
 add-x : tie.Need-add-x Inv-loop μ-loop
-add-x c = omega arith
+add-x c = let r = read (c .before .before .before) in omega arith
 
 loop-less : tie.Need-loop-less Inv-loop μ-loop
 loop-less c = omega arith
 
 loop-again : tie.Need-loop-again Inv-loop μ-loop
 loop-again c =
-    let l = c .before .before .before .before .before .loop in
-    let o = c .before .before .before .before .before .before .before in
-    let a = o .args in
-    let v = c .nearer-row .result in
-    let ea : c .before .before .code .result ≡ codeOf (getD (a .rows .now) (l .x) (pos 0)) = c .before .before .code .ensures .0 ∙ ap codeOf (toZ-ofZ {w = w32} {z = getD (a .rows .now) (l .x) (pos 0)} (record { sfits = c .before .before .before .code-arg .given })) in
-    let eb : getD (l .near) (l .x) 0 ≡ getD (a .near .now) (l .x) 0 = l .inv .3 (l .x) (omega arith) in
-    let e : v ≡ nearer (a .y) (c .before .before .code .result) (getD (l .near) (l .x) 0) = c .nearer-row .ensures in (
+    let i = c .before .before .before in
+    let l = i .before .loop in
+    let a = i .before .before .before .args in
+    let r = read i in
+    let e : c .nearer-row .result ≡ nearer (a .y) (getD (l .work) (a .row + l .x) 0) (getD (l .work) (a .near + l .x) 0) = c .nearer-row .ensures in (
       omega arith,
-      length-set (l .near) (l .x) v ∙ l .inv .1,
-      filled (λ (k : ℕ). nearer (a .y) (codeOf (getD (a .rows .now) k (pos 0))) (getD (a .near .now) k 0)) (l .near) (l .x) v 0 (omega arith) (l .inv .2) (rw (ea, eb) at e),
-      untouched 0 (a .near .now) (l .near) (l .x) v (l .inv .3),
+      length-set (l .work) (a .near + l .x) _ ∙ l .inv .1,
+      written-more (λ (k : ℕ). nearer (a .y) (getD (a .work .now) (a .row + k) 0) (getD (a .work .now) (a .near + k) 0)) (a .near) (l .x) (a .work .now) (l .work) (c .nearer-row .result) (l .inv .2) (omega arith)
+          (e ∙ ap (λ (k : ℕ). nearer (a .y) k (getD (l .work) (a .near + l .x) 0)) (r .a-is) ∙ ap (nearer (a .y) (getD (a .work .now) (a .row + l .x) 0)) (r .b-is)),
     )
 
 same-length : tie.Need-same-length Inv-loop μ-loop
 same-length c = c .before .loop .inv .1
 
 returns : tie.Need-returns Inv-loop μ-loop
-unfolding nearerLine
 returns c =
     let l = c .before .loop in
     let a = c .before .before .before .args in
-    table-is (λ (k : ℕ). nearer (a .y) (codeOf (getD (a .rows .now) k (pos 0))) (getD (a .near .now) k 0)) (length (a .near .now)) (l .near) 0 (l .inv .1) (λ k g. l .inv .2 k (omega arith))
+    let e : l .x ≡ a .w = omega arith in
+    subst (λ (k : ℕ). Written (λ (k : ℕ). nearer (a .y) (getD (a .work .now) (a .row + k) 0) (getD (a .work .now) (a .near + k) 0)) (a .near) k (a .work .now) (l .work)) e (l .inv .2)
 
 pub nearer-line-spec : {M : Type 1} → statement M
 nearer-line-spec =
@@ -94,14 +116,16 @@ nearer-line-spec =
     Inv-loop
     μ-loop
     loop-holds
-    mul-code
-    shared-slice-copy-out-code
-    code-requires
+    add-a
+    mul-a
+    slice-read-a
+    add-b
     mul-b
     slice-read-b
     nearer-row-requires
-    mul-near
-    slice-write-near
+    add-work
+    mul-work
+    slice-write-work
     add-x
     loop-less
     loop-again

@@ -3,8 +3,8 @@
 use Prim.Native.Nat.{_+_, _*_}
 use native.Mathlib.Omega.{arith}
 use borrow.Author.Tests.{lt-ltb, le-ltb}
+use Rattle.nearest.specs.steps.Stages.{nearer}
 use borrow.Author.Needs.{needs}
-use Rattle.nearest.specs.Stages.{nearer}
 use Rattle.nearest.proofs.nearer_row.Statement.{statement}
 use Rattle.nearest.proofs.nearer_row.Tie as tie
 

@@ -1,90 +1,131 @@
 -- `nearest::nearest_indices` meets its contract.
 -- Assumes nothing.
-use Rattle.plane.specs.Plane.{mostSide}
-use Rattle.nearest.specs.Stages.{noRow}
-use Rattle.nearest.proofs.InPlace.{cut-long, cut-is}
-use borrow.Author.Needs.{needs}
+use mathlib.Core.Path.{_≡_, refl, _∙_}
+use Prim.Native.Nat.{ℕ, _+_, _*_, _-_, _≤_, _<_}
+use lib.ListN.{length, getD}
+use native.Mathlib.Omega.{arith}
+use Rattle.plane.specs.Plane.{indexOf}
+use Rattle.plane.proofs.Plane.{row-in, area-most}
+use Rattle.nearest.specs.Nearest.{nearest}
+use Rattle.line.specs.steps.Part.{part}
+use Rattle.nearest.specs.steps.Stages.{Swept, pixelAt}
+use Rattle.nearest.proofs.Rows.{row-room, index-room, index-next, index-swept, indices-done}
 use Rattle.nearest.proofs.nearest_indices.Statement.{statement}
 use Rattle.nearest.proofs.nearest_indices.Tie as tie
 
-sub-indices : tie.Need-sub-indices
-sub-indices c = search needs
+abbrev Inv-loop : tie.InvT-loop
+Inv-loop mask h w work₀ n y₀ work y =
+    (y ≤ h)
+    × (length work ≡ length work₀)
+    × Swept mask h w y work
+    × ((j x : ℕ) → j < y → x < w → getD work (j * w + x) 0 ≡ indexOf w (nearest mask h w j x))
 
-part-near-start : tie.Need-part-near-start
-part-near-start c = search needs
+abbrev μ-loop : tie.MeasureT-loop
+μ-loop mask h w work₀ n y₀ work y = h - y
 
-part-near-end : tie.Need-part-near-end
-part-near-end c = search needs
+abbrev start : tie.At-loop Inv-loop μ-loop → tie.Start Inv-loop μ-loop
+start c = c .before .before .before .before .before .before .before
 
-sub-indices-2 : tie.Need-sub-indices-2
-sub-indices-2 c = search needs
+-- row y lies in the planes, and the buffer has its length
+pub record Row (c : tie.In-loop Inv-loop μ-loop) : Type 0 where
+  pub above : c .before .loop .y < start (c .before) .args .h
+  pub inside : c .before .loop .y * start (c .before) .args .w + start (c .before) .args .w ≤ start (c .before) .args .h * start (c .before) .args .w
+  pub room : start (c .before) .args .h * start (c .before) .args .w + 3 * start (c .before) .args .w ≤ length (c .before .loop .work)
+  pub most : start (c .before) .args .h * start (c .before) .args .w ≤ 4294967296
+  pub tall : start (c .before) .args .h ≤ 65536
+  pub wide : start (c .before) .args .w ≤ 65536
 
-part-costs-start : tie.Need-part-costs-start
-part-costs-start c = search needs
+row : (c : tie.In-loop Inv-loop μ-loop) → Row c
+row c =
+    let l = c .before .loop in
+    let o = start (c .before) in
+    let t = c .loop-test .taken in
+    let e : length (l .work) ≡ length (o .args .work .now) = l .inv .1 ∙ c .before .before .before .before .below .kept .1 .1 .1 .0 in
+    record {
+      above = t;
+      inside = row-in (l .y) (o .args .h) (o .args .w) t;
+      room = omega (arith, o .pre .room);
+      most = area-most (o .pre .sides .tall) (o .pre .sides .wide);
+      tall = o .pre .sides .tall;
+      wide = o .pre .sides .wide;
+    }
 
-part-costs-end : tie.Need-part-costs-end
-part-costs-end c = search needs
+below-requires : tie.Need-below-requires Inv-loop μ-loop
+below-requires c κs = let p = c .before .before .before .pre in record { sides = p .sides; mask-long = p .mask-long; room = p .room }
 
-sub-indices-3 : tie.Need-sub-indices-3
-sub-indices-3 c = search needs
+mul-n : tie.Need-mul-n Inv-loop μ-loop
+mul-n c = let p = c .before .before .before .before .before .before .pre in omega (arith, area-most (p .sides .tall) (p .sides .wide))
 
-part-s-start : tie.Need-part-s-start
-part-s-start c = search needs
+loop-holds : tie.Need-loop-holds Inv-loop μ-loop
+loop-holds c = (omega arith, refl, c .before .before .below .ensures, (λ j x l g. absurd (omega arith)))
 
-part-s-end : tie.Need-part-s-end
-part-s-end c = search needs
+row-pass-requires : tie.Need-row-pass-requires Inv-loop μ-loop
+row-pass-requires c κs =
+    let i = c .before in
+    let l = i .before .loop in
+    let a = start (i .before) .args in
+    let r = row i in
+    row-room (a .mask .now) (a .h) (a .w) (l .y) (l .work) (r .above) (r .tall) (r .wide) (r .room) (l .inv .2)
 
-sub-indices-4 : tie.Need-sub-indices-4
-sub-indices-4 c = search needs
+mul-index-line : tie.Need-mul-index-line Inv-loop μ-loop
+mul-index-line c = let s = c .before .before .before in let r = row (s .before .before) in let e = s .row-pass .kept .1 .1 .1 .0 in omega (arith, r .above, r .inside, r .room, r .most)
 
-part-t-start : tie.Need-part-t-start
-part-t-start c = search needs
+index-line-requires : tie.Need-index-line-requires Inv-loop μ-loop
+index-line-requires c κs =
+    let s = c .before .before .before in
+    let i = s .before .before in
+    let l = i .before .loop in
+    let a = start (i .before) .args in
+    let r = row i in
+    index-room (a .mask .now) (a .h) (a .w) (l .y) (l .work) (r .above) (r .tall) (r .wide) (r .room) (l .inv .2) (s .row-pass .last .1 .1 .1 .0) (s .row-pass .kept .1 .1 .1 .0) (s .row-pass .ensures)
 
-part-t-end : tie.Need-part-t-end
-part-t-end c = search needs
+add-y : tie.Need-add-y Inv-loop μ-loop
+add-y c = let r = row (c .before .before .before .before .before .before .before .before) in omega (arith, r .above, r .tall)
 
-sub-indices-5 : tie.Need-sub-indices-5
-sub-indices-5 c = search needs
+loop-less : tie.Need-loop-less Inv-loop μ-loop
+loop-less c = let t = c .before .before .before .before .before .before .before .before .loop-test .taken in omega arith
 
-part-places-start : tie.Need-part-places-start
-part-places-start c = search needs
+loop-again : tie.Need-loop-again Inv-loop μ-loop
+loop-again c =
+    let s = c .before .before .before .before .before .before in
+    let i = s .before .before in
+    let l = i .before .loop in
+    let a = start (i .before) .args in
+    let r = row i in
+    let d = c .before .before .index-line in (
+      omega (arith, r .above),
+      d .kept .0 ∙ s .row-pass .kept .1 .1 .1 .0 ∙ l .inv .1,
+      index-swept (a .mask .now) (a .h) (a .w) (l .y) (l .work) (r .above) (r .tall) (r .wide) (r .room) (l .inv .2) (s .row-pass .last .1 .1 .1 .0) (s .row-pass .kept .1 .1 .1 .0) (s .row-pass .ensures) (d .last .0) (λ (x : ℕ). indexOf (a .w) (pixelAt (part (s .row-pass .last .1 .1 .1 .0) (a .h * a .w) (a .w)) (getD (s .row-pass .last .1 .1 .1 .0) (l .y * a .w + x) 0))) (d .ensures),
+      index-next (a .mask .now) (a .h) (a .w) (l .y) (l .work) (r .above) (r .tall) (r .wide) (r .room) (l .inv .2) (s .row-pass .last .1 .1 .1 .0) (s .row-pass .kept .1 .1 .1 .0) (s .row-pass .ensures) (d .last .0) (d .ensures) (l .inv .3),
+    )
 
-part-places-end : tie.Need-part-places-end
-part-places-end c = search needs
+same-length : tie.Need-same-length Inv-loop μ-loop
+same-length c = c .before .loop .inv .1 ∙ c .before .before .before .before .below .kept .1 .1 .1 .0
 
-indices-requires : tie.Need-indices-requires
-indices-requires c κs =
-    let o = c .before .before .before .before .before .before .before .before in
-    let w = o .args .w in
-    let l = o .pre .sides .wide in
-    let long = cut-long w mostSide 0 l in
-    (o .pre, (record { near-long = cut-long w mostSide noRow l; costs-long = long; s-long = long; t-long = long; places-long = long }, cut-is w mostSide noRow l))
-
-same-length : tie.Need-same-length
-same-length c = search needs
-
-returns : tie.Need-returns
-returns c = search needs
+returns : tie.Need-returns Inv-loop μ-loop
+returns c =
+    let l = c .before .loop in
+    let o = start (c .before) in
+    let a = o .args in
+    let t = c .loop-test .left in
+    let e : l .y ≡ a .h = omega (arith, l .inv .0) in
+    let z : length (l .work) ≡ length (a .work .now) = l .inv .1 ∙ c .before .before .before .before .below .kept .1 .1 .1 .0 in
+    indices-done (a .mask .now) (a .h) (a .w) (l .work) (omega (arith, o .pre .room)) (λ j x g b. l .inv .3 j x (omega arith) b)
 
 pub nearest-indices-spec : {M : Type 1} → statement M
 nearest-indices-spec =
     tie.close
     (tie.spec
-    sub-indices
-    part-near-start
-    part-near-end
-    sub-indices-2
-    part-costs-start
-    part-costs-end
-    sub-indices-3
-    part-s-start
-    part-s-end
-    sub-indices-4
-    part-t-start
-    part-t-end
-    sub-indices-5
-    part-places-start
-    part-places-end
-    indices-requires
+    Inv-loop
+    μ-loop
+    below-requires
+    mul-n
+    loop-holds
+    row-pass-requires
+    mul-index-line
+    index-line-requires
+    add-y
+    loop-less
+    loop-again
     same-length
     returns)

@@ -5,8 +5,9 @@ use lib.ListN.{length, getD}
 use borrow.Author.Tests.{lt-ltb, le-ltb}
 use mir.Syntax.{w32}
 use mir.Facts.{toZ-pos}
+use Rattle.nearest.specs.Nearest.{rowOf}
+use Rattle.nearest.specs.steps.Stages.{pixelAt}
 use borrow.Author.Needs.{needs}
-use Rattle.nearest.specs.Stages.{rowAt}
 use Rattle.nearest.proofs.row_at.Statement.{statement}
 use Rattle.nearest.proofs.row_at.Tie as tie
 
@@ -17,18 +18,19 @@ shared-slice-read-result : tie.Need-shared-slice-read-result
 shared-slice-read-result c = search needs
 
 cast-result : tie.Need-cast-result
-cast-result c = let a = c .before .before .args in let l = c .before .before .pre .low (a .i) (c .before .if1 .taken) in record { sfits = omega arith }
+cast-result c = let l = c .before .before .pre (c .before .if1 .taken) in record { sfits = omega arith }
 
 returns : tie.Need-returns
-unfolding rowAt
+unfolding pixelAt rowOf
 returns c =
     let a = c .before .before .args in
-    let l = c .before .before .pre .low (a .i) (c .before .if1 .taken) in
+    let l = c .before .before .pre (c .before .if1 .taken) in
     rw (toZ-pos w32 {n = getD (a .near .now) (a .i) 0} (omega arith), lt-ltb (a .i) (length (a .near .now)) (c .before .if1 .taken))
 
 returns-2 : tie.Need-returns-2
-unfolding rowAt
+unfolding pixelAt rowOf
 returns-2 c = rw (le-ltb _ _ (c .if1 .left))
 
 pub row-at-spec : {M : Type 1} → statement M
-row-at-spec = tie.close (tie.spec mul-result shared-slice-read-result cast-result returns returns-2)
+row-at-spec =
+    tie.close (tie.spec mul-result shared-slice-read-result cast-result returns returns-2)

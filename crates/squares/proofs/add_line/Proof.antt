@@ -1,23 +1,23 @@
 -- `squares::add_line` meets its contract. The loop's invariant: the numbers before x are done.
 -- Assumes nothing.
-use mathlib.Core.Path.{ap, _∙_, sym}
+use mathlib.Core.Path.{ap}
 use Prim.Native.Nat.{ℕ, _+_, _-_, _≤_}
-use native.Mathlib.Nat.{le-refl, add-zero}
+use native.Mathlib.Nat.{le-refl}
 use native.Mathlib.Omega.{arith}
-use lib.ListN.{length, getD, List·getD-eq-default}
-use Rattle.squares.specs.Window.{addedLine}
-use Rattle.squares.proofs.Passes.{Changed, changed-none, changed-more, changed-all}
+use lib.ListN.{length, getD}
+use Rattle.plane.proofs.InPlace.{Changed, changed-none, changed-more, changed-end}
+use Rattle.squares.specs.steps.Window.{addedLine}
 use Rattle.squares.proofs.add_line.Statement.{statement}
 use Rattle.squares.proofs.add_line.Tie as tie
 
 abbrev Inv-loop : tie.InvT-loop
-Inv-loop line counts₀ x₀ counts x = (x ≤ length line) × Changed (λ (i : ℕ). getD counts₀ i 0 + getD line i 0) counts₀ counts x
+Inv-loop line counts₀ x₀ counts x = (x ≤ length line) × Changed 0 (λ (i : ℕ). getD counts₀ i 0 + getD line i 0) counts₀ counts x
 
 abbrev μ-loop : tie.MeasureT-loop
 μ-loop line counts₀ x₀ counts x = length line - x
 
 loop-holds : tie.Need-loop-holds Inv-loop μ-loop
-loop-holds c = (omega arith, changed-none (λ (i : ℕ). getD (c .args .counts .now) i 0 + getD (c .args .line .now) i 0) (c .args .counts .now))
+loop-holds c = (omega arith, changed-none 0 (λ (i : ℕ). getD (c .args .counts .now) i 0 + getD (c .args .line .now) i 0) (c .args .counts .now))
 
 mul-counts : tie.Need-mul-counts Inv-loop μ-loop
 mul-counts c = omega (arith, c .before .loop .inv .1 .size)
@@ -55,7 +55,7 @@ loop-again c =
     let o = c .before .before .before .before in
     let f : ℕ → ℕ = λ (i : ℕ). getD (o .args .counts .now) i 0 + getD (o .args .line .now) i 0 in (
       omega arith,
-      changed-more f (o .args .counts .now) (l .counts) (l .x) _ (l .inv .1) (omega (arith, l .inv .1 .size))
+      changed-more 0 f (o .args .counts .now) (l .counts) (l .x) _ (l .inv .1) (omega (arith, l .inv .1 .size, o .pre .room))
           (ap (λ (n : ℕ). n + getD (o .args .line .now) (l .x) 0) (l .inv .1 .back (l .x) (le-refl (l .x)))),
     )
 
@@ -64,11 +64,7 @@ same-length c = c .before .loop .inv .1 .size
 
 returns : tie.Need-returns Inv-loop μ-loop
 unfolding addedLine
-returns c =
-    let l = c .before .loop in
-    let a = c .before .before .args in
-    changed-all (λ (i : ℕ). getD (a .counts .now) i 0 + getD (a .line .now) i 0) (a .counts .now) (l .counts) (l .x) (l .inv .1)
-    (λ i g. sym (add-zero (getD (a .counts .now) i 0)) ∙ ap (λ (n : ℕ). getD (a .counts .now) i 0 + n) (sym (List·getD-eq-default (a .line .now) 0 {n = i} (omega arith))))
+returns c = let l = c .before .loop in changed-end 0 _ _ (l .counts) (l .x) (l .inv .1) (omega (arith, c .before .before .pre .room))
 
 pub add-line-spec : {M : Type 1} → statement M
 add-line-spec =

@@ -1,35 +1,31 @@
 -- `squares::sweep` meets its contract. The loop's invariant: the counts are those of row y's window, and the first y rows are written.
 -- Assumes nothing.
 use mathlib.Core.Path.{_≡_, refl, ap, _∙_}
-use mathlib.Core.List.{List, [], _++_, append-nil}
+use mathlib.Core.List.{List}
 use Prim.Native.Nat.{ℕ, _+_, _*_, _-_, _≤_}
-use native.Mathlib.Nat.{zero-mul}
 use native.Mathlib.Omega.{arith}
-use lib.ListN.{length, take, drop, length-take, length-drop, drop-of-length-le}
-use borrow.Rule.Slice.PartMut.{same-len-mid}
-use Rattle.plane.specs.Plane.{bit, table, rowsUpto, planeOf}
-use Rattle.plane.proofs.Plane.{row-in, table-length, put-row}
-use Rattle.squares.specs.Window.{inWindow, onDown, dilatedColumns, testedLine, Columns}
-use Rattle.squares.proofs.Passes.{row-tested}
+use lib.ListN.{length, getD, length-take, length-drop}
+use Rattle.squares.specs.steps.Window.{testedLine, Columns, Swept}
+use Rattle.squares.proofs.Passes.{strip-in, tested-length, row-tested, none-swept, row-swept}
 use Rattle.squares.proofs.sweep.Statement.{statement}
 use Rattle.squares.proofs.sweep.Tie as tie
 
--- row y of the plane after the pass down the columns
-abbrev rowOf : List ℕ → ℕ → ℕ → ℕ → ℕ → List ℕ
-rowOf plane h w k y = table (λ (x : ℕ). bit (inWindow h k y (onDown plane w x))) 0 w
-
 abbrev Inv-loop : tie.InvT-loop
-Inv-loop plane h w k counts₀ out₀ y₀ counts out y = (y ≤ h) × Columns plane h w k y counts × (length counts ≡ length counts₀) × (length out ≡ length out₀) × (out ≡ rowsUpto y (rowOf plane h w k) ++ drop (y * w) out₀)
+Inv-loop plane h w k c counts₀ out₀ n y₀ counts out y =
+    (y ≤ h) × Columns plane h w k c y counts × (length counts ≡ length counts₀) × Swept plane h w k c (length counts₀) y out₀ out
 
 abbrev μ-loop : tie.MeasureT-loop
-μ-loop plane h w k counts₀ out₀ y₀ counts out y = h - y
+μ-loop plane h w k c counts₀ out₀ n y₀ counts out y = h - y
 
 loop-holds : tie.Need-loop-holds Inv-loop μ-loop
-loop-holds c = let o = c .before .before .before in (omega arith, o .pre .1 .0, refl, refl, unfold rowsUpto in rw zero-mul)
+loop-holds c = let o = c .before .before .before in (omega arith, o .pre .1 .0, refl, none-swept _ _ _ _ _ _ _)
 
 -- row y ends within the plane
-row-here : (c : tie.In-loop Inv-loop μ-loop) → let a = c .before .before .before .before .before .args in c .before .loop .y * a .w + a .w ≤ a .h * a .w
-row-here c = row-in _ _ _ (c .loop-test .taken)
+row-here : (c : tie.In-loop Inv-loop μ-loop) → let a = c .before .before .before .before .before .args in c .before .loop .y * a .w + a .c + length (a .counts .now) ≤ a .h * a .w
+row-here c =
+    let o = c .before .before .before .before .before in
+    let a = o .args in
+    strip-in (c .before .loop .y) (a .c) (length (a .counts .now)) (a .h) (a .w) (c .loop-test .taken) (o .pre .1 .0 .inside)
 
 mul-test-line : tie.Need-mul-test-line Inv-loop μ-loop
 mul-test-line c = let r = row-here (c .before) in omega arith
@@ -40,6 +36,12 @@ mul-test-line-2 c = let r = row-here (c .before) in omega arith
 add-test-line : tie.Need-add-test-line Inv-loop μ-loop
 add-test-line c = let r = row-here (c .before) in omega arith
 
+add-test-line-2 : tie.Need-add-test-line-2 Inv-loop μ-loop
+add-test-line-2 c = let r = row-here (c .before) in omega arith
+
+add-test-line-3 : tie.Need-add-test-line-3 Inv-loop μ-loop
+add-test-line-3 c = let r = row-here (c .before) in omega arith
+
 sub-test-line : tie.Need-sub-test-line Inv-loop μ-loop
 sub-test-line c = let r = row-here (c .before) in omega arith
 
@@ -47,10 +49,13 @@ part-test-line-start : tie.Need-part-test-line-start Inv-loop μ-loop
 part-test-line-start c = let r = row-here (c .before) in omega arith
 
 part-test-line-end : tie.Need-part-test-line-end Inv-loop μ-loop
-part-test-line-end c = let r = row-here (c .before) in omega arith
+part-test-line-end c = let r = row-here (c .before) in omega (arith, c .before .before .loop .inv .3 .size)
 
 test-line-requires : tie.Need-test-line-requires Inv-loop μ-loop
-test-line-requires c κs = let r = row-here (c .before .before) in simp (length-take, length-drop) (omega (arith, c .before .before .before .loop .inv .1 .room))
+test-line-requires c κs =
+    let l = c .before .before .before .loop in
+    let r = row-here (c .before .before) in
+    simp (length-take, length-drop) (omega (arith, l .inv .2, l .inv .3 .size))
 
 enter-row-requires : tie.Need-enter-row-requires Inv-loop μ-loop
 enter-row-requires c κs =
@@ -76,32 +81,29 @@ loop-again c =
     let a = o .args in
     let r = row-here t in
     let call = c .before .before .before .before .before .before .before .before .before .before .test-line in
-    let n = l .y * a .w + a .w - l .y * a .w in
-    let q : n ≡ a .w = omega arith in
-    let long : length (take n (drop (l .y * a .w) (l .out))) ≡ a .w = simp (length-take, length-drop) (omega (arith, o .pre .1 .1, l .inv .3)) in
-    let row : call .last .1 .0 ≡ rowOf (a .plane .now) (a .h) (a .w) (a .k) (l .y) = call .ensures ∙ ap (testedLine (l .counts)) long ∙ row-tested (o .pre .0) (l .counts) (l .y) (l .inv .1) in (
+    let start = l .y * a .w + a .c in
+    let m = length (a .counts .now) in
+    let row = call .last .1 .0 in
+    let e : row ≡ testedLine (l .counts) = call .ensures in
+    let long : length row ≡ m = ap length e ∙ tested-length (l .counts) ∙ l .inv .2 in (
       omega (arith, t .loop-test .taken),
       c .before .before .leave-row .ensures,
-      c .before .before .leave-row .kept .1 .1 .1 .1 .1 .0 ∙ c .before .before .before .before .before .before .enter-row .kept .1 .1 .1 .1 .1 .0 ∙ l .inv .2,
-      same-len-mid (l .y * a .w) n (l .out) (call .last .1 .0) (call .kept .1 .0) ∙ l .inv .3,
-      put-row (rowOf (a .plane .now) (a .h) (a .w) (a .k)) (a .w) (λ y. table-length (λ (x : ℕ). bit (inWindow (a .h) (a .k) y (onDown (a .plane .now) (a .w) x))) 0 (a .w)) (l .y) n (a .out .now) (l .out) (call .last .1 .0) (l .inv .4) q row,
+      c .before .before .leave-row .kept .1 .1 .1 .1 .1 .1 .0 ∙ c .before .before .before .before .before .before .enter-row .kept .1 .1 .1 .1 .1 .1 .0 ∙ l .inv .2,
+      row-swept (a .plane .now) (a .h) (a .w) (a .k) (a .c) m (l .y) (start + m - start) (a .out .now) (l .out) row (l .inv .3) (o .pre .1 .1) (t .loop-test .taken) (o .pre .1 .0 .inside) (omega arith) long
+          (λ x g. ap (λ (u : List ℕ). getD u x 0) e ∙ row-tested (o .pre .0) (l .counts) (a .c) (l .y) (l .inv .1) x (omega (arith, l .inv .2))),
     )
 
 same-length : tie.Need-same-length Inv-loop μ-loop
 same-length c = c .before .loop .inv .2
 
 same-length-2 : tie.Need-same-length-2 Inv-loop μ-loop
-same-length-2 c = c .before .loop .inv .3
+same-length-2 c = c .before .loop .inv .3 .size
 
 returns : tie.Need-returns Inv-loop μ-loop
-unfolding dilatedColumns planeOf
 returns c =
     let l = c .before .loop in
-    let o = c .before .before .before .before .before in
-    let a = o .args in
-    let e : l .y ≡ a .h = omega arith in
-    let d : drop (a .h * a .w) (a .out .now) ≡ [] = drop-of-length-le (a .out .now) {i = a .h * a .w} (omega (arith, o .pre .1 .1)) in
-    l .inv .4 ∙ rw (e, d, append-nil) refl
+    let e : l .y ≡ c .before .before .before .before .before .args .h = omega arith in
+    rw e at (l .inv .3)
 
 pub sweep-spec : {M : Type 1} → statement M
 sweep-spec =
@@ -111,8 +113,10 @@ sweep-spec =
     μ-loop
     loop-holds
     mul-test-line
-    mul-test-line-2
     add-test-line
+    mul-test-line-2
+    add-test-line-2
+    add-test-line-3
     sub-test-line
     part-test-line-start
     part-test-line-end

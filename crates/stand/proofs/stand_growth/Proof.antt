@@ -1,20 +1,24 @@
 -- `stand::stand_growth` meets its contract.
 -- Assumes nothing.
-use mathlib.Core.Path.{_≡_, ap, _∙_}
+use mathlib.Core.Path.{_≡_}
+use mathlib.Core.List.{List}
+use Prim.Native.Nat.{ℕ}
+use lib.IntN.{ℤ}
+use lib.Ieee.{Float}
 use mir.Syntax.{w64}
-use mir.Val.{toZ, ofZ}
 use mir.Facts.{toZ-ofZ}
-use Rattle.geometry.specs.Answer.{numberOf}
-use Rattle.geometry.proofs.Accepted.{number-of}
 use borrow.Author.Needs.{needs}
+use Rattle.geometry.specs.declared.Answer.{Answer}
+use Rattle.colour.specs.declared.Rgb.{Rgb}
+use Rattle.keying.specs.Calls.{GrowthBuffers, GrowthCalled}
 use Rattle.stand.proofs.stand_growth.Statement.{statement}
 use Rattle.stand.proofs.stand_growth.Tie as tie
 
 unmix-fringe-requires : tie.Need-unmix-fringe-requires
 unmix-fringe-requires c κs = search needs
 
-number-of-requires : tie.Need-number-of-requires
-number-of-requires c κs = search needs
+refusal-of-requires : tie.Need-refusal-of-requires
+refusal-of-requires c κs = search needs
 
 same-length : tie.Need-same-length
 same-length c = search needs
@@ -31,22 +35,27 @@ same-length-4 c = search needs
 same-length-5 : tie.Need-same-length-5
 same-length-5 c = search needs
 
+-- a call with a number of passes is one with an equal number
+passes-same : {colours : List Float} {background : List ℕ} {h w : ℕ} {reference : Rgb} {p q : ℤ} {b b′ : GrowthBuffers} {r : Answer}
+    → p ≡ q → GrowthCalled colours background h w reference p b r b′ → GrowthCalled colours background h w reference q b r b′
+passes-same e call = rw e at call
+
 returns : tie.Need-returns
 returns c =
-    let o = c .before .before .before .before .before .before .before .before .before .before .before .before .before .before .before .before .before .before .before .before .before .before .before .before in
-    let z = o .args .passes in
-    let t : toZ w64 (ofZ w64 z) ≡ z = toZ-ofZ {w = w64} {z = z} (o .fits .passes) in
-    let e = c .before .before .before .before .before .before .before .before .before .before .before .unmix-fringe .ensures in
-    let n = c .number-of .ensures ∙ ap numberOf (e .0) ∙ number-of _ in
-    let out = e .1 .0 in
-    (n, rw n (rw t at out, e .1 .1))
+    let grown = c .before .before .before .before .before .before .before .before .before .before .before in
+    let start = grown .before .before .before .before .before .before .before .before .before .before .before .before .before in
+    record {
+      answer = grown .unmix-fringe .result;
+      called = passes-same (toZ-ofZ {w = w64} {z = start .args .passes} (start .fits .passes)) (grown .unmix-fringe .ensures);
+      returned = c .refusal-of .ensures;
+    }
 
 pub stand-growth-spec : {M : Type 1} → statement M
 stand-growth-spec =
     tie.close
     (tie.spec
     unmix-fringe-requires
-    number-of-requires
+    refusal-of-requires
     same-length
     same-length-2
     same-length-3

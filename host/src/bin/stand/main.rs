@@ -17,7 +17,7 @@ use std::process::ExitCode;
 
 /// Why there is no result.
 struct Failure {
-    /// What the program ends with: 1 for document 01's refusals, 2 for files that are not as they
+    /// What the program ends with: 1 for the library's refusals, 2 for files that are not as they
     /// should be.
     status: u8,
     text: String,

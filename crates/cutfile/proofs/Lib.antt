@@ -1,0 +1,3 @@
+mod Pictures
+pub mod Texts
+pub mod Laws

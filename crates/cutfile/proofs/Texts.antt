@@ -1,0 +1,103 @@
+-- From the parts to the whole: how long the text is, and that it is the text of the input.
+-- Assumes nothing.
+use mathlib.Core.Path.{_≡_, refl, sym, ap, _∙_}
+use mathlib.Core.Bool.{Bool, true, false, cond}
+use mathlib.Core.List.{List, [], _∷_, _++_}
+use mathlib.Core.Logic.{⊎-elim}
+use Prim.Native.Nat.{ℕ, _+_, _-_, _*_, _≤_, _<_}
+use native.Mathlib.Nat.{zero-add}
+use native.Mathlib.Omega.{arith}
+use lib.Dec.{eqb, leb}
+use lib.ListN.{length, getD, take, drop}
+use lib.Seq.{sets-eq, length-take-le}
+use borrow.Author.Tests.{ne-eqb, le-leb, eqb-true, eqb-false}
+use Rattle.plane.specs.Refusal.{refusalOf}
+use Rattle.plane.specs.Search.{someBelow}
+use Rattle.plane.proofs.Search.{either}
+use Rattle.plane.proofs.Refusal.{declined-first, passed-first}
+use Rattle.text.specs.steps.Writing.{Wrote}
+use Rattle.pam.specs.Header.{headerOk, widthOf, heightOf, bodyAt}
+use Rattle.pam.specs.Settings.{threshold}
+use Rattle.pam.specs.Picture.{mostPixels, pixelsOf, coloursOf, alphaOf, fileTests, fileNumber}
+use Rattle.pam.proofs.Files.{file-ok, sides-of}
+use Rattle.pbm.specs.Text.{refusalText}
+use Rattle.pbm.proofs.Lengths.{mask-long, refusal-short}
+use Rattle.cutfile.specs.Cutcard.{alphaTest, cardNumber, cutWith, cutText, cardText, mostText, over}
+use Rattle.cutfile.specs.steps.Room.{alphaNumber, pictureText}
+use Rattle.cutfile.proofs.Pictures.{lines-short}
+
+-- the length of the first part of a list
+pub part-long : {A : Type 0} (n : ℕ) (xs : List A) → n ≤ length xs → length (take (n - 0) xs) ≡ n
+part-long n xs l = let e : n - 0 ≡ n = omega arith in rw e (length-take-le n xs l)
+
+-- the number is one of four, or 0
+small : (a b c d : Bool) → cond a (cond b (cond c (cond d 0 6) 9) 10) 8 < 10000
+small true true true true = omega arith
+small true true true false = omega arith
+small true true false d = omega arith
+small true false c d = omega arith
+small false b c d = omega arith
+
+module _ (input : List ℕ) where
+  pub card-declined : (n : ℕ) → n ≡ fileNumber input → (n ≡ 0 → ⊥) → refusalText n ≡ cardText input
+  unfolding cardText cardNumber fileNumber
+  card-declined n e z =
+      let f = declined-first (fileTests input) (alphaTest (alphaOf input) ∷ []) (λ g. z (e ∙ g)) in
+      rw (f, ← e, ne-eqb n 0 z)
+
+  pub card-picture : fileNumber input ≡ 0 → pictureText (coloursOf input) (alphaOf input) (heightOf input) (widthOf input) ≡ cardText input
+  unfolding cardText cardNumber fileNumber alphaNumber pictureText
+  card-picture e = rw (passed-first (fileTests input) (alphaTest (alphaOf input) ∷ []) refl e)
+
+  -- a file that is declined for nothing has passed the tests of the file
+  accepted-file : cardNumber input ≡ 0 → fileNumber input ≡ 0
+  unfolding cardNumber fileNumber
+  accepted-file e =
+      ⊎-elim {C = fileNumber input ≡ 0}
+      (λ (t : eqb (fileNumber input) 0 ≡ true). eqb-true (fileNumber input) 0 t)
+      (λ (t : eqb (fileNumber input) 0 ≡ false). sym (declined-first (fileTests input) (alphaTest (alphaOf input) ∷ []) (eqb-false (fileNumber input) 0 t)) ∙ e)
+      (either (eqb (fileNumber input) 0))
+
+  accepted-short : cardNumber input ≡ 0 → length (cutText (coloursOf input) (alphaOf input) (heightOf input) (widthOf input)) ≤ mostText
+  unfolding cutText pixelsOf
+  accepted-short e =
+      let f = file-ok input (accepted-file e) in
+      let few : heightOf input * widthOf input ≤ mostPixels = f .few in
+      let s = sides-of input (f .header-ok) (f .few) in
+      let c = cutWith (coloursOf input) (alphaOf input) (heightOf input) (widthOf input) in
+      omega (
+        arith,
+        few,
+        mask-long (c .mask) (heightOf input) (widthOf input) (c .box) (c .keyed),
+        lines-short (coloursOf input) (alphaOf input) (heightOf input) (widthOf input) (c .keyed) (s .tall) (s .wide),
+      )
+
+  number-small : cardNumber input < 10000
+  unfolding cardNumber refusalOf
+  number-small =
+      small (headerOk input) (leb (pixelsOf input) mostPixels) (eqb (length input) (bodyAt input + 4 * pixelsOf input))
+      (someBelow (length (alphaOf input)) (λ (i : ℕ). leb threshold (getD (alphaOf input) i 0)))
+
+  pub file-small : fileNumber input < 10000
+  unfolding fileNumber refusalOf
+  file-small =
+      small (headerOk input) (leb (pixelsOf input) mostPixels) (eqb (length input) (bodyAt input + 4 * pixelsOf input)) true
+
+  -- no text is longer than mostText
+  pub text-short : length (cardText input) ≤ mostText
+  unfolding cardText
+  text-short =
+      ⊎-elim {C = length (cardText input) ≤ mostText}
+      (λ (e : eqb (cardNumber input) 0 ≡ true). rw e (accepted-short (eqb-true (cardNumber input) 0 e)))
+      (λ (e : eqb (cardNumber input) 0 ≡ false). rw e (omega (arith, refusal-short (cardNumber input) number-small)))
+      (either (eqb (cardNumber input) 0))
+
+-- a buffer that is long enough, with the text written to its front
+pub whole : (input old new text : List ℕ) (r : ℕ) → mostText ≤ length old → text ≡ cardText input → Wrote text old new 0 r
+    → (r ≡ cond (leb mostText (length old)) (length (cardText input)) 0) × (new ≡ cond (leb mostText (length old)) (over (cardText input) old) old)
+whole input old new text r l e w =
+    let v : Wrote (cardText input) old new 0 r = rw e at w in
+    let t = cardText input in
+    let k : 0 + length t ≡ length t = zero-add (length t) in
+    let n : 0 + length t ≤ length old = omega (arith, text-short input) in
+    rw (le-leb mostText (length old) l) (v .end-is ∙ k, v .bytes-are ∙ sets-eq t old 0 n ∙ ap (λ (j : ℕ). t ++ drop j old) k)

@@ -1,0 +1,47 @@
+-- What cutcard prints for an input.
+-- Assumes nothing.
+use Prim.Native.Nat.{ℕ}
+use mathlib.Core.Bool.{cond}
+use mathlib.Core.List.{List, [], _∷_, _++_}
+use lib.Dec.{eqb, leb}
+use lib.ListN.{length, getD, drop}
+use lib.Ieee.{Float}
+use Rattle.plane.specs.Refusal.{Test, refusalOf}
+use Rattle.plane.specs.Search.{someBelow}
+use Rattle.outline.specs.Border.{referenceOf}
+use Rattle.outline.specs.Cut.{Cut, cutOf}
+use Rattle.pam.specs.Header.{widthOf, heightOf}
+use Rattle.pam.specs.Picture.{coloursOf, alphaOf, fileTests}
+use Rattle.pam.specs.Settings.{threshold, settings}
+use Rattle.pbm.specs.Text.{maskText, refusalText}
+
+-- 6 where no alpha reaches the threshold
+abbrev pub alphaTest : List ℕ → Test
+alphaTest alpha = (6, someBelow (length alpha) (λ (i : ℕ). leb threshold (getD alpha i 0)))
+
+-- the number of an input's refusal (R59), 0 where it is accepted
+unfoldable pub cardNumber : List ℕ → ℕ
+cardNumber input = refusalOf (fileTests input ++ (alphaTest (alphaOf input) ∷ []))
+
+-- the picture cut with the settings of cutcard
+abbrev pub cutWith : List Float → List ℕ → ℕ → ℕ → Cut
+cutWith colours alpha h w = cutOf colours alpha h w (referenceOf colours h w) settings
+
+-- its text
+unfoldable pub cutText : List Float → List ℕ → ℕ → ℕ → List ℕ
+cutText colours alpha h w = let c = cutWith colours alpha h w in maskText (c .mask) h w (c .box) (c .keyed)
+
+-- what is printed for an input
+unfoldable pub cardText : List ℕ → List ℕ
+cardText input =
+    cond (eqb (cardNumber input) 0)
+    (cutText (coloursOf input) (alphaOf input) (heightOf input) (widthOf input))
+    (refusalText (cardNumber input))
+
+-- no text is longer than this: 48 bytes for the lines before the pixels, and two for each of 2304 pixels
+abbrev pub mostText : ℕ
+mostText = 4656
+
+-- a buffer after a text was written at its front
+abbrev pub over : List ℕ → List ℕ → List ℕ
+over text old = text ++ drop (length text) old

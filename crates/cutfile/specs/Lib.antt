@@ -1,0 +1,2 @@
+pub mod Cutcard
+pub mod steps

@@ -1,0 +1,38 @@
+-- What the inner functions need and ensure.
+-- Assumes nothing.
+use Prim.Native.Nat.{ℕ, _*_, _≤_}
+use mathlib.Core.Path.{_≡_}
+use mathlib.Core.Bool.{cond}
+use mathlib.Core.List.{List, [], _∷_}
+use lib.Dec.{eqb}
+use lib.Ieee.{Float}
+use Rattle.plane.specs.Refusal.{refusalOf, roomFor}
+use Rattle.pam.specs.Picture.{mostPixels}
+use Rattle.pbm.specs.Text.{refusalText}
+use Rattle.cutfile.specs.Cutcard.{alphaTest, cutText, mostText}
+
+-- the number of a picture, which is declined for its alpha alone
+unfoldable pub alphaNumber : List ℕ → ℕ
+alphaNumber alpha = refusalOf (alphaTest alpha ∷ [])
+
+-- the text of a picture, accepted or declined by its alpha
+unfoldable pub pictureText : List Float → List ℕ → ℕ → ℕ → List ℕ
+pictureText colours alpha h w =
+    cond (eqb (alphaNumber alpha) 0) (cutText colours alpha h w) (refusalText (alphaNumber alpha))
+
+-- a picture that is small enough, and buffers for it, by their lengths
+pub record Room (h w colours alpha nearest shallow deep marks mask weights out : ℕ) : Type 0 where
+  pub some-rows : 1 ≤ h
+  pub some-columns : 1 ≤ w
+  pub tall : h ≤ mostPixels
+  pub wide : w ≤ mostPixels
+  pub few : h * w ≤ mostPixels
+  pub colours-long : colours ≡ 3 * (h * w)
+  pub alpha-long : alpha ≡ h * w
+  pub nearest-long : roomFor h w ≤ nearest
+  pub shallow-long : roomFor h w ≤ shallow
+  pub deep-long : roomFor h w ≤ deep
+  pub marks-long : roomFor h w ≤ marks
+  pub mask-long : mask ≡ h * w
+  pub weights-long : weights ≡ h * w
+  pub out-long : mostText ≤ out

@@ -1,0 +1,5 @@
+pub mod Tables
+pub mod Room
+pub mod Border
+pub mod Flooding
+pub mod Reached

@@ -1,0 +1,43 @@
+-- `geometry::refusal::crop_refusal` meets its contract.
+-- Assumes nothing.
+use mathlib.Core.Path.{_≡_, sym, _∙_}
+use mathlib.Core.Bool.{true}
+use Prim.Native.Nat.{_*_, _≤_}
+use native.Mathlib.Omega.{arith}
+use borrow.Author.Needs.{needs}
+use borrow.Author.Tests.{not-true, not-false, eq-eqb, ne-eqb}
+use Rattle.plane.specs.Refusal.{refusalOf, sidesOk}
+use Rattle.plane.proofs.Refusal.{accepted-area}
+use Rattle.geometry.specs.Refusal.{cropRefusal}
+use Rattle.geometry.proofs.Accepted.{six-hold, one-fails}
+use Rattle.geometry.proofs.refusal.crop_refusal.Statement.{statement}
+use Rattle.geometry.proofs.refusal.crop_refusal.Tie as tie
+
+sides-ok-requires : tie.Need-sides-ok-requires
+sides-ok-requires c κs = search needs
+
+-- the sides are accepted
+ok : (c : tie.Else1) → sidesOk (c .before .before .args .h) (c .before .before .args .w) ≡ true
+ok c = sym (c .before .sides-ok .ensures) ∙ not-false _ (c .if1 .left)
+
+returns : tie.Need-returns
+unfolding cropRefusal refusalOf
+returns c = rw (sym (c .before .sides-ok .ensures) ∙ not-true _ (c .if1 .taken))
+
+mul-if2 : tie.Need-mul-if2
+mul-if2 c = let m = accepted-area (c .before .before .args .h) (c .before .before .args .w) (ok c) in omega arith
+
+returns-2 : tie.Need-returns-2
+unfolding cropRefusal refusalOf
+returns-2 c = rw (ok (c .before), ne-eqb _ _ (c .if2 .taken))
+
+returns-3 : tie.Need-returns-3
+unfolding cropRefusal
+returns-3 c = six-hold _ _ _ _ _ _ _ _ (ok (c .before .before)) (eq-eqb _ _ (c .before .if2 .left)) (c .if3 .taken)
+
+returns-4 : tie.Need-returns-4
+unfolding cropRefusal
+returns-4 c = one-fails _ _ _ _ _ _ _ _ (ok (c .before .before)) (eq-eqb _ _ (c .before .if2 .left)) (c .if3 .left)
+
+pub crop-refusal-spec : {M : Type 1} → statement M
+crop-refusal-spec = tie.close (tie.spec sides-ok-requires returns mul-if2 returns-2 returns-3 returns-4)

@@ -1,0 +1,89 @@
+-- What the calls ask of their arguments: accepted sides, planes of that size, and a buffer to work in.
+-- Assumes nothing.
+use Prim.Native.Nat.{ℕ, _+_, _*_, _≤_, _<_}
+use mathlib.Core.Path.{_≡_}
+use mathlib.Core.List.{List}
+use lib.IntN.{ℤ}
+use lib.ListN.{length, getD}
+use Rattle.plane.specs.Plane.{Sides}
+use Rattle.line.specs.steps.Line.{mostLength}
+use Rattle.nearest.specs.steps.Stages.{noRow, distanceAt}
+
+-- ---- the public calls
+
+-- for rows and columns
+pub record Room (h w : ℕ) (mask work : List ℕ) (rows cols : List ℤ) : Type 0 where
+  pub sides : Sides h w
+  pub mask-long : length mask ≡ h * w
+  pub room : h * w + 3 * w ≤ length work
+  pub rows-long : length rows ≡ h * w
+  pub cols-long : length cols ≡ h * w
+
+-- for indices, and for the first sweep
+pub record IndexRoom (h w : ℕ) (mask work : List ℕ) : Type 0 where
+  pub sides : Sides h w
+  pub mask-long : length mask ≡ h * w
+  pub room : h * w + 3 * w ≤ length work
+
+-- for distances, which fit 32 bits
+pub record DistanceRoom (h w : ℕ) (mask work out : List ℕ) : Type 0 where
+  pub sides : Sides h w
+  pub mask-long : length mask ≡ h * w
+  pub room : h * w + 3 * w ≤ length work
+  pub out-long : length out ≡ h * w
+  pub low : h * h + w * w ≤ 4294967295
+
+-- ---- the parts of the computation
+
+-- a row of the buffer and the row behind it
+pub record BelowRoom (mask work : List ℕ) (row : ℕ) : Type 0 where
+  pub room : row + length mask + length mask ≤ length work
+
+-- two lines of the buffer
+pub record CopyRoom (work : List ℕ) (from to w : ℕ) : Type 0 where
+  pub apart : from + w ≤ to
+  pub room : to + w ≤ length work
+
+-- a row and the line of the nearest on-rows, which hold rows or noRow
+pub record NearRoom (work : List ℕ) (y row near w : ℕ) : Type 0 where
+  pub row-in : y < mostLength
+  pub apart : row + w ≤ near
+  pub room : near + w ≤ length work
+  pub row-low : (x : ℕ) → x < w → getD work (row + x) 0 ≤ noRow
+  pub near-low : (x : ℕ) → x < w → getD work (near + x) 0 ≤ noRow
+
+-- the line of the nearest on-rows and that of their costs
+pub record CostRoom (work : List ℕ) (y near costs w : ℕ) : Type 0 where
+  pub row-in : y < mostLength
+  pub apart : near + w ≤ costs
+  pub room : costs + w ≤ length work
+
+-- row y of the plane, and three lines behind its n numbers
+pub record RowRoom (y n w : ℕ) (work : List ℕ) : Type 0 where
+  pub row-in : y < mostLength
+  pub short : w ≤ mostLength
+  pub inside : y * w + w ≤ n
+  pub room : n + 3 * w ≤ length work
+  pub row-low : (x : ℕ) → x < w → getD work (y * w + x) 0 ≤ noRow
+  pub near-low : (x : ℕ) → x < w → getD work (n + x) 0 ≤ noRow
+
+-- lines of one length; the chosen columns have on-rows
+pub record PixelRoom (near places : List ℕ) (rows cols : ℕ) : Type 0 where
+  pub short : length near ≤ mostLength
+  pub places-long : length places ≡ rows
+  pub cols-long : cols ≡ rows
+  pub chosen : (x : ℕ) → x < length places → getD places x 0 < length near → getD near (getD places x 0) 0 < mostLength
+
+pub record IndexLineRoom (work : List ℕ) (row near w : ℕ) : Type 0 where
+  pub short : w ≤ mostLength
+  pub apart : row + w ≤ near
+  pub room : near + w ≤ length work
+  pub chosen : (x : ℕ) → x < w → getD work (row + x) 0 < w → getD work (near + getD work (row + x) 0) 0 < mostLength
+
+-- and the distances fit 32 bits
+pub record DistanceLineRoom (costs places : List ℕ) (y long : ℕ) : Type 0 where
+  pub row-in : y < mostLength
+  pub short : long ≤ mostLength
+  pub costs-long : length costs ≡ long
+  pub places-long : length places ≡ long
+  pub low : (x : ℕ) → x < long → distanceAt costs y x (getD places x 0) ≤ 4294967295

@@ -1,0 +1,158 @@
+-- The premises of the theorem about two pictures can be met, and at the bound: two pictures of 13 by 13, cut with p = 1, that differ at the
+-- middle pixel alone, which lies exactly p + 5 from the ground and from the border. The prover computes it from the definitions.
+-- Assumes nothing.
+use mathlib.Core.Path.{_≡_, refl, sym, _∙_}
+use mathlib.Core.Bool.{Bool, true, false, cond, not, _&&_, _||_}
+use mathlib.Core.List.{List, [], _∷_, _++_}
+use mathlib.Core.Logic.{_⊎_, inl, inr, ⊎-elim}
+use Prim.Native.Nat.{ℕ, _+_, _*_, _/_, _%_, _≤_, _<_}
+use native.Mathlib.Omega.{arith}
+use lib.Dec.{eqb}
+use lib.IntN.{pos}
+use lib.ListN.{length, replicate}
+use lib.Ieee.{Float, fin, lt, le, eq, add, sub, mul, div, neg, ofInt, isNan}
+use lib.Ieee.Scale.{finite}
+use Rattle.plane.specs.Plane.{on, bit, onAt, apart, within, table}
+use Rattle.plane.specs.Search.{someBelow}
+use Rattle.plane.specs.Mask.{isOn, maskOf}
+use Rattle.plane.specs.Refusal.{refusalOf}
+use Rattle.plane.proofs.Search.{either, none-found, or-true, not-both}
+use Rattle.squares.specs.Squares.{inSquare}
+use Rattle.colour.specs.declared.Rgb.{Rgb}
+use Rattle.colour.specs.declared.Settings.{Settings}
+use Rattle.colour.specs.Number.{zero64, one64, absOf, plusZero, halfOf}
+use Rattle.colour.specs.Colour.{differenceOf, closeTo, colourOk, coloursOk, sameColour}
+use Rattle.colour.specs.Settings.{onOf, passesOf}
+use Rattle.median.specs.Median.{insert, sorted, placed, lowerMiddle, upperMiddle, medianOf}
+use Rattle.outline.specs.Border.{rowPixels, innerColumn, borderList, listed, onBorder, channelAt, colourAt, referenceChannel, referenceOf}
+use Rattle.outline.specs.Ground.{isClose, closePlane, groundFrom, groundOf}
+use Rattle.outline.specs.Growth.{nearGround}
+use Rattle.outline.specs.Cut.{alphaMask}
+use Rattle.outline.specs.Refusal.{workTests, cutLengths, cutRefusal}
+use Rattle.outline.specs.Calls.{Buffers, refusalIn}
+use Rattle.outline.specs.Premises.{sameTolerance, SameSettings, AgreeAt, reachOf, Agree, SameLengths, TwoCalls, TwoPictures}
+use Rattle.outline.proofs.Masks.{Within, near-found, near-is}
+use Rattle.outline.proofs.GroundLaws.{ground-close}
+use Rattle.outline.proofs.TwoPictures.{two-pictures}
+
+-- ---- the pictures: a white border, black inside, and the middle pixel black or white
+
+abbrev pub side : ℕ
+side = 13
+
+abbrev pub middle : ℕ
+middle = 84
+
+pub grey : Float → ℕ → Float
+grey v i = cond (onBorder side side i) one64 (cond (eqb i middle) v zero64)
+
+pub pictureOf : Float → List Float
+pictureOf v = table (λ (k : ℕ). grey v (k / 3)) 0 (3 * (side * side))
+
+abbrev pub one : List Float
+one = pictureOf zero64
+
+abbrev pub two : List Float
+two = pictureOf one64
+
+pub alpha : List ℕ
+alpha = replicate (side * side) 255
+
+-- threshold 128, keying, p = 1, tolerance 0, cropping
+abbrev pub settings : Settings
+settings = record { «alpha_threshold» = pos 128; «key_bg» = true; «key_bg_fringe» = pos 1; «key_bg_tolerance» = zero64; «crop_to_alpha» = true }
+
+abbrev pub lines : List ℕ
+lines = replicate (2 * (side * side) + 2 * (side + side) + 16) 0
+
+pub buffers : Buffers
+buffers = record { mask = replicate (side * side) 0; weights = replicate (side * side) zero64; nearest = lines; shallow = lines; deep = lines; marks = lines }
+
+-- the close pixels of the first picture
+close : List ℕ
+close = closePlane one side side (referenceOf one side side) zero64
+
+-- ---- what the prover computes
+
+-- the call is accepted
+accepted : refusalIn one alpha side side settings buffers ≡ 0
+unfolding grey pictureOf alpha buffers table cutRefusal cutLengths workTests refusalOf coloursOk colourOk someBelow isOn maskOf alphaMask onOf on bit le lt rowPixels innerColumn borderList listed onBorder
+accepted = refl
+
+ranges : coloursOk two ≡ true
+unfolding grey pictureOf table coloursOk colourOk le lt rowPixels innerColumn borderList listed onBorder
+ranges = refl
+
+-- a pixel where the pictures differ is neither on the border nor within the reach of a close pixel
+apartAt : ℕ → Bool
+apartAt i = sameColour (colourAt one i) (colourAt two i) || (not (onBorder side side i) && not (nearGround close side side (reachOf settings) i))
+
+all-apart : someBelow (side * side) (λ (i : ℕ). not (apartAt i)) ≡ false
+unfolding apartAt grey pictureOf close table someBelow sameColour colourAt channelAt onBorder listed borderList rowPixels innerColumn nearGround inSquare onAt apart within on bit closePlane isClose closeTo differenceOf absOf Rattle.colour.specs.Number.larger passesOf referenceOf referenceChannel medianOf sorted insert placed lowerMiddle upperMiddle plusZero halfOf lt le eq add sub mul div neg
+all-apart = refl
+
+-- they differ at the middle pixel, which is exactly p + 5 from a close pixel
+differ : sameColour (colourAt one middle) (colourAt two middle) ≡ false
+unfolding grey pictureOf table sameColour colourAt channelAt onBorder listed borderList rowPixels innerColumn eq
+differ = refl
+
+exactly : nearGround close side side (reachOf settings + 1) middle ≡ true
+unfolding grey pictureOf close table someBelow colourAt channelAt onBorder listed borderList rowPixels innerColumn nearGround inSquare onAt apart within on bit closePlane isClose closeTo differenceOf absOf Rattle.colour.specs.Number.larger passesOf referenceOf referenceChannel medianOf sorted insert placed lowerMiddle upperMiddle plusZero halfOf lt le eq add sub mul div neg
+exactly = refl
+
+-- ---- the premises are met
+
+not-not : (t : Bool) → not t ≡ false → t ≡ true
+not-not true e = refl
+not-not false e = not-both false (sym e) refl
+
+apart-at : (i : ℕ) → i < side * side → apartAt i ≡ true
+apart-at i l = not-not (apartAt i) (none-found (λ (k : ℕ). not (apartAt k)) (side * side) all-apart i l)
+
+-- the ground is close, so what is near the ground is near a close pixel
+near-close : (k i : ℕ) → nearGround (groundOf one side side (referenceOf one side side) zero64) side side k i ≡ true → nearGround close side side k i ≡ true
+unfolding groundOf close
+near-close k i e =
+    let s = near-found e in
+    near-is (omega arith) (record { site = s .site; inside = s .inside; lit = ground-close _ side side (s .site) (s .lit); rows = s .rows; columns = s .columns })
+
+both : (a b : Bool) → not a && not b ≡ true → (a ≡ false) × (b ≡ false)
+both true b e = not-both false e refl
+both false true e = not-both false e refl
+both false false e = (refl, refl)
+
+agrees : (i : ℕ) → i < side * side → (onBorder side side i ≡ true) ⊎ (nearGround close side side (reachOf settings) i ≡ true) → AgreeAt one two i
+unfolding apartAt
+agrees i l t =
+    ⊎-elim {C = AgreeAt one two i}
+    (λ (e : sameColour (colourAt one i) (colourAt two i) ≡ true). e)
+    (λ (e : not (onBorder side side i) && not (nearGround close side side (reachOf settings) i) ≡ true).
+    let z = both (onBorder side side i) (nearGround close side side (reachOf settings) i) e in
+    ⊎-elim {C = AgreeAt one two i} (λ (b : onBorder side side i ≡ true). not-both _ b (z .0)) (λ (b : nearGround close side side (reachOf settings) i ≡ true). not-both _ b (z .1)) t)
+    (or-true (sameColour (colourAt one i) (colourAt two i)) _ (apart-at i l))
+
+agree : Agree one two side side settings
+agree = record { border = λ i l e. agrees i l (inl e); around = λ i l e. agrees i l (inr (near-close (reachOf settings) i e)) }
+
+alike : SameSettings settings settings
+unfolding sameTolerance eq
+alike = record { threshold = refl; keying = refl; passes = refl; tolerance = refl; cropping = refl }
+
+lengths : SameLengths buffers buffers
+lengths = record { mask = refl; weights = refl; nearest = refl; shallow = refl; deep = refl; marks = refl }
+
+sizes : length one ≡ length two
+unfolding pictureOf table
+sizes = refl
+
+in-range : coloursOk one ≡ true
+unfolding grey pictureOf table coloursOk colourOk le lt rowPixels innerColumn borderList listed onBorder
+in-range = refl
+
+-- every premise of the theorem holds of these two calls
+pub calls : TwoCalls one two alpha side side settings settings buffers buffers
+calls = record { sizes = sizes; settings = alike; lengths = lengths; in-range = in-range; in-range′ = ranges; agree = λ _. agree }
+
+-- so their outlines are equal, although the pictures differ
+pub instance : TwoPictures one two alpha side side settings settings buffers buffers
+instance = two-pictures one two alpha side side settings settings buffers buffers calls

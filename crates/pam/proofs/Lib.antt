@@ -1,0 +1,5 @@
+mod Reading
+pub mod Range
+pub mod Files
+pub mod HeaderLaws
+mod Cases

@@ -1,0 +1,4 @@
+pub mod Header
+pub mod Picture
+pub mod Settings
+pub mod HeaderText

@@ -1,0 +1,51 @@
+-- The picture in a PAM file, and the number by which a file is declined.
+-- Assumes nothing.
+use Prim.Native.Nat.{ℕ, _+_, _*_, _/_, _%_}
+use mathlib.Core.List.{List, [], _∷_}
+use lib.Dec.{eqb, leb}
+use lib.ListN.{length, getD}
+use lib.Ieee.{Float}
+use Rattle.plane.specs.Plane.{table}
+use Rattle.plane.specs.Refusal.{Test, refusalOf}
+use Rattle.colour.specs.Weight.{weightOf}
+use Rattle.pam.specs.Header.{headerOk, widthOf, heightOf, bodyAt}
+
+-- the most pixels of a picture
+abbrev pub mostPixels : ℕ
+mostPixels = 2304
+
+-- one byte more than any accepted file has: at most 73 of header, and four for each pixel
+abbrev pub mostInput : ℕ
+mostInput = 73 + 4 * mostPixels + 1
+
+-- the number of pixels
+unfoldable pub pixelsOf : List ℕ → ℕ
+pixelsOf input = heightOf input * widthOf input
+
+-- byte k of the pixels, which stand from body on: red, green, blue and alpha of pixel i are bytes 4 * i to 4 * i + 3
+unfoldable pub sampleAt : List ℕ → ℕ → ℕ → ℕ
+sampleAt input body k = getD input (body + k) 0
+
+-- three colours a pixel: number k is channel k % 3 of pixel k / 3; byte v is colour v / 255
+unfoldable pub coloursFrom : List ℕ → ℕ → ℕ → List Float
+coloursFrom input body n = table (λ (k : ℕ). weightOf (sampleAt input body (4 * (k / 3) + k % 3))) 0 (3 * n)
+
+unfoldable pub alphaFrom : List ℕ → ℕ → ℕ → List ℕ
+alphaFrom input body n = table (λ (i : ℕ). sampleAt input body (4 * i + 3)) 0 n
+
+unfoldable pub coloursOf : List ℕ → List Float
+coloursOf input = coloursFrom input (bodyAt input) (pixelsOf input)
+
+unfoldable pub alphaOf : List ℕ → List ℕ
+alphaOf input = alphaFrom input (bodyAt input) (pixelsOf input)
+
+-- 8 where the header is not as it should be; 10 where there are too many pixels; 9 where bytes are missing or left over; else 0
+abbrev pub fileTests : List ℕ → List Test
+fileTests input =
+    (8, headerOk input)
+    ∷ (10, leb (pixelsOf input) mostPixels)
+    ∷ (9, eqb (length input) (bodyAt input + 4 * pixelsOf input))
+    ∷ []
+
+unfoldable pub fileNumber : List ℕ → ℕ
+fileNumber input = refusalOf (fileTests input)

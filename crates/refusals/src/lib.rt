@@ -1,0 +1,215 @@
+// What ground, growth and cut decline: the tests in order; each function returns at the first that fails. Sides and lengths
+// come first, so that nothing is read behind a wrong length, and colours are read no further than the first block with a wrong one.
+ghost use mathlib.Core.Path.{_≡_};
+ghost use lib.ListN.{length};
+ghost use Rattle.plane.specs.Refusal.{refusalOf};
+ghost use Rattle.colour.specs.Colour.{rgbOk};
+ghost use Rattle.outline.specs.Refusal.{workTests, groundLengths, growthLengths, cutLengths, groundRefusal, growthRefusal, cutRefusal};
+use colour::Rgb;
+use colour::Settings;
+
+// Whether the three channels of a colour are from 0 to 1.
+fn rgb_ok(c: Rgb) -> bool
+    ensures { λ r. ⌜ r ≡ rgbOk c ⌝ }
+{
+    colour::colour_ok(c.r) & colour::colour_ok(c.g) & colour::colour_ok(c.b)
+}
+
+// Ground: the lengths of the colours, the output and the work buffer.
+fn ground_lengths(h: usize, w: usize, colours: usize, out: usize, work: usize) -> u32
+    ensures { λ r. ⌜ r ≡ refusalOf (groundLengths h w colours out work) ⌝ }
+{
+    if !plane::sides_ok(h, w) {
+        return 1;
+    }
+    let n = h * w;
+    if colours != 3 * n {
+        return 2;
+    }
+    if out != n {
+        return 3;
+    }
+    if work < plane::room(h, w) {
+        return 3;
+    }
+    0
+}
+
+// Growth: the lengths of the colours, the background, the output and four work buffers.
+fn growth_lengths(
+    h: usize,
+    w: usize,
+    colours: usize,
+    back: usize,
+    out: usize,
+    nearest: usize,
+    shallow: usize,
+    deep: usize,
+    marks: usize,
+) -> u32
+    ensures { λ r. ⌜ r ≡ refusalOf (growthLengths h w colours back out nearest shallow deep marks) ⌝ }
+{
+    if !plane::sides_ok(h, w) {
+        return 1;
+    }
+    let n = h * w;
+    if colours != 3 * n {
+        return 2;
+    }
+    if back != n {
+        return 2;
+    }
+    if out != n {
+        return 3;
+    }
+    work_lengths(plane::room(h, w), nearest, shallow, deep, marks)
+}
+
+// Cut: the lengths of the colours, the alpha, two outputs and four work buffers.
+fn cut_lengths(
+    h: usize,
+    w: usize,
+    colours: usize,
+    alpha: usize,
+    mask: usize,
+    weights: usize,
+    nearest: usize,
+    shallow: usize,
+    deep: usize,
+    marks: usize,
+) -> u32
+    ensures { λ r. ⌜ r ≡ refusalOf (cutLengths h w colours alpha mask weights nearest shallow deep marks) ⌝ }
+{
+    if !plane::sides_ok(h, w) {
+        return 1;
+    }
+    let n = h * w;
+    if colours != 3 * n {
+        return 2;
+    }
+    if alpha != n {
+        return 2;
+    }
+    if mask != n {
+        return 3;
+    }
+    if weights != n {
+        return 3;
+    }
+    work_lengths(plane::room(h, w), nearest, shallow, deep, marks)
+}
+
+// Four work buffers that hold at least `least` numbers.
+fn work_lengths(least: usize, nearest: usize, shallow: usize, deep: usize, marks: usize) -> u32
+    ensures { λ r. ⌜ r ≡ refusalOf (workTests least nearest shallow deep marks) ⌝ }
+{
+    if (least <= nearest) & (least <= shallow) & (least <= deep) & (least <= marks) {
+        return 0;
+    }
+    3
+}
+
+// 0, or the number by which a search of the ground is declined.
+pub fn ground_refusal(
+    colours: &[f64],
+    h: usize,
+    w: usize,
+    tolerance: f64,
+    out: usize,
+    work: usize,
+) -> u32
+    ensures { λ r. ⌜ r ≡ groundRefusal (now (colours .entry)) h w tolerance out work ⌝ }
+{
+    let lengths = ground_lengths(h, w, colours.len(), out, work);
+    if lengths != 0 {
+        return lengths;
+    }
+    if !colour::colours_ok(colours) {
+        return 4;
+    }
+    if !colour::is_finite(tolerance) {
+        return 5;
+    }
+    0
+}
+
+// 0, or the number by which growth is declined.
+pub fn growth_refusal(
+    colours: &[f64],
+    back: usize,
+    h: usize,
+    w: usize,
+    reference: Rgb,
+    out: usize,
+    nearest: usize,
+    shallow: usize,
+    deep: usize,
+    marks: usize,
+) -> u32
+    ensures { λ r. ⌜ r ≡ growthRefusal (now (colours .entry)) back h w reference out nearest shallow deep marks ⌝ }
+{
+    let lengths = growth_lengths(
+        h,
+        w,
+        colours.len(),
+        back,
+        out,
+        nearest,
+        shallow,
+        deep,
+        marks,
+    );
+    if lengths != 0 {
+        return lengths;
+    }
+    if !colour::colours_ok(colours) {
+        return 4;
+    }
+    if !rgb_ok(reference) {
+        return 4;
+    }
+    0
+}
+
+// 0, or the number by which a cut is declined.
+pub fn cut_refusal(
+    colours: &[f64],
+    alpha: &[u8],
+    h: usize,
+    w: usize,
+    s: Settings,
+    mask: usize,
+    weights: usize,
+    nearest: usize,
+    shallow: usize,
+    deep: usize,
+    marks: usize,
+) -> u32
+    ensures { λ r. ⌜ r ≡ cutRefusal (now (colours .entry)) (now (alpha .entry)) h w s mask weights nearest shallow deep marks ⌝ }
+{
+    let lengths = cut_lengths(
+        h,
+        w,
+        colours.len(),
+        alpha.len(),
+        mask,
+        weights,
+        nearest,
+        shallow,
+        deep,
+        marks,
+    );
+    if lengths != 0 {
+        return lengths;
+    }
+    if !colour::colours_ok(colours) {
+        return 4;
+    }
+    if !colour::is_finite(s.key_bg_tolerance) {
+        return 5;
+    }
+    if !weights::some_reach(alpha, s.alpha_threshold) {
+        return 6;
+    }
+    0
+}

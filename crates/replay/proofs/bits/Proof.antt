@@ -1,0 +1,27 @@
+-- `replay::bits` is safe: a number that equals itself is no NaN.
+-- Assumes nothing.
+use mathlib.Core.Path.{_≡_, sym, subst}
+use mathlib.Core.Bool.{true, not}
+use lib.Dec.{T}
+use lib.Ieee.{Float, nan, inf, fin, eq, isNan}
+use borrow.Author.Needs.{needs}
+use Rattle.replay.proofs.bits.Statement.{statement}
+use Rattle.replay.proofs.bits.Tie as tie
+
+number : (x : Float) → eq x x ≡ true → T (not (isNan x))
+unfolding isNan eq
+number nan e = subst T (sym e) tt
+number (inf s) e = tt
+number (fin s m k) e = tt
+
+float-to-bits-result : tie.Need-float-to-bits-result
+float-to-bits-result c = number (c .before .args .x) (c .if1 .taken)
+
+returns : tie.Need-returns
+returns c = search needs
+
+returns-2 : tie.Need-returns-2
+returns-2 c = search needs
+
+pub bits-spec : {M : Type 1} → statement M
+bits-spec = tie.close (tie.spec float-to-bits-result returns returns-2)

@@ -1,0 +1,75 @@
+-- `weights::on_weights` meets its contract.
+-- Assumes nothing.
+use mathlib.Core.Path.{_≡_, refl, sym, ap, _∙_}
+use Prim.Native.Nat.{ℕ, _-_, _≤_, _<_}
+use native.Mathlib.Nat.{not-suc-le-zero}
+use lib.ListN.{length, getD, length-set}
+use lib.Ieee.{nan}
+use Rattle.plane.proofs.Plane.{filled, table-is}
+use Rattle.weights.specs.steps.Weight.{onWeight}
+use borrow.Author.Needs.{needs}
+use native.Mathlib.Omega.{arith}
+use Rattle.weights.proofs.on_weights.Statement.{statement}
+use Rattle.weights.proofs.on_weights.Tie as tie
+
+abbrev Inv-loop : tie.InvT-loop
+Inv-loop out₀ v₀ out v =
+    (v ≤ 256) × (length out ≡ length out₀) × ((k : ℕ) → k < v → getD out k nan ≡ onWeight k)
+
+abbrev μ-loop : tie.MeasureT-loop
+μ-loop out₀ v₀ out v = 256 - v
+
+loop-holds : tie.Need-loop-holds Inv-loop μ-loop
+loop-holds c = (omega arith, refl, λ k l. absurd (not-suc-le-zero l))
+
+cast-on-weight : tie.Need-cast-on-weight Inv-loop μ-loop
+cast-on-weight c = omega arith
+
+on-weight-requires : tie.Need-on-weight-requires Inv-loop μ-loop
+on-weight-requires c κs = search needs
+
+mul-out : tie.Need-mul-out Inv-loop μ-loop
+mul-out c = omega arith
+
+slice-write-out : tie.Need-slice-write-out Inv-loop μ-loop
+slice-write-out c = omega arith
+
+add-v : tie.Need-add-v Inv-loop μ-loop
+add-v c = omega arith
+
+loop-less : tie.Need-loop-less Inv-loop μ-loop
+loop-less c = omega arith
+
+loop-again : tie.Need-loop-again Inv-loop μ-loop
+loop-again c =
+    let l = c .before .before .loop in
+    let v = c .on-weight .result in (
+      omega arith,
+      length-set (l .out) (l .v) v ∙ l .inv .1,
+      filled onWeight (l .out) (l .v) v nan (omega arith) (l .inv .2) (c .on-weight .ensures),
+    )
+
+same-length : tie.Need-same-length Inv-loop μ-loop
+same-length c = c .before .loop .inv .1
+
+returns : tie.Need-returns Inv-loop μ-loop
+returns c =
+    let l = c .before .loop in
+    table-is onWeight 256 (l .out) nan (omega arith) (λ k g. l .inv .2 k (omega arith))
+
+pub on-weights-spec : {M : Type 1} → statement M
+on-weights-spec =
+    tie.close
+    (tie.spec
+    Inv-loop
+    μ-loop
+    loop-holds
+    cast-on-weight
+    on-weight-requires
+    mul-out
+    slice-write-out
+    add-v
+    loop-less
+    loop-again
+    same-length
+    returns)

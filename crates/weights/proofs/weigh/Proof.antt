@@ -1,0 +1,36 @@
+-- `weights::weigh` meets its contract.
+-- Assumes nothing.
+use mathlib.Core.Path.{_≡_, sym, ap, _∙_}
+use Prim.Native.Nat.{ℕ, _<_}
+use lib.ListN.{length, getD}
+use mathlib.Core.List.{List}
+use lib.Ieee.{Float, nan, ofBits}
+use borrow.Author.Needs.{needs}
+use borrow.Author.Tests.{eq-eqb, ne-eqb}
+use native.Mathlib.Omega.{arith}
+use Rattle.plane.specs.Plane.{on}
+use Rattle.plane.proofs.Plane.{table-length, table-at}
+use Rattle.weights.specs.steps.Weight.{onWeight, weightFor}
+use Rattle.weights.proofs.weigh.Statement.{statement}
+use Rattle.weights.proofs.weigh.Tie as tie
+
+returns : tie.Need-returns
+unfolding weightFor on ofBits
+returns c = rw (eq-eqb _ _ (c .if1 .taken))
+
+mul-result : tie.Need-mul-result
+mul-result c = search needs
+
+shared-slice-read-result : tie.Need-shared-slice-read-result
+shared-slice-read-result c =
+    let long : length (c .before .before .args .entries .now) ≡ 256 = ap length (c .before .before .pre) ∙ table-length onWeight 0 256 in
+    omega arith
+
+returns-2 : tie.Need-returns-2
+unfolding weightFor on
+returns-2 c =
+    let a = c .before .before .args in
+    rw (ne-eqb _ _ (c .before .if1 .left)) (ap (λ (l : List Float). getD l (a .alpha) nan) (c .before .before .pre) ∙ table-at onWeight 256 (a .alpha) nan (omega arith))
+
+pub weigh-spec : {M : Type 1} → statement M
+weigh-spec = tie.close (tie.spec returns mul-result shared-slice-read-result returns-2)
