@@ -11,7 +11,7 @@ use std::io::Write as _;
 use std::path::{Path, PathBuf};
 
 /// The crates whose public functions are calls that a host, a program or a reader leans on.
-const CALLS: [&str; 4] = ["geometry", "keying", "stand", "pam"];
+const CALLS: [&str; 4] = ["geometry", "keying", "stand", "cutfile"];
 
 /// Theorems, by crate and name; and every public statement of these files.
 const THEOREMS: [(&str, &str); 6] = [
@@ -20,7 +20,7 @@ const THEOREMS: [(&str, &str); 6] = [
     ("outline", "cases-hold"),
     ("pam", "header-accepted"),
     ("pam", "header-means"),
-    ("pam", "first-bytes"),
+    ("cutfile", "first-bytes"),
 ];
 const THEOREM_FILE: &str = "TwoPictures.antt";
 

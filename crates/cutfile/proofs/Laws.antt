@@ -9,7 +9,8 @@ use native.Mathlib.Omega.{arith}
 use lib.ListN.{length, take}
 use lib.Seq.{take-all}
 use Rattle.plane.proofs.Search.{which}
-use Rattle.pam.specs.Picture.{mostInput, fileNumber}
+use Rattle.pam.specs.Picture.{mostInput}
+use Rattle.pam.specs.steps.File.{fileRefusal}
 use Rattle.pam.proofs.Files.{long-declined}
 use Rattle.cutfile.specs.Cutcard.{cardText}
 use Rattle.cutfile.proofs.Texts.{card-declined}
@@ -20,6 +21,6 @@ first-bytes input =
     (λ (l : length input < mostInput). ap cardText (take-all mostInput input (omega arith)))
     (λ (l : mostInput ≤ length input).
     let d = long-declined input l in
-    sym (card-declined (take mostInput input) (fileNumber input) (sym (d .first-same)) (d .declined))
-    ∙ card-declined input (fileNumber input) refl (d .declined))
+    sym (card-declined (take mostInput input) (fileRefusal input) (sym (d .first-same)) (d .declined))
+    ∙ card-declined input (fileRefusal input) refl (d .declined))
     (which (length input) mostInput)

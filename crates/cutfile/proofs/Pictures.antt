@@ -1,6 +1,6 @@
 -- A picture of bytes is accepted by the cut or declined for its alpha alone; and its text, from the answer of the cut.
 -- Assumes nothing.
-use mathlib.Core.Path.{_≡_, sym}
+use mathlib.Core.Path.{_≡_, refl, ap, _∙_}
 use mathlib.Core.Bool.{Bool, true, false, cond, _&&_}
 use mathlib.Core.List.{List}
 use mathlib.Core.Logic.{⊎-elim}
@@ -10,26 +10,30 @@ use native.Mathlib.Omega.{arith}
 use lib.Dec.{eqb, leb}
 use lib.ListN.{length, getD}
 use lib.Ieee.{Float}
-use borrow.Author.Tests.{eq-eqb, ne-eqb, le-leb, leb-false, eqb-true}
+use borrow.Author.Tests.{eq-eqb, le-leb, leb-false, eqb-true}
 use Rattle.plane.specs.Search.{someBelow, firstBelow, lastBelow}
 use Rattle.plane.specs.Refusal.{refusalOf, roomFor}
 use Rattle.plane.specs.Mask.{isOn, someOff}
 use Rattle.plane.specs.Box.{lesserOf, rowHas, columnHas, boxOf, wholeOf}
-use Rattle.plane.specs.declared.Box.{Box}
 use Rattle.plane.proofs.Search.{either, some-same}
 use Rattle.plane.proofs.Mask.{mask-on}
-use Rattle.plane.proofs.Refusal.{sides-accepted}
+use Rattle.plane.proofs.Refusal.{sides-accepted, written}
+use Rattle.colour.specs.declared.Settings.{Settings}
 use Rattle.colour.specs.Colour.{coloursOk}
 use Rattle.colour.specs.Settings.{onOf}
 use Rattle.outline.specs.Cut.{Cut, alphaMask, cutOf, cropOf, margin}
-use Rattle.outline.specs.Refusal.{workTests, cutLengths, cutRefusal}
-use Rattle.outline.specs.Answer.{outcomeFor, refusalOfOutcome, outcomeKeyed, outcomeBox}
+use Rattle.outline.specs.Refusal.{workTests, cutLengths, pictureTests, cutRefusal}
+use Rattle.outline.specs.declared.Outcome.{Outcome}
+use Rattle.outline.specs.declared.Outcome.the-variants as outcome
+use Rattle.outline.specs.Answer.{outcomeFor}
+use Rattle.outline.specs.Calls.{Buffers, refusalIn}
+use Rattle.keying.specs.Calls.{cutIn, Called}
 use Rattle.pam.specs.Picture.{mostPixels}
 use Rattle.pam.specs.Settings.{threshold, settings}
 use Rattle.pbm.specs.Text.{maskText, cropLines, sizeLine, refusalText}
-use Rattle.pbm.proofs.Lengths.{Small, crop-short, size-short}
+use Rattle.pbm.proofs.Lengths.{Small, crop-short, size-short, refusal-short}
 use Rattle.cutfile.specs.Cutcard.{cutWith, cutText}
-use Rattle.cutfile.specs.steps.Room.{alphaNumber, pictureText, Room}
+use Rattle.cutfile.specs.steps.Room.{alphaRefusal, pictureText, answerText, answerLength, Room}
 
 -- ---- the number
 
@@ -50,10 +54,10 @@ alpha-same alpha n =
     (λ i l. mask-on n (λ (k : ℕ). leb threshold (getD alpha k 0)) i l)
 
 -- the cut declines such a picture for its alpha alone
-pub number-is : (colours : List Float) (alpha : List ℕ) (h w nearest shallow deep marks mask weights out : ℕ)
+number-is : (colours : List Float) (alpha : List ℕ) (h w nearest shallow deep marks mask weights out : ℕ)
     → Room h w (length colours) (length alpha) nearest shallow deep marks mask weights out → coloursOk colours ≡ true
-    → cutRefusal colours alpha h w settings mask weights nearest shallow deep marks ≡ alphaNumber alpha
-unfolding cutRefusal cutLengths workTests refusalOf alphaNumber
+    → cutRefusal colours alpha h w settings mask weights nearest shallow deep marks ≡ alphaRefusal alpha
+unfolding cutRefusal cutLengths workTests pictureTests refusalOf alphaRefusal
 number-is colours alpha h w nearest shallow deep marks mask weights out r e =
     rw (
       sides-accepted h w (r .some-rows) (omega (arith, r .tall)) (r .some-columns) (omega (arith, r .wide)),
@@ -71,31 +75,13 @@ number-is colours alpha h w nearest shallow deep marks mask weights out r e =
     )
 
 -- and its number is 6 or 0
-pub alpha-small : (alpha : List ℕ) → alphaNumber alpha < 10000
-unfolding alphaNumber refusalOf
+alpha-small : (alpha : List ℕ) → alphaRefusal alpha < 10000
+unfolding alphaRefusal refusalOf
 alpha-small alpha = small (someBelow (length alpha) (λ (i : ℕ). leb threshold (getD alpha i 0)))
   where
     small : (t : Bool) → cond t 0 6 < 10000
     small true = omega arith
     small false = omega arith
-
--- ---- the answer
-
-pub answer-number : (n : ℕ) (c : Cut) → refusalOfOutcome (outcomeFor n c) ≡ n
-unfolding outcomeFor
-answer-number n c =
-    ⊎-elim {C = refusalOfOutcome (outcomeFor n c) ≡ n}
-    (λ (t : eqb n 0 ≡ true). rw t (sym (eqb-true n 0 t)))
-    (λ (t : eqb n 0 ≡ false). rw t)
-    (either (eqb n 0))
-
-pub answer-keyed : (n : ℕ) (c : Cut) → n ≡ 0 → outcomeKeyed (outcomeFor n c) ≡ c .keyed
-unfolding outcomeFor
-answer-keyed n c e = rw (eq-eqb n 0 e)
-
-pub answer-box : (n : ℕ) (c : Cut) → n ≡ 0 → outcomeBox (outcomeFor n c) ≡ c .box
-unfolding outcomeFor
-answer-box n c e = rw (eq-eqb n 0 e)
 
 -- ---- the crop box is inside the picture
 
@@ -141,17 +127,49 @@ lines-short colours alpha h w keyed tall wide =
     let b = cutWith colours alpha h w .box in
     omega (arith, crop-short b keyed (crop-small _ h w margin true tall wide), size-short h w (omega arith) (omega arith))
 
--- ---- the text
+-- ---- the text of an answer
 
-module _ (colours : List Float) (alpha : List ℕ) (h w : ℕ) where
-  pub text-declined : (n : ℕ) → n ≡ alphaNumber alpha → (n ≡ 0 → ⊥) → refusalText n ≡ pictureText colours alpha h w
-  unfolding pictureText
-  text-declined n e z = rw (← e, ne-eqb n 0 z)
+-- by the refusal it is that of the cut or of the refusal
+answer-text : (h w n : ℕ) (c : Cut) (mask : List ℕ) → (n ≡ 0 → mask ≡ c .mask)
+    → answerText mask h w (outcomeFor n c) ≡ cond (eqb n 0) (maskText (c .mask) h w (c .box) (c .keyed)) (refusalText n)
+unfolding outcomeFor
+answer-text h w n c mask m = by (eqb n 0) (λ e. m (eqb-true n 0 e))
+  where
+    by : (t : Bool) → (t ≡ true → mask ≡ c .mask)
+        → answerText mask h w (cond t (outcome.Done (c .keyed) (c .box)) (outcome.Refused n)) ≡ cond t (maskText (c .mask) h w (c .box) (c .keyed)) (refusalText n)
+    by true e = rw (e refl)
+    by false e = refl
 
-  pub text-accepted : (n : ℕ) (mask : List ℕ) (crop : Box) (keyed : Bool) → n ≡ alphaNumber alpha → n ≡ 0
-      → mask ≡ cutWith colours alpha h w .mask
-      → crop ≡ cutWith colours alpha h w .box
-      → keyed ≡ cutWith colours alpha h w .keyed
-      → maskText mask h w crop keyed ≡ pictureText colours alpha h w
+answer-short : (h w n : ℕ) (c : Cut) (most : ℕ) → length (cropLines (c .box) (c .keyed)) + length (sizeLine h w) + 2 * (h * w) ≤ most
+    → length (refusalText n) ≤ most → answerLength h w (outcomeFor n c) ≤ most
+unfolding outcomeFor
+answer-short h w n c most l m = by (eqb n 0)
+  where
+    by : (t : Bool) → answerLength h w (cond t (outcome.Done (c .keyed) (c .box)) (outcome.Refused n)) ≤ most
+    by true = l
+    by false = m
+
+-- the cut of a picture of bytes, with the settings of cutcard, has answered r
+module _ (colours : List Float) (alpha : List ℕ) (h w : ℕ) (s : Settings) (b b′ : Buffers) (out : ℕ) (r : Outcome)
+    (room : Room h w (length colours) (length alpha) (length (b .nearest)) (length (b .shallow)) (length (b .deep)) (length (b .marks))
+    (length (b .mask)) (length (b .weights)) out)
+    (ok : coloursOk colours ≡ true) (given : s ≡ settings) (call : Called colours alpha h w s b r b′) where
+  number : refusalIn colours alpha h w s b ≡ alphaRefusal alpha
+  number = rw given (number-is colours alpha h w _ _ _ _ _ _ out room ok)
+
+  pub text-is : answerText (b′ .mask) h w r ≡ pictureText colours alpha h w
   unfolding pictureText cutText
-  text-accepted n mask crop keyed e z m c k = rw (← e, eq-eqb n 0 z, m, c, k)
+  text-is =
+      ap (answerText (b′ .mask) h w) (call .answer)
+      ∙ answer-text h w _ (cutIn colours alpha h w s) (b′ .mask) (λ z. call .mask-is ∙ written _ _ _ z)
+      ∙ rw (number, given)
+
+  pub text-fits : answerLength h w r ≤ out
+  text-fits =
+      rw (call .answer, given)
+      (answer-short h w _ (cutWith colours alpha h w) out
+      (omega (arith, lines-short colours alpha h w (cutWith colours alpha h w .keyed) (room .tall) (room .wide), room .few, room .out-long))
+      (omega (arith, refusal-short (refusalIn colours alpha h w settings b) (rw given at small), room .out-long)))
+    where
+      small : refusalIn colours alpha h w s b < 10000
+      small = rw number (alpha-small alpha)

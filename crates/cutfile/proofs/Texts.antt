@@ -18,12 +18,13 @@ use Rattle.plane.proofs.Refusal.{declined-first, passed-first}
 use Rattle.text.specs.steps.Writing.{Wrote}
 use Rattle.pam.specs.Header.{headerOk, widthOf, heightOf, bodyAt}
 use Rattle.pam.specs.Settings.{threshold}
-use Rattle.pam.specs.Picture.{mostPixels, pixelsOf, coloursOf, alphaOf, fileTests, fileNumber}
+use Rattle.pam.specs.Picture.{mostPixels, pixelsOf, coloursOf, alphaOf, fileTests}
+use Rattle.pam.specs.steps.File.{fileRefusal}
 use Rattle.pam.proofs.Files.{file-ok, sides-of}
 use Rattle.pbm.specs.Text.{refusalText}
 use Rattle.pbm.proofs.Lengths.{mask-long, refusal-short}
-use Rattle.cutfile.specs.Cutcard.{alphaTest, cardNumber, cutWith, cutText, cardText, mostText, over}
-use Rattle.cutfile.specs.steps.Room.{alphaNumber, pictureText}
+use Rattle.cutfile.specs.Cutcard.{alphaTest, cardRefusal, cutWith, cutText, cardText, mostText, over}
+use Rattle.cutfile.specs.steps.Room.{alphaRefusal, pictureText}
 use Rattle.cutfile.proofs.Pictures.{lines-short}
 
 -- the length of the first part of a list
@@ -39,26 +40,26 @@ small true false c d = omega arith
 small false b c d = omega arith
 
 module _ (input : List ℕ) where
-  pub card-declined : (n : ℕ) → n ≡ fileNumber input → (n ≡ 0 → ⊥) → refusalText n ≡ cardText input
-  unfolding cardText cardNumber fileNumber
+  pub card-declined : (n : ℕ) → n ≡ fileRefusal input → (n ≡ 0 → ⊥) → refusalText n ≡ cardText input
+  unfolding cardText cardRefusal fileRefusal
   card-declined n e z =
       let f = declined-first (fileTests input) (alphaTest (alphaOf input) ∷ []) (λ g. z (e ∙ g)) in
       rw (f, ← e, ne-eqb n 0 z)
 
-  pub card-picture : fileNumber input ≡ 0 → pictureText (coloursOf input) (alphaOf input) (heightOf input) (widthOf input) ≡ cardText input
-  unfolding cardText cardNumber fileNumber alphaNumber pictureText
+  pub card-picture : fileRefusal input ≡ 0 → pictureText (coloursOf input) (alphaOf input) (heightOf input) (widthOf input) ≡ cardText input
+  unfolding cardText cardRefusal fileRefusal alphaRefusal pictureText
   card-picture e = rw (passed-first (fileTests input) (alphaTest (alphaOf input) ∷ []) refl e)
 
   -- a file that is declined for nothing has passed the tests of the file
-  accepted-file : cardNumber input ≡ 0 → fileNumber input ≡ 0
-  unfolding cardNumber fileNumber
+  accepted-file : cardRefusal input ≡ 0 → fileRefusal input ≡ 0
+  unfolding cardRefusal fileRefusal
   accepted-file e =
-      ⊎-elim {C = fileNumber input ≡ 0}
-      (λ (t : eqb (fileNumber input) 0 ≡ true). eqb-true (fileNumber input) 0 t)
-      (λ (t : eqb (fileNumber input) 0 ≡ false). sym (declined-first (fileTests input) (alphaTest (alphaOf input) ∷ []) (eqb-false (fileNumber input) 0 t)) ∙ e)
-      (either (eqb (fileNumber input) 0))
+      ⊎-elim {C = fileRefusal input ≡ 0}
+      (λ (t : eqb (fileRefusal input) 0 ≡ true). eqb-true (fileRefusal input) 0 t)
+      (λ (t : eqb (fileRefusal input) 0 ≡ false). sym (declined-first (fileTests input) (alphaTest (alphaOf input) ∷ []) (eqb-false (fileRefusal input) 0 t)) ∙ e)
+      (either (eqb (fileRefusal input) 0))
 
-  accepted-short : cardNumber input ≡ 0 → length (cutText (coloursOf input) (alphaOf input) (heightOf input) (widthOf input)) ≤ mostText
+  accepted-short : cardRefusal input ≡ 0 → length (cutText (coloursOf input) (alphaOf input) (heightOf input) (widthOf input)) ≤ mostText
   unfolding cutText pixelsOf
   accepted-short e =
       let f = file-ok input (accepted-file e) in
@@ -72,14 +73,14 @@ module _ (input : List ℕ) where
         lines-short (coloursOf input) (alphaOf input) (heightOf input) (widthOf input) (c .keyed) (s .tall) (s .wide),
       )
 
-  number-small : cardNumber input < 10000
-  unfolding cardNumber refusalOf
+  number-small : cardRefusal input < 10000
+  unfolding cardRefusal refusalOf
   number-small =
       small (headerOk input) (leb (pixelsOf input) mostPixels) (eqb (length input) (bodyAt input + 4 * pixelsOf input))
       (someBelow (length (alphaOf input)) (λ (i : ℕ). leb threshold (getD (alphaOf input) i 0)))
 
-  pub file-small : fileNumber input < 10000
-  unfolding fileNumber refusalOf
+  pub file-small : fileRefusal input < 10000
+  unfolding fileRefusal refusalOf
   file-small =
       small (headerOk input) (leb (pixelsOf input) mostPixels) (eqb (length input) (bodyAt input + 4 * pixelsOf input)) true
 
@@ -88,9 +89,9 @@ module _ (input : List ℕ) where
   unfolding cardText
   text-short =
       ⊎-elim {C = length (cardText input) ≤ mostText}
-      (λ (e : eqb (cardNumber input) 0 ≡ true). rw e (accepted-short (eqb-true (cardNumber input) 0 e)))
-      (λ (e : eqb (cardNumber input) 0 ≡ false). rw e (omega (arith, refusal-short (cardNumber input) number-small)))
-      (either (eqb (cardNumber input) 0))
+      (λ (e : eqb (cardRefusal input) 0 ≡ true). rw e (accepted-short (eqb-true (cardRefusal input) 0 e)))
+      (λ (e : eqb (cardRefusal input) 0 ≡ false). rw e (omega (arith, refusal-short (cardRefusal input) number-small)))
+      (either (eqb (cardRefusal input) 0))
 
 -- a buffer that is long enough, with the text written to its front
 pub whole : (input old new text : List ℕ) (r : ℕ) → mostText ≤ length old → text ≡ cardText input → Wrote text old new 0 r

@@ -20,8 +20,8 @@ abbrev pub alphaTest : List ℕ → Test
 alphaTest alpha = (6, someBelow (length alpha) (λ (i : ℕ). leb threshold (getD alpha i 0)))
 
 -- the number of an input's refusal (R59), 0 where it is accepted
-unfoldable pub cardNumber : List ℕ → ℕ
-cardNumber input = refusalOf (fileTests input ++ (alphaTest (alphaOf input) ∷ []))
+unfoldable pub cardRefusal : List ℕ → ℕ
+cardRefusal input = refusalOf (fileTests input ++ (alphaTest (alphaOf input) ∷ []))
 
 -- the picture cut with the settings of cutcard
 abbrev pub cutWith : List Float → List ℕ → ℕ → ℕ → Cut
@@ -34,9 +34,9 @@ cutText colours alpha h w = let c = cutWith colours alpha h w in maskText (c .ma
 -- what is printed for an input
 unfoldable pub cardText : List ℕ → List ℕ
 cardText input =
-    cond (eqb (cardNumber input) 0)
+    cond (eqb (cardRefusal input) 0)
     (cutText (coloursOf input) (alphaOf input) (heightOf input) (widthOf input))
-    (refusalText (cardNumber input))
+    (refusalText (cardRefusal input))
 
 -- no text is longer than this: 48 bytes for the lines before the pixels, and two for each of 2304 pixels
 abbrev pub mostText : ℕ

@@ -1,15 +1,17 @@
 // The work of cutcard: from the bytes of a PAM file to the bytes of a plain PBM file or of a refusal.
 ghost use mathlib.Core.Path.{_≡_};
 ghost use mathlib.Core.Bool.{true, cond};
-ghost use Prim.Native.Nat.{_≤_, _*_};
+ghost use Prim.Native.Nat.{_≤_, _<_, _*_};
 ghost use lib.Dec.{leb};
 ghost use lib.ListN.{length};
 ghost use Rattle.colour.specs.Colour.{coloursOk};
 ghost use Rattle.text.specs.steps.Writing.{Wrote};
 ghost use Rattle.pam.specs.Header.{heightOf, widthOf};
-ghost use Rattle.pam.specs.Picture.{coloursFrom, alphaFrom, coloursOf, alphaOf, fileNumber};
+ghost use Rattle.pam.specs.Picture.{coloursFrom, alphaFrom, coloursOf, alphaOf};
+ghost use Rattle.pam.specs.steps.File.{fileRefusal};
 ghost use Rattle.cutfile.specs.Cutcard.{cardText, mostText, over};
-ghost use Rattle.cutfile.specs.steps.Room.{Room, pictureText};
+ghost use Rattle.cutfile.specs.steps.Room.{Room, pictureText, answerText, answerLength};
+use outline::Outcome;
 use pam::MOST_INPUT;
 use pam::MOST_PIXELS;
 
@@ -20,6 +22,18 @@ const WORK: usize = 9234;
 
 // No text is longer than this.
 pub const MOST_TEXT: usize = 4656;
+
+// The text of an answer of the cut: the mask with its crop box and keyed flag, or the refusal.
+fn write_answer(out: &mut [u8], mask: &[u8], h: usize, w: usize, answer: Outcome) -> usize
+    requires { ⌜ (0 < w) × (length (now mask) ≡ h * w) ⌝ }
+    requires { ⌜ answerLength h w answer ≤ length (now out) ⌝ }
+    ensures { λ r. ⌜ Wrote (answerText (now (mask .entry)) h w answer) (now (out .entry)) (now (out .exit)) 0 r ⌝ }
+{
+    match answer {
+        Outcome::Done(keyed, crop) => pbm::write_mask(out, mask, h, w, crop, keyed),
+        Outcome::Refused(refusal) => pbm::write_refusal(out, refusal),
+    }
+}
 
 // The picture is cut, and its text written.
 fn cut(
@@ -54,13 +68,7 @@ fn cut(
         mask,
         weights,
     );
-    let number = keying::outcome_refusal(answer);
-    if number != 0 {
-        return pbm::write_refusal(out, number);
-    }
-    let crop = keying::outcome_box(answer);
-    let keyed = keying::outcome_keyed(answer);
-    pbm::write_mask(out, mask, h, w, crop, keyed)
+    write_answer(out, mask, h, w, answer)
 }
 
 // The picture is read from its bytes and cut.
@@ -106,7 +114,7 @@ fn read_and_cut(
 
 // The text of a file that is not declined for its header or its length.
 fn write_picture(input: &[u8], out: &mut [u8]) -> usize
-    requires { ⌜ (fileNumber (now input) ≡ 0) × (mostText ≤ length (now out)) ⌝ }
+    requires { ⌜ (fileRefusal (now input) ≡ 0) × (mostText ≤ length (now out)) ⌝ }
     ensures { λ r. ⌜ Wrote
         (pictureText (coloursOf (now (input .entry))) (alphaOf (now (input .entry)))
         (heightOf (now (input .entry))) (widthOf (now (input .entry))))
@@ -152,9 +160,9 @@ pub fn cutcard(input: &[u8], out: &mut [u8]) -> usize
     if out.len() < MOST_TEXT {
         return 0;
     }
-    let number = pam::file_number(input);
-    if number != 0 {
-        return pbm::write_refusal(out, number);
+    let refusal = pam::file_refusal(input);
+    if refusal != 0 {
+        return pbm::write_refusal(out, refusal);
     }
     write_picture(input, out)
 }

@@ -4,16 +4,14 @@ use mathlib.Core.Path.{_≡_, refl, sym, ap, _∙_, subst}
 use mathlib.Core.Bool.{Bool, true, false, cond, not, _&&_}
 use mathlib.Core.List.{List, [], _∷_}
 use mathlib.Core.Logic.{⊎-elim}
-use Prim.Native.Nat.{ℕ, _+_, _*_, _≤_, _<_}
-use native.Mathlib.Nat.{mul-le-mul}
+use Prim.Native.Nat.{ℕ, _*_}
 use native.Mathlib.Omega.{arith}
 use lib.ListN.{length, getD}
 use lib.Ieee.{Float}
 use types.Run.{OneOf}
 use denote.Enum.Declared.{tagOf}
-use Rattle.plane.specs.Plane.{on, table, Sides}
+use Rattle.plane.specs.Plane.{on, table}
 use Rattle.plane.specs.Mask.{isOn, maskOf, complementOf, someOff}
-use Rattle.plane.specs.Refusal.{roomFor}
 use Rattle.plane.proofs.Search.{not-both, none-found}
 use Rattle.plane.proofs.Plane.{table-length, table-at}
 use Rattle.plane.proofs.Mask.{mask-on, mask-same}

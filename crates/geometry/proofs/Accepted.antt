@@ -1,20 +1,19 @@
 -- What a call's refusal says: of its answer, and, where it is 0, of the buffers' lengths.
 -- Assumes nothing.
-use mathlib.Core.Path.{_≡_, refl, sym}
+use mathlib.Core.Path.{_≡_, refl}
 use mathlib.Core.Bool.{Bool, true, false, cond, _&&_}
 use mathlib.Core.List.{[], _∷_}
 use Prim.Native.Nat.{ℕ, _+_, _*_, _≤_, _<_}
 use native.Mathlib.Nat.{mul-le-mul}
 use native.Mathlib.Omega.{arith}
-use lib.Dec.{eqb}
 use borrow.Author.Tests.{eq-eqb, ne-eqb, eqb-true, leb-true, ltb-true}
 use Rattle.plane.specs.Plane.{Sides}
-use Rattle.plane.specs.Refusal.{refusalOf, roomFor, after}
+use Rattle.plane.specs.Refusal.{refusalOf, roomFor}
 use Rattle.plane.proofs.Plane.{row-in, area-most}
 use Rattle.plane.proofs.Refusal.{Within, and-true, passed, sides-are, sides-within}
 use Rattle.geometry.specs.declared.Answer.the-variants as answer
 use Rattle.geometry.specs.declared.Labelled.the-variants as labelled
-use Rattle.geometry.specs.Answer.{answerFor, refusalOfAnswer, labelledFor, refusalOfLabelled, partsOfLabelled}
+use Rattle.geometry.specs.Answer.{answerFor, labelledFor}
 use Rattle.geometry.specs.Refusal.{planeRefusal, nearestRefusal, fillRefusal, cropRefusal}
 
 -- ---- answers
@@ -146,24 +145,3 @@ distances-fit h w s =
 
 pub few-pixels : (h w : ℕ) → Within h w → h * w < 4294967296
 few-pixels h w s = let a = mul-le-mul {n₁ = h} {m₁ = w} (s .tall) (s .wide) in omega arith
-
--- ---- from an answer back to its number and values
-
-by-zero : (n : ℕ) (P : Bool → Type 0) → (n ≡ 0 → P true) → P false → P (eqb n 0)
-by-zero n P a b = at (eqb n 0) refl
-  where
-    at : (t : Bool) → eqb n 0 ≡ t → P t
-    at true e = a (eqb-true n 0 e)
-    at false e = b
-
-pub refusal-of-answer : (n : ℕ) → refusalOfAnswer (answerFor n) ≡ n
-unfolding answerFor
-refusal-of-answer n = by-zero n (λ (t : Bool). refusalOfAnswer (cond t answer.Done (answer.Refused n)) ≡ n) sym refl
-
-pub refusal-of-labelled : (n parts : ℕ) → refusalOfLabelled (labelledFor n parts) ≡ n
-unfolding labelledFor
-refusal-of-labelled n parts = by-zero n (λ (t : Bool). refusalOfLabelled (cond t (labelled.Parts parts) (labelled.Refused n)) ≡ n) sym refl
-
-pub parts-of-labelled : (n parts : ℕ) → partsOfLabelled (labelledFor n parts) ≡ after n parts 0
-unfolding labelledFor after
-parts-of-labelled n parts = by-zero n (λ (t : Bool). partsOfLabelled (cond t (labelled.Parts parts) (labelled.Refused n)) ≡ cond t parts 0) (λ e. refl) refl

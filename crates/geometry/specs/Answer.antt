@@ -20,12 +20,3 @@ refusalOfAnswer (answer.Refused n) = n
 -- the answer of labels with this refusal, and this count of parts
 unfoldable pub labelledFor : ℕ → ℕ → Labelled
 labelledFor refusal parts = cond (eqb refusal 0) (labelled.Parts parts) (labelled.Refused refusal)
-
--- the number of an answer of labels, and the count of parts that it carries: 0 where it was declined
-abbrev pub refusalOfLabelled : Labelled → ℕ
-refusalOfLabelled (labelled.Parts n) = 0
-refusalOfLabelled (labelled.Refused n) = n
-
-abbrev pub partsOfLabelled : Labelled → ℕ
-partsOfLabelled (labelled.Parts n) = n
-partsOfLabelled (labelled.Refused n) = 0

@@ -1,7 +1,7 @@
 -- What the calls of this crate decline: their tests in order (R44 to R49, R55 to R57). Lengths are given as numbers.
 -- Assumes nothing.
 use Prim.Native.Nat.{ℕ}
-use mathlib.Core.List.{List, [], _∷_}
+use mathlib.Core.List.{[], _∷_}
 use lib.Dec.{ltb, leb}
 use Rattle.plane.specs.Refusal.{refusalOf, sidesOk, isPlane, isColours, isRoom}
 

@@ -1,10 +1,10 @@
 // Plane geometry: the public calls. Each declines by its number, and a call that declines writes nothing.
 mod fill;
-mod refusal;
+mod refusals;
 
 ghost use mathlib.Core.Path.{_≡_};
 ghost use lib.ListN.{length};
-ghost use Rattle.geometry.specs.Answer.{refusalOfAnswer, refusalOfLabelled, partsOfLabelled};
+ghost use Rattle.geometry.specs.Answer.{refusalOfAnswer};
 ghost use Rattle.geometry.specs.Calls.{NearestCalled, LabelsCalled, SquaresCalled, DistanceCalled, FillCalled};
 ghost use Rattle.geometry.specs.Refusal.{cropRefusal};
 ghost use Rattle.geometry.specs.Crop.{cropPart};
@@ -31,26 +31,6 @@ pub fn refusal_of(answer: Answer) -> u32
     }
 }
 
-// The number of an answer of labels.
-pub fn labelled_refusal(answer: Labelled) -> u32
-    ensures { λ r. ⌜ r ≡ refusalOfLabelled answer ⌝ }
-{
-    match answer {
-        Labelled::Parts(_) => 0,
-        Labelled::Refused(n) => n,
-    }
-}
-
-// The number of parts that an answer of labels carries, 0 where it was declined.
-pub fn labelled_parts(answer: Labelled) -> u32
-    ensures { λ r. ⌜ r ≡ partsOfLabelled answer ⌝ }
-{
-    match answer {
-        Labelled::Parts(n) => n,
-        Labelled::Refused(_) => 0,
-    }
-}
-
 // Row and column of the nearest on-pixel of each pixel; with nothing on, row -1 and column 0.
 pub fn feature_transform(
     mask: &[u8],
@@ -64,9 +44,9 @@ pub fn feature_transform(
         (now (work .entry)) (now (rows .entry)) (now (cols .entry)) r
         (now (work .exit)) (now (rows .exit)) (now (cols .exit)) ⌝ }
 {
-    let number = refusal::nearest_refusal(h, w, mask.len(), rows.len(), cols.len(), work.len());
-    if number != 0 {
-        return Answer::Refused(number);
+    let refusal = refusals::nearest_refusal(h, w, mask.len(), rows.len(), cols.len(), work.len());
+    if refusal != 0 {
+        return Answer::Refused(refusal);
     }
     nearest::nearest_planes(mask, h, w, work, rows, cols);
     Answer::Done
@@ -79,9 +59,9 @@ pub fn label4(mask: &[u8], h: usize, w: usize, parents: &mut [u32], labels: &mut
         (now (parents .entry)) (now (labels .entry)) r
         (now (parents .exit)) (now (labels .exit)) ⌝ }
 {
-    let number = refusal::plane_refusal(h, w, mask.len(), labels.len(), parents.len());
-    if number != 0 {
-        return Labelled::Refused(number);
+    let refusal = refusals::plane_refusal(h, w, mask.len(), labels.len(), parents.len());
+    if 0 < refusal {
+        return Labelled::Refused(refusal);
     }
     let n = labels::label(mask, h, w, parents, labels);
     Labelled::Parts(n)
@@ -101,9 +81,9 @@ pub fn binary_dilation8(
         (now (work .entry)) (now (out .entry)) r
         (now (work .exit)) (now (out .exit)) ⌝ }
 {
-    let number = refusal::plane_refusal(h, w, mask.len(), out.len(), work.len());
-    if number != 0 {
-        return Answer::Refused(number);
+    let refusal = refusals::plane_refusal(h, w, mask.len(), out.len(), work.len());
+    if refusal != 0 {
+        return Answer::Refused(refusal);
     }
     squares::dilate(mask, h, w, iterations, work, out);
     Answer::Done
@@ -121,9 +101,9 @@ pub fn square_distance(
         (now (work .entry)) (now (out .entry)) r
         (now (work .exit)) (now (out .exit)) ⌝ }
 {
-    let number = refusal::plane_refusal(h, w, mask.len(), out.len(), work.len());
-    if number != 0 {
-        return Answer::Refused(number);
+    let refusal = refusals::plane_refusal(h, w, mask.len(), out.len(), work.len());
+    if refusal != 0 {
+        return Answer::Refused(refusal);
     }
     nearest::nearest_distances(mask, h, w, work, out);
     Answer::Done
@@ -143,9 +123,9 @@ pub fn fill_transparent(
         (now (work .entry)) (now (out .entry)) r
         (now (work .exit)) (now (out .exit)) ⌝ }
 {
-    let number = refusal::fill_refusal(h, w, colours.len(), mask.len(), out.len(), work.len());
-    if number != 0 {
-        return Answer::Refused(number);
+    let refusal = refusals::fill_refusal(h, w, colours.len(), mask.len(), out.len(), work.len());
+    if refusal != 0 {
+        return Answer::Refused(refusal);
     }
     nearest::nearest_indices(mask, h, w, work);
     fill::colours_from(colours, h, w, work, plane::any(mask), out);
@@ -165,7 +145,7 @@ pub fn crop_row_refusal(
 ) -> u32
     ensures { λ r. ⌜ r ≡ cropRefusal (length (now (plane .entry))) h w y0 y1 x0 x1 y ⌝ }
 {
-    refusal::crop_refusal(plane.len(), h, w, y0, y1, x0, x1, y)
+    refusals::crop_refusal(plane.len(), h, w, y0, y1, x0, x1, y)
 }
 
 // Row y of the plane from column x0 up to x1; declined, an empty part.

@@ -23,7 +23,7 @@ use Rattle.outline.specs.Border.{referenceOf}
 use Rattle.outline.specs.Growth.{growthOf}
 use Rattle.outline.specs.Cut.{Cut, isKeyed, cutMask, weightsOf, cropOf, margin, cutOf}
 use Rattle.outline.specs.Calls.{Buffers, refusalIn, HeldIn}
-use Rattle.outline.specs.Refusal.{workTests, groundLengths, growthLengths, groundRefusal, growthRefusal}
+use Rattle.outline.specs.Refusal.{workTests, groundLengths, growthLengths, pictureTests, groundRefusal, growthRefusal}
 use Rattle.outline.specs.Answer.{groundFor, outcomeFor, refusalOfOutcome}
 use Rattle.outline.specs.declared.Ground.the-variants as ground
 use Rattle.outline.specs.declared.Outcome.the-variants as outcome
@@ -57,7 +57,7 @@ pub record GroundOk (colours : List Float) (h w out work : ℕ) : Type 0 where
   pub range : coloursOk colours ≡ true
 
 pub ground-ok : (colours : List Float) (h w : ℕ) (t : Float) (out work : ℕ) → groundRefusal colours h w t out work ≡ 0 → GroundOk colours h w out work
-unfolding groundRefusal groundLengths
+unfolding groundRefusal groundLengths pictureTests
 ground-ok colours h w t out work e =
     let p = passed _ refl e in
     record {

@@ -8,7 +8,6 @@ use mathlib.Core.Logic.{⊎-elim}
 use lib.Dec.{eqb}
 use lib.Ieee.{Float}
 use borrow.Author.Tests.{eqb-true, eqb-false}
-use Rattle.plane.specs.Refusal.{after}
 use Rattle.plane.proofs.Search.{either}
 use Rattle.plane.proofs.Refusal.{written}
 use Rattle.colour.specs.declared.Settings.{Settings}

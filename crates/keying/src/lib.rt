@@ -1,14 +1,12 @@
 // Keying: the public calls of the upper layer. Each declines by its number, and a call that declines writes nothing.
 ghost use mathlib.Core.Path.{_≡_};
 ghost use lib.ListN.{length};
-ghost use Rattle.outline.specs.Answer.{groundRefusalOf, groundFound, groundReference, refusalOfOutcome, outcomeKeyed, outcomeBox};
 ghost use Rattle.keying.specs.Calls.{GroundCalled, GrowthCalled, Called};
 use colour::Rgb;
 use colour::Settings;
 use geometry::Answer;
 use outline::Ground;
 use outline::Outcome;
-use plane::Box;
 
 // The ground of a picture, as a mask; all 0 where it is not found.
 pub fn flat_background(
@@ -23,9 +21,9 @@ pub fn flat_background(
         (now (work .entry)) (now (out .entry)) r
         (now (work .exit)) (now (out .exit)) ⌝ }
 {
-    let number = refusals::ground_refusal(colours, h, w, tolerance, out.len(), work.len());
-    if number != 0 {
-        return Ground::Refused(number);
+    let refusal = refusals::ground_refusal(colours, h, w, tolerance, out.len(), work.len());
+    if refusal != 0 {
+        return Ground::Refused(refusal);
     }
     ground::flat_ground(colours, h, w, tolerance, work, out)
 }
@@ -62,7 +60,7 @@ pub fn unmix_fringe(
         (record { out = now (out .exit); nearest = now (nearest .exit); shallow = now (shallow .exit);
             deep = now (deep .exit); marks = now (marks .exit) }) ⌝ }
 {
-    let number = refusals::growth_refusal(
+    let refusal = refusals::growth_refusal(
         colours,
         background.len(),
         h,
@@ -74,8 +72,8 @@ pub fn unmix_fringe(
         deep.len(),
         marks.len(),
     );
-    if number != 0 {
-        return Answer::Refused(number);
+    if refusal != 0 {
+        return Answer::Refused(refusal);
     }
     copy(background, out);
     let passes = colour::count_of(p);
@@ -114,7 +112,7 @@ pub fn subject(
         (record { mask = now (mask .exit); weights = now (weights .exit); nearest = now (nearest .exit);
             shallow = now (shallow .exit); deep = now (deep .exit); marks = now (marks .exit) }) ⌝ }
 {
-    let number = refusals::cut_refusal(
+    let refusal = refusals::cut_refusal(
         colours,
         alpha,
         h,
@@ -127,8 +125,8 @@ pub fn subject(
         deep.len(),
         marks.len(),
     );
-    if number != 0 {
-        return Outcome::Refused(number);
+    if refusal != 0 {
+        return Outcome::Refused(refusal);
     }
     let keyed = cutting::cut_mask(
         colours,
@@ -145,71 +143,4 @@ pub fn subject(
     weights::weights(mask, alpha, weights);
     let crop = cutting::crop_of(mask, h, w, s.crop_to_alpha);
     Outcome::Done(keyed, crop)
-}
-
-// The number of an answer of ground; whether it was found; and its reference, all +0 where it was not.
-pub fn ground_refusal_of(answer: Ground) -> u32
-    ensures { λ r. ⌜ r ≡ groundRefusalOf answer ⌝ }
-{
-    match answer {
-        Ground::Found(_) => 0,
-        Ground::Absent => 0,
-        Ground::Refused(n) => n,
-    }
-}
-
-pub fn ground_found(answer: Ground) -> bool
-    ensures { λ r. ⌜ r ≡ groundFound answer ⌝ }
-{
-    match answer {
-        Ground::Found(_) => true,
-        Ground::Absent => false,
-        Ground::Refused(_) => false,
-    }
-}
-
-pub fn ground_reference(answer: Ground) -> Rgb
-    ensures { λ r. ⌜ r ≡ groundReference answer ⌝ }
-{
-    let Ground::Found(reference) = answer else {
-        return Rgb {
-            r: 0.0,
-            g: 0.0,
-            b: 0.0,
-        };
-    };
-    reference
-}
-
-// The number of an answer of the cut; whether it was keyed; and its crop box, all 0 where it was declined.
-pub fn outcome_refusal(answer: Outcome) -> u32
-    ensures { λ r. ⌜ r ≡ refusalOfOutcome answer ⌝ }
-{
-    match answer {
-        Outcome::Done(_, _) => 0,
-        Outcome::Refused(n) => n,
-    }
-}
-
-pub fn outcome_keyed(answer: Outcome) -> bool
-    ensures { λ r. ⌜ r ≡ outcomeKeyed answer ⌝ }
-{
-    match answer {
-        Outcome::Done(keyed, _) => keyed,
-        Outcome::Refused(_) => false,
-    }
-}
-
-pub fn outcome_box(answer: Outcome) -> Box
-    ensures { λ r. ⌜ r ≡ outcomeBox answer ⌝ }
-{
-    let Outcome::Done(_, crop) = answer else {
-        return Box {
-            y0: 0,
-            y1: 0,
-            x0: 0,
-            x1: 0,
-        };
-    };
-    crop
 }

@@ -2,14 +2,14 @@
 -- The nearest deep pixel, moved one row and one column towards the edge pixel where they differ, is nearer to it, so it is not deep: it is within 4 of the background.
 -- Assumes nothing.
 use mathlib.Core.Path.{_≡_, refl, sym, ap, _∙_}
-use mathlib.Core.Bool.{Bool, true, false, cond, not, _&&_}
+use mathlib.Core.Bool.{Bool, true, false, cond, not}
 use mathlib.Core.List.{List}
 use mathlib.Core.Option.{Option, none, some}
 use mathlib.Core.Logic.{⊎-elim}
 use Prim.Native.Nat.{ℕ, _+_, _*_, _/_, _%_, _<_}
 use native.Mathlib.Omega.{arith}
 use borrow.Author.Tests.{not-false}
-use Rattle.plane.specs.Plane.{onAt, apart, indexOf}
+use Rattle.plane.specs.Plane.{onAt, indexOf}
 use Rattle.plane.specs.Search.{someBelow}
 use Rattle.plane.proofs.Plane.{pixel-in, row-of, column-of, index-of, apart-back}
 use Rattle.plane.proofs.Search.{either, not-both, some-found, and-no}

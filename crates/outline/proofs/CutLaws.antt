@@ -1,11 +1,10 @@
 -- Laws of the cut: what an accepted one knows, and that its mask is never empty.
 -- Assumes nothing.
 use mathlib.Core.Path.{_≡_, refl, sym, ap, _∙_}
-use mathlib.Core.Bool.{Bool, true, false, cond, not}
+use mathlib.Core.Bool.{true, false, cond, not}
 use mathlib.Core.List.{List}
 use mathlib.Core.Logic.{⊎-elim}
 use Prim.Native.Nat.{ℕ, _*_, _≤_, _<_}
-use native.Mathlib.Omega.{arith}
 use lib.Dec.{leb}
 use lib.ListN.{length, getD}
 use lib.Ieee.{Float}
@@ -23,7 +22,7 @@ use Rattle.colour.specs.Settings.{onOf, passesOf}
 use Rattle.outline.specs.Border.{borderList}
 use Rattle.outline.specs.Ground.{closePlane, groundFrom, groundOf, countOn, foundFrom, isFound}
 use Rattle.outline.specs.Cut.{alphaMask, isSought, isKeyed, grownGround, cutMask}
-use Rattle.outline.specs.Refusal.{workTests, cutLengths, cutRefusal}
+use Rattle.outline.specs.Refusal.{workTests, cutLengths, pictureTests, cutRefusal}
 use Rattle.outline.specs.Calls.{Buffers, refusalIn}
 use Rattle.plane.proofs.Mask.{mask-length, mask-on, mask-again}
 use Rattle.outline.proofs.GrowthLaws.{growth-leaves}
@@ -45,7 +44,7 @@ pub record Taken (colours : List Float) (alpha : List ℕ) (h w : ℕ) (s : Sett
   pub some-alpha : someBelow (h * w) (isOn (alphaMask alpha (h * w) s)) ≡ true
 
 pub taken : (colours : List Float) (alpha : List ℕ) (h w : ℕ) (s : Settings) (b : Buffers) → refusalIn colours alpha h w s b ≡ 0 → Taken colours alpha h w s b
-unfolding cutRefusal cutLengths workTests
+unfolding cutRefusal cutLengths workTests pictureTests
 taken colours alpha h w s b e =
     let p = passed _ refl e in
     record {

@@ -1,37 +1,35 @@
 -- The premises of the theorem about two pictures can be met, and at the bound: two pictures of 13 by 13, cut with p = 1, that differ at the
 -- middle pixel alone, which lies exactly p + 5 from the ground and from the border. The prover computes it from the definitions.
 -- Assumes nothing.
-use mathlib.Core.Path.{_≡_, refl, sym, _∙_}
+use mathlib.Core.Path.{_≡_, refl, sym}
 use mathlib.Core.Bool.{Bool, true, false, cond, not, _&&_, _||_}
-use mathlib.Core.List.{List, [], _∷_, _++_}
+use mathlib.Core.List.{List}
 use mathlib.Core.Logic.{_⊎_, inl, inr, ⊎-elim}
-use Prim.Native.Nat.{ℕ, _+_, _*_, _/_, _%_, _≤_, _<_}
+use Prim.Native.Nat.{ℕ, _+_, _*_, _/_, _<_}
 use native.Mathlib.Omega.{arith}
 use lib.Dec.{eqb}
 use lib.IntN.{pos}
 use lib.ListN.{length, replicate}
-use lib.Ieee.{Float, fin, lt, le, eq, add, sub, mul, div, neg, ofInt, isNan}
-use lib.Ieee.Scale.{finite}
+use lib.Ieee.{Float, lt, le, eq, add, sub, mul, div, neg}
 use Rattle.plane.specs.Plane.{on, bit, onAt, apart, within, table}
 use Rattle.plane.specs.Search.{someBelow}
 use Rattle.plane.specs.Mask.{isOn, maskOf}
 use Rattle.plane.specs.Refusal.{refusalOf}
-use Rattle.plane.proofs.Search.{either, none-found, or-true, not-both}
+use Rattle.plane.proofs.Search.{none-found, or-true, not-both}
 use Rattle.squares.specs.Squares.{inSquare}
-use Rattle.colour.specs.declared.Rgb.{Rgb}
 use Rattle.colour.specs.declared.Settings.{Settings}
 use Rattle.colour.specs.Number.{zero64, one64, absOf, plusZero, halfOf}
 use Rattle.colour.specs.Colour.{differenceOf, closeTo, colourOk, coloursOk, sameColour}
 use Rattle.colour.specs.Settings.{onOf, passesOf}
 use Rattle.median.specs.Median.{insert, sorted, placed, lowerMiddle, upperMiddle, medianOf}
 use Rattle.outline.specs.Border.{rowPixels, innerColumn, borderList, listed, onBorder, channelAt, colourAt, referenceChannel, referenceOf}
-use Rattle.outline.specs.Ground.{isClose, closePlane, groundFrom, groundOf}
+use Rattle.outline.specs.Ground.{isClose, closePlane, groundOf}
 use Rattle.outline.specs.Growth.{nearGround}
 use Rattle.outline.specs.Cut.{alphaMask}
-use Rattle.outline.specs.Refusal.{workTests, cutLengths, cutRefusal}
+use Rattle.outline.specs.Refusal.{workTests, cutLengths, pictureTests, cutRefusal}
 use Rattle.outline.specs.Calls.{Buffers, refusalIn}
 use Rattle.outline.specs.Premises.{sameTolerance, SameSettings, AgreeAt, reachOf, Agree, SameLengths, TwoCalls, TwoPictures}
-use Rattle.outline.proofs.Masks.{Within, near-found, near-is}
+use Rattle.outline.proofs.Masks.{near-found, near-is}
 use Rattle.outline.proofs.GroundLaws.{ground-close}
 use Rattle.outline.proofs.TwoPictures.{two-pictures}
 
@@ -76,7 +74,7 @@ close = closePlane one side side (referenceOf one side side) zero64
 
 -- the call is accepted
 accepted : refusalIn one alpha side side settings buffers ≡ 0
-unfolding grey pictureOf alpha buffers table cutRefusal cutLengths workTests refusalOf coloursOk colourOk someBelow isOn maskOf alphaMask onOf on bit le lt rowPixels innerColumn borderList listed onBorder
+unfolding grey pictureOf alpha buffers table cutRefusal cutLengths workTests pictureTests refusalOf coloursOk colourOk someBelow isOn maskOf alphaMask onOf on bit le lt rowPixels innerColumn borderList listed onBorder
 accepted = refl
 
 ranges : coloursOk two ≡ true
@@ -151,7 +149,7 @@ in-range = refl
 
 -- every premise of the theorem holds of these two calls
 pub calls : TwoCalls one two alpha side side settings settings buffers buffers
-calls = record { sizes = sizes; settings = alike; lengths = lengths; in-range = in-range; in-range′ = ranges; agree = λ _. agree }
+calls = search (sizes, alike, lengths, in-range, ranges, agree)
 
 -- so their outlines are equal, although the pictures differ
 pub instance : TwoPictures one two alpha side side settings settings buffers buffers

@@ -21,12 +21,12 @@ use Rattle.colour.specs.Number.{Binary64}
 use Rattle.colour.specs.Settings.{onOf, passesOf}
 use Rattle.colour.proofs.Range.{is}
 use Rattle.colour.proofs.Zero.{plus0, Alike, eq-alike}
-use Rattle.colour.proofs.Same.{Held, same-colour, plus0-finite}
+use Rattle.colour.proofs.Same.{Held, same-colour}
 use Rattle.outline.specs.Border.{onBorder, channelAt, colourAt, referenceOf}
 use Rattle.outline.specs.Ground.{groundOf}
 use Rattle.outline.specs.Growth.{nearGround, growthOf}
-use Rattle.outline.specs.Cut.{alphaMask, isSought, isKeyed, grownGround, cutMask, cropOf, margin, cutOf}
-use Rattle.outline.specs.Refusal.{workTests, cutLengths, cutRefusal}
+use Rattle.outline.specs.Cut.{alphaMask, isSought, isKeyed, grownGround, cutMask, cutOf}
+use Rattle.outline.specs.Refusal.{workTests, cutLengths, pictureTests, cutRefusal}
 use Rattle.outline.specs.Calls.{Buffers, refusalIn, HeldIn}
 use Rattle.outline.specs.Premises.{sameTolerance, AgreeAt, TwoCalls, TwoPictures}
 use Rattle.outline.proofs.Masks.{near-found, near-is, within-more}
@@ -100,7 +100,7 @@ module _ (one two : List Float) (alpha : List ℕ) (h w : ℕ) (s t : Settings) 
 
   -- the numbers are equal, whatever the pictures show
   refusals : refusalIn one alpha h w s b ≡ refusalIn two alpha h w t c
-  unfolding cutRefusal cutLengths workTests
+  unfolding cutRefusal cutLengths workTests pictureTests
   refusals =
       let l = calls .lengths in
       rw (

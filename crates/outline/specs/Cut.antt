@@ -7,7 +7,7 @@ use lib.Dec.{eqb}
 use lib.ListN.{getD}
 use lib.Ieee.{Float}
 use Rattle.plane.specs.Plane.{table}
-use Rattle.plane.specs.Mask.{isOn, maskOf, complementOf, someOff}
+use Rattle.plane.specs.Mask.{isOn, maskOf, someOff}
 use Rattle.plane.specs.Box.{boxOf, wholeOf}
 use Rattle.plane.specs.declared.Box.{Box}
 use Rattle.colour.specs.declared.Rgb.{Rgb}

@@ -1,6 +1,6 @@
 -- Growth: passes that move the background into the object's anti-aliased rim.
 -- Assumes nothing.
-use Prim.Native.Nat.{ℕ, zero, suc, _+_, _*_, _/_, _%_}
+use Prim.Native.Nat.{ℕ, zero, suc, _*_, _/_, _%_}
 use mathlib.Core.Bool.{Bool, false, cond, not, _&&_, _||_}
 use mathlib.Core.List.{List}
 use mathlib.Core.Option.{Option, none, some}

@@ -1,7 +1,6 @@
 -- What ground, growth and cut decline: their tests in order (R44 to R49, R55 to R57). Lengths are given as numbers.
 -- Assumes nothing.
 use Prim.Native.Nat.{ℕ, _*_}
-use mathlib.Core.Bool.{_&&_}
 use mathlib.Core.List.{List, [], _∷_, _++_}
 use lib.Dec.{leb}
 use lib.ListN.{length}
@@ -20,14 +19,18 @@ unfoldable pub workTests : ℕ → ℕ → ℕ → ℕ → ℕ → List Test
 workTests least nearest shallow deep marks =
     (3, leb least nearest) ∷ (3, leb least shallow) ∷ (3, leb least deep) ∷ (3, leb least marks) ∷ []
 
--- ground (R55): the colours, the output plane, the work buffer; then that the colours are from 0 to 1 and the tolerance is a finite number
+-- what a picture is declined for: a colour that is not from 0 to 1, a tolerance that is no finite number
+unfoldable pub pictureTests : List Float → Float → List Test
+pictureTests colours tolerance = (4, coloursOk colours) ∷ (5, finite tolerance) ∷ []
+
+-- ground (R55): the colours, the output plane, the work buffer; then the picture
 unfoldable pub groundLengths : ℕ → ℕ → ℕ → ℕ → ℕ → List Test
 groundLengths h w colours out work =
     (1, sidesOk h w) ∷ (2, isColours h w colours) ∷ (3, isPlane h w out) ∷ (3, isRoom h w work) ∷ []
 
 unfoldable pub groundRefusal : List Float → ℕ → ℕ → Float → ℕ → ℕ → ℕ
 groundRefusal colours h w tolerance out work =
-    refusalOf (groundLengths h w (length colours) out work ++ ((4, coloursOk colours) ∷ (5, finite tolerance) ∷ []))
+    refusalOf (groundLengths h w (length colours) out work ++ pictureTests colours tolerance)
 
 -- growth (R56): the colours and the background, the output plane, four work buffers; then that the colours and the reference are from 0
 -- to 1
@@ -41,8 +44,8 @@ growthRefusal colours back h w reference out nearest shallow deep marks =
     refusalOf
     (growthLengths h w (length colours) back out nearest shallow deep marks ++ ((4, coloursOk colours) ∷ (4, rgbOk reference) ∷ []))
 
--- cut (R57): the colours and the alpha, two output planes, four work buffers; then the colours, the tolerance, and that some alpha
--- reaches the threshold
+-- cut (R57): the colours and the alpha, two output planes, four work buffers; then the picture, and that some alpha reaches
+-- the threshold
 unfoldable pub cutLengths : ℕ → ℕ → ℕ → ℕ → ℕ → ℕ → ℕ → ℕ → ℕ → ℕ → List Test
 cutLengths h w colours alpha mask weights nearest shallow deep marks =
     (1, sidesOk h w) ∷ (2, isColours h w colours) ∷ (2, isPlane h w alpha) ∷ (3, isPlane h w mask) ∷ (3, isPlane h w weights)
@@ -52,4 +55,4 @@ unfoldable pub cutRefusal : List Float → List ℕ → ℕ → ℕ → Settings
 cutRefusal colours alpha h w s mask weights nearest shallow deep marks =
     refusalOf
     (cutLengths h w (length colours) (length alpha) mask weights nearest shallow deep marks
-    ++ ((4, coloursOk colours) ∷ (5, finite (s .«key_bg_tolerance»)) ∷ (6, someBelow (h * w) (isOn (alphaMask alpha (h * w) s))) ∷ []))
+    ++ (pictureTests colours (s .«key_bg_tolerance») ++ ((6, someBelow (h * w) (isOn (alphaMask alpha (h * w) s))) ∷ [])))

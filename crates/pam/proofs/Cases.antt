@@ -9,7 +9,8 @@ use Rattle.plane.specs.Refusal.{refusalOf}
 use Rattle.text.specs.Decimal.{isDigit, digitsUpto, valueFrom, numberUpto}
 use Rattle.pam.specs.Header.{widthText, heightText, startsAt, isNumber, middleAt, heightAt, tailAt, bodyAt, widthOf, heightOf, headerOk}
 use Rattle.pam.specs.HeaderText.{headerText}
-use Rattle.pam.specs.Picture.{pixelsOf, fileNumber}
+use Rattle.pam.specs.Picture.{pixelsOf}
+use Rattle.pam.specs.steps.File.{fileRefusal}
 
 all : List Bool → Bool
 all [] = true
@@ -26,20 +27,20 @@ five = 53 ∷ []
 cases : List Bool
 cases =
     -- 8: no bytes; a leading 0; six digits; one byte less of the header
-    eqb (fileNumber []) 8
-    ∷ eqb (fileNumber (headerText (48 ∷ 53 ∷ []) five ++ white 100)) 8
-    ∷ eqb (fileNumber (headerText (49 ∷ 48 ∷ 48 ∷ 48 ∷ 48 ∷ 48 ∷ []) (49 ∷ []))) 8
-    ∷ eqb (fileNumber (widthText ++ five ++ heightText ++ five)) 8
+    eqb (fileRefusal []) 8
+    ∷ eqb (fileRefusal (headerText (48 ∷ 53 ∷ []) five ++ white 100)) 8
+    ∷ eqb (fileRefusal (headerText (49 ∷ 48 ∷ 48 ∷ 48 ∷ 48 ∷ 48 ∷ []) (49 ∷ []))) 8
+    ∷ eqb (fileRefusal (widthText ++ five ++ heightText ++ five)) 8
     -- 10 before 9: 99999 by 99999, and 1 by 2305, with no pixel
-    ∷ eqb (fileNumber (headerText (57 ∷ 57 ∷ 57 ∷ 57 ∷ 57 ∷ []) (57 ∷ 57 ∷ 57 ∷ 57 ∷ 57 ∷ []))) 10
-    ∷ eqb (fileNumber (headerText (49 ∷ []) (50 ∷ 51 ∷ 48 ∷ 53 ∷ []))) 10
+    ∷ eqb (fileRefusal (headerText (57 ∷ 57 ∷ 57 ∷ 57 ∷ 57 ∷ []) (57 ∷ 57 ∷ 57 ∷ 57 ∷ 57 ∷ []))) 10
+    ∷ eqb (fileRefusal (headerText (49 ∷ []) (50 ∷ 51 ∷ 48 ∷ 53 ∷ []))) 10
     -- 9: a byte missing, a byte left over
-    ∷ eqb (fileNumber (headerText five five ++ white 99)) 9
-    ∷ eqb (fileNumber (headerText five five ++ white 101)) 9
+    ∷ eqb (fileRefusal (headerText five five ++ white 99)) 9
+    ∷ eqb (fileRefusal (headerText five five ++ white 101)) 9
     -- accepted
-    ∷ eqb (fileNumber (headerText five five ++ white 100)) 0
+    ∷ eqb (fileRefusal (headerText five five ++ white 100)) 0
     ∷ []
 
 cases-hold : T (all cases)
-unfolding cases all white five refusalOf isDigit digitsUpto valueFrom numberUpto startsAt isNumber middleAt heightAt tailAt bodyAt widthOf heightOf headerOk headerText pixelsOf fileNumber
+unfolding cases all white five refusalOf isDigit digitsUpto valueFrom numberUpto startsAt isNumber middleAt heightAt tailAt bodyAt widthOf heightOf headerOk headerText pixelsOf fileRefusal
 cases-hold = tt

@@ -17,7 +17,8 @@ use Rattle.plane.proofs.Refusal.{and-true, passed}
 use Rattle.text.specs.Decimal.{isDigit, valueFrom, valueOf, digitsUpto, numberUpto}
 use Rattle.text.proofs.Decimal.{digit-is, digit-inside, digits-most, value-below, stand}
 use Rattle.pam.specs.Header.{widthText, heightText, tailText, startsAt, mostDigits, digitsAt, isNumber, widthAt, middleAt, heightAt, tailAt, bodyAt, widthOf, heightOf, headerOk}
-use Rattle.pam.specs.Picture.{mostPixels, mostInput, pixelsOf, fileTests, fileNumber}
+use Rattle.pam.specs.Picture.{mostPixels, mostInput, pixelsOf, fileTests}
+use Rattle.pam.specs.steps.File.{fileRefusal}
 
 -- ---- numbers in the header
 
@@ -61,28 +62,28 @@ pub record FileOk (input : List ℕ) : Type 0 where
   pub few : pixelsOf input ≤ mostPixels
   pub long : length input ≡ bodyAt input + 4 * pixelsOf input
 
-pub file-ok : (input : List ℕ) → fileNumber input ≡ 0 → FileOk input
-unfolding fileNumber
+pub file-ok : (input : List ℕ) → fileRefusal input ≡ 0 → FileOk input
+unfolding fileRefusal
 file-ok input e =
     let t = passed (fileTests input) refl e in
     record { header-ok = t .0; few = leb-true _ _ (t .1 .0); long = eqb-true _ _ (t .1 .1 .0) }
 
 -- the number, test by test
 module _ (input : List ℕ) where
-  pub number-8 : headerOk input ≡ false → 8 ≡ fileNumber input
-  unfolding fileNumber refusalOf
+  pub number-8 : headerOk input ≡ false → 8 ≡ fileRefusal input
+  unfolding fileRefusal refusalOf
   number-8 e = rw e
 
-  pub number-10 : headerOk input ≡ true → mostPixels < pixelsOf input → 10 ≡ fileNumber input
-  unfolding fileNumber refusalOf
+  pub number-10 : headerOk input ≡ true → mostPixels < pixelsOf input → 10 ≡ fileRefusal input
+  unfolding fileRefusal refusalOf
   number-10 e l = rw (e, lt-leb _ _ l)
 
-  pub number-9 : headerOk input ≡ true → pixelsOf input ≤ mostPixels → (length input ≡ bodyAt input + 4 * pixelsOf input → ⊥) → 9 ≡ fileNumber input
-  unfolding fileNumber refusalOf
+  pub number-9 : headerOk input ≡ true → pixelsOf input ≤ mostPixels → (length input ≡ bodyAt input + 4 * pixelsOf input → ⊥) → 9 ≡ fileRefusal input
+  unfolding fileRefusal refusalOf
   number-9 e l d = rw (e, le-leb _ _ l, ne-eqb _ _ d)
 
-  pub number-0 : headerOk input ≡ true → pixelsOf input ≤ mostPixels → length input ≡ bodyAt input + 4 * pixelsOf input → 0 ≡ fileNumber input
-  unfolding fileNumber refusalOf
+  pub number-0 : headerOk input ≡ true → pixelsOf input ≤ mostPixels → length input ≡ bodyAt input + 4 * pixelsOf input → 0 ≡ fileRefusal input
+  unfolding fileRefusal refusalOf
   number-0 e l d = rw (e, le-leb _ _ l, eq-eqb _ _ d)
 
 -- the parts of a header
@@ -221,20 +222,20 @@ module _ (a b : List ℕ) (same : (i : ℕ) → i < 73 → getD a i 0 ≡ getD b
 -- ---- a long input is declined, by its header
 
 -- the number of a file whose length is not that of its picture
-longNumber : List ℕ → ℕ
-longNumber input = refusalOf ((8, headerOk input) ∷ (10, leb (pixelsOf input) mostPixels) ∷ (9, false) ∷ [])
+longRefusal : List ℕ → ℕ
+longRefusal input = refusalOf ((8, headerOk input) ∷ (10, leb (pixelsOf input) mostPixels) ∷ (9, false) ∷ [])
 
-long-number : (input : List ℕ) → mostInput ≤ length input → fileNumber input ≡ longNumber input
-unfolding fileNumber longNumber refusalOf
+long-number : (input : List ℕ) → mostInput ≤ length input → fileRefusal input ≡ longRefusal input
+unfolding fileRefusal longRefusal refusalOf
 long-number input l =
-    ⊎-elim {C = fileNumber input ≡ longNumber input}
+    ⊎-elim {C = fileRefusal input ≡ longRefusal input}
     (λ (t : leb (pixelsOf input) mostPixels ≡ true).
     rw (ne-eqb (length input) (bodyAt input + 4 * pixelsOf input) (λ e. omega (arith, e, body-most input, leb-true (pixelsOf input) mostPixels t))))
     (λ (t : leb (pixelsOf input) mostPixels ≡ false). rw t)
     (either (leb (pixelsOf input) mostPixels))
 
-long-same : (a b : List ℕ) → ((i : ℕ) → i < 73 → getD a i 0 ≡ getD b i 0) → longNumber a ≡ longNumber b
-unfolding longNumber
+long-same : (a b : List ℕ) → ((i : ℕ) → i < 73 → getD a i 0 ≡ getD b i 0) → longRefusal a ≡ longRefusal b
+unfolding longRefusal
 long-same a b same = rw (header-same a b same, pixels-same a b same)
 
 long-some : (a b : Bool) → _≡_ {A = ℕ} (cond a (cond b 9 10) 8) 0 → ⊥
@@ -244,11 +245,11 @@ long-some false b e = let z : _≡_ {A = ℕ} 8 0 = e in omega arith
 
 -- a file as long as mostInput is declined, and its first mostInput bytes are declined by the same number
 pub record LongDeclined (input : List ℕ) : Type 0 where
-  pub declined : fileNumber input ≡ 0 → ⊥
-  pub first-same : fileNumber (take mostInput input) ≡ fileNumber input
+  pub declined : fileRefusal input ≡ 0 → ⊥
+  pub first-same : fileRefusal (take mostInput input) ≡ fileRefusal input
 
 pub long-declined : (input : List ℕ) → mostInput ≤ length input → LongDeclined input
-unfolding longNumber refusalOf
+unfolding longRefusal refusalOf
 long-declined input l =
     let t = take mostInput input in
     let k : length t ≡ mostInput = length-take-le mostInput input l in

@@ -2,3 +2,4 @@ pub mod Header
 pub mod Picture
 pub mod Settings
 pub mod HeaderText
+pub mod steps

@@ -1,4 +1,4 @@
--- The picture in a PAM file, and the number by which a file is declined.
+-- The picture in a PAM file, and the tests that the file must pass.
 -- Assumes nothing.
 use Prim.Native.Nat.{ℕ, _+_, _*_, _/_, _%_}
 use mathlib.Core.List.{List, [], _∷_}
@@ -6,7 +6,7 @@ use lib.Dec.{eqb, leb}
 use lib.ListN.{length, getD}
 use lib.Ieee.{Float}
 use Rattle.plane.specs.Plane.{table}
-use Rattle.plane.specs.Refusal.{Test, refusalOf}
+use Rattle.plane.specs.Refusal.{Test}
 use Rattle.colour.specs.Weight.{weightOf}
 use Rattle.pam.specs.Header.{headerOk, widthOf, heightOf, bodyAt}
 
@@ -39,13 +39,11 @@ coloursOf input = coloursFrom input (bodyAt input) (pixelsOf input)
 unfoldable pub alphaOf : List ℕ → List ℕ
 alphaOf input = alphaFrom input (bodyAt input) (pixelsOf input)
 
--- 8 where the header is not as it should be; 10 where there are too many pixels; 9 where bytes are missing or left over; else 0
+-- the tests of a file, in order (R51 to R53): the header is as it should be, there are not too many pixels, and no byte is missing or left
+-- over
 abbrev pub fileTests : List ℕ → List Test
 fileTests input =
     (8, headerOk input)
     ∷ (10, leb (pixelsOf input) mostPixels)
     ∷ (9, eqb (length input) (bodyAt input + 4 * pixelsOf input))
     ∷ []
-
-unfoldable pub fileNumber : List ℕ → ℕ
-fileNumber input = refusalOf (fileTests input)

@@ -7,7 +7,8 @@ ghost use Prim.Native.Nat.{_*_, _≤_};
 ghost use lib.ListN.{length};
 ghost use Rattle.colour.specs.Colour.{coloursOk};
 ghost use Rattle.pam.specs.Settings.{settings};
-ghost use Rattle.pam.specs.Picture.{mostPixels, mostInput, coloursFrom, alphaFrom, fileNumber};
+ghost use Rattle.pam.specs.Picture.{mostPixels, mostInput, coloursFrom, alphaFrom};
+ghost use Rattle.pam.specs.steps.File.{fileRefusal};
 use colour::Settings;
 
 // The most pixels of a picture.
@@ -24,8 +25,8 @@ pub fn most_input() -> usize
 }
 
 // 8, 10 or 9 where the file is declined, else 0.
-pub fn file_number(input: &[u8]) -> u32
-    ensures { λ r. ⌜ r ≡ fileNumber (now (input .entry)) ⌝ }
+pub fn file_refusal(input: &[u8]) -> u32
+    ensures { λ r. ⌜ r ≡ fileRefusal (now (input .entry)) ⌝ }
 {
     if !header::header_ok(input) {
         return 8;

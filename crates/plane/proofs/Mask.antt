@@ -8,7 +8,7 @@ use Prim.Native.Nat.{ℕ, _+_, _*_, _/_, _%_, _≤_, _<_}
 use native.Mathlib.Omega.{arith}
 use lib.Dec.{eqb}
 use lib.ListN.{length, getD, List·getD-eq-default}
-use Rattle.plane.specs.Plane.{on, bit, onAt, table}
+use Rattle.plane.specs.Plane.{on, bit, onAt}
 use Rattle.plane.specs.Mask.{isOn, maskOf}
 use Rattle.plane.proofs.Search.{which, not-both}
 use Rattle.plane.proofs.Plane.{table-length, table-at, table-same, pixel-in, index-of, on-bit}

@@ -2,13 +2,13 @@
 -- Assumes nothing.
 use mathlib.Core.Path.{_≡_, refl, sym, ap, _∙_}
 use mathlib.Core.Bool.{Bool, true, false}
-use mathlib.Core.List.{List, [], _∷_, _++_, append-assoc}
+use mathlib.Core.List.{List, _++_, append-assoc}
 use mathlib.Core.Logic.{⊎-elim}
 use Prim.Native.Nat.{ℕ, zero, suc, _+_, _*_, _-_, _/_, _%_, _≤_, _<_}
 use native.Mathlib.Nat.{zero-mul, mul-zero, suc-mul, add-mul, one-mul, mul-le-mul, mul-le-mul-right, add-zero, zero-add, ne-of-lt, not-suc-le-zero, le-of-suc-le-suc, div-add-mod', div-lt-iff-lt-mul, mod-lt}
 use native.Mathlib.Numerals.{add-one}
 use native.Mathlib.Omega.{arith}
-use lib.ListN.{length, getD, take, drop, set, length-append, length-set, List·getD-append}
+use lib.ListN.{length, getD, take, drop, set, length-append, List·getD-append}
 use lib.Seq.{drop-drop, take-at, drop-at, getD-append-add, getD-set-same, getD-set-other, getD-take, getD-drop, ext-getD}
 use mir.Syntax.{w64}
 use mir.Val.{Fits}

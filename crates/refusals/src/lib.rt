@@ -4,7 +4,7 @@ ghost use mathlib.Core.Path.{_≡_};
 ghost use lib.ListN.{length};
 ghost use Rattle.plane.specs.Refusal.{refusalOf};
 ghost use Rattle.colour.specs.Colour.{rgbOk};
-ghost use Rattle.outline.specs.Refusal.{workTests, groundLengths, growthLengths, cutLengths, groundRefusal, growthRefusal, cutRefusal};
+ghost use Rattle.outline.specs.Refusal.{workTests, groundLengths, growthLengths, cutLengths, pictureTests, groundRefusal, growthRefusal, cutRefusal};
 use colour::Rgb;
 use colour::Settings;
 
@@ -109,7 +109,20 @@ fn work_lengths(least: usize, nearest: usize, shallow: usize, deep: usize, marks
     3
 }
 
-// 0, or the number by which a search of the ground is declined.
+// What a picture is declined for: its colours, then the tolerance.
+fn picture_refusal(colours: &[f64], tolerance: f64) -> u32
+    ensures { λ r. ⌜ r ≡ refusalOf (pictureTests (now (colours .entry)) tolerance) ⌝ }
+{
+    if !colour::colours_ok(colours) {
+        return 4;
+    }
+    if !colour::is_finite(tolerance) {
+        return 5;
+    }
+    0
+}
+
+// The refusal of a search of the ground, or 0.
 pub fn ground_refusal(
     colours: &[f64],
     h: usize,
@@ -124,16 +137,10 @@ pub fn ground_refusal(
     if lengths != 0 {
         return lengths;
     }
-    if !colour::colours_ok(colours) {
-        return 4;
-    }
-    if !colour::is_finite(tolerance) {
-        return 5;
-    }
-    0
+    picture_refusal(colours, tolerance)
 }
 
-// 0, or the number by which growth is declined.
+// The refusal of growth, or 0.
 pub fn growth_refusal(
     colours: &[f64],
     back: usize,
@@ -171,7 +178,7 @@ pub fn growth_refusal(
     0
 }
 
-// 0, or the number by which a cut is declined.
+// The refusal of a cut, or 0.
 pub fn cut_refusal(
     colours: &[f64],
     alpha: &[u8],
@@ -202,11 +209,9 @@ pub fn cut_refusal(
     if lengths != 0 {
         return lengths;
     }
-    if !colour::colours_ok(colours) {
-        return 4;
-    }
-    if !colour::is_finite(s.key_bg_tolerance) {
-        return 5;
+    let picture = picture_refusal(colours, s.key_bg_tolerance);
+    if picture != 0 {
+        return picture;
     }
     if !weights::some_reach(alpha, s.alpha_threshold) {
         return 6;

@@ -15,6 +15,7 @@
 // says whether the masks are the same. A refusal is `refused` and its number.
 ghost use Prim.Native.Nat.{_≤_};
 use colour::Settings;
+use geometry::Labelled;
 use outline::Ground;
 use outline::Outcome;
 
@@ -397,9 +398,11 @@ fn say_labels(mask: &[u8], h: usize, w: usize, labels: &mut [u32]) {
     let mut work = [0u32; WORK];
     let places = [0i32; 1];
     let answer = geometry::label4(mask, h, w, &mut work, labels);
-    say_number(plane::wide(geometry::labelled_parts(answer)) as u64);
-    say(b"\n");
-    say_plane(b'L', mask, labels, &places, &places, w);
+    if let Labelled::Parts(parts) = answer {
+        say_number(parts as u64);
+        say(b"\n");
+        say_plane(b'L', mask, labels, &places, &places, w);
+    }
 }
 
 // The dilated mask.

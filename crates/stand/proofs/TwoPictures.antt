@@ -10,7 +10,6 @@ use Rattle.outline.specs.declared.Outcome.the-variants.{Done, Refused}
 use Rattle.outline.specs.Answer.{refusalOfOutcome}
 use Rattle.outline.specs.Calls.{Buffers}
 use Rattle.outline.specs.Premises.{TwoCalls}
-use Rattle.keying.specs.Calls.{Called}
 use Rattle.keying.proofs.TwoPictures.{one-outline}
 use Rattle.stand.specs.declared.StandCut.{StandCut}
 use Rattle.stand.specs.Exports.{CutReturns, cutValues, SameCut}

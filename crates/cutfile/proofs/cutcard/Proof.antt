@@ -13,12 +13,12 @@ use Rattle.cutfile.proofs.cutcard.Tie as tie
 returns : tie.Need-returns
 returns c = rw (lt-leb mostText _ (c .if1 .taken)) (refl, refl)
 
-file-number-requires : tie.Need-file-number-requires
-file-number-requires c κs = search needs
+file-refusal-requires : tie.Need-file-refusal-requires
+file-refusal-requires c κs = search needs
 
 write-refusal-requires : tie.Need-write-refusal-requires
 write-refusal-requires c κs =
-    let n = c .before .before .file-number in
+    let n = c .before .before .file-refusal in
     let a = c .before .before .before .before .before .before .args in
     omega (arith, refusal-short (n .result) (omega (arith, n .ensures, file-small (a .input .now))), c .before .before .before .if1 .left)
 
@@ -28,7 +28,7 @@ same-length c = search needs
 returns-2 : tie.Need-returns-2
 returns-2 c =
     let a = c .before .before .before .before .before .before .before .before .before .args in
-    let n = c .before .before .before .before .before .file-number in
+    let n = c .before .before .before .before .before .file-refusal in
     whole (a .input .now) (a .out .now) _ _ _ (omega (arith, c .before .before .before .before .before .before .if1 .left)) (card-declined (a .input .now) (n .result) (n .ensures) (c .before .before .before .before .if2 .taken)) (c .before .before .write-refusal .ensures)
 
 write-picture-requires : tie.Need-write-picture-requires
@@ -40,7 +40,7 @@ same-length-2 c = search needs
 returns-3 : tie.Need-returns-3
 returns-3 c =
     let a = c .before .before .before .before .before .before .before .before .before .args in
-    let n = c .before .before .before .before .before .file-number in
+    let n = c .before .before .before .before .before .file-refusal in
     whole (a .input .now) (a .out .now) _ _ _ (omega (arith, c .before .before .before .before .before .before .if1 .left)) (card-picture (a .input .now) (sym (n .ensures) ∙ c .before .before .before .before .if2 .left)) (c .before .before .write-picture .ensures)
 
 pub cutcard-spec : {M : Type 1} → statement M
@@ -48,7 +48,7 @@ cutcard-spec =
     tie.close
     (tie.spec
     returns
-    file-number-requires
+    file-refusal-requires
     write-refusal-requires
     same-length
     returns-2

@@ -1,18 +1,15 @@
 -- `cutting::cut_mask` meets its contract.
 -- Assumes nothing.
-use mathlib.Core.Path.{_≡_, sym, ap, _∙_}
-use mathlib.Core.Bool.{Bool, not, _&&_}
-use Prim.Native.Nat.{ℕ, _*_, _≤_}
+use mathlib.Core.Path.{_≡_, sym, _∙_}
+use mathlib.Core.Bool.{not, _&&_}
+use Prim.Native.Nat.{_*_}
 use native.Mathlib.Omega.{arith}
-use lib.ListN.{length}
 use mir.Syntax.{w64}
 use mir.Val.{toZ, ofZ}
 use mir.Facts.{toZ-ofZ}
 use borrow.Author.Needs.{needs}
-use Rattle.plane.specs.Mask.{someOff}
 use Rattle.outline.specs.Border.{referenceOf}
 use Rattle.outline.specs.Cut.{alphaMask, isSought}
-use Rattle.cutting.specs.steps.Key.{keyedPlane}
 use Rattle.cutting.proofs.Keyed.{sought-is, sought-flag, sought-mask, unsought-flag, unsought-mask}
 use Rattle.cutting.proofs.cut_mask.Statement.{statement}
 use Rattle.cutting.proofs.cut_mask.Tie as tie

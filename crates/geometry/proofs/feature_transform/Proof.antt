@@ -1,6 +1,6 @@
 -- `geometry::feature_transform` meets its contract.
 -- Assumes nothing.
-use mathlib.Core.Path.{_≡_, refl, sym, ap, _∙_}
+use mathlib.Core.Path.{refl, sym, ap, _∙_}
 use borrow.Author.Needs.{needs}
 use Rattle.plane.proofs.Refusal.{written, kept, three-lines}
 use Rattle.geometry.specs.declared.Answer.the-variants as answer

@@ -1,10 +1,8 @@
 -- `geometry::fill_transparent` meets its contract.
 -- Assumes nothing.
 use mathlib.Core.Path.{_≡_, refl, sym, ap, _∙_}
-use mathlib.Core.List.{List}
-use Prim.Native.Nat.{ℕ, _*_, _≤_}
+use Prim.Native.Nat.{_*_}
 use native.Mathlib.Omega.{arith}
-use lib.ListN.{length}
 use borrow.Author.Needs.{needs}
 use Rattle.plane.specs.Search.{someBelow}
 use Rattle.plane.specs.Mask.{isOn}
@@ -12,7 +10,7 @@ use Rattle.plane.proofs.Refusal.{written, kept, three-lines}
 use Rattle.nearest.proofs.Indexed.{front-inside}
 use Rattle.geometry.specs.declared.Answer.the-variants as answer
 use Rattle.geometry.specs.steps.Source.{coloursFrom}
-use Rattle.geometry.proofs.Accepted.{done, declined, FillOk, fill-ok}
+use Rattle.geometry.proofs.Accepted.{done, declined, fill-ok}
 use Rattle.geometry.proofs.Filling.{filled-is}
 use Rattle.geometry.proofs.fill_transparent.Statement.{statement}
 use Rattle.geometry.proofs.fill_transparent.Tie as tie

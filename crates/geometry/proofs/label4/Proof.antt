@@ -1,7 +1,6 @@
 -- `geometry::label4` meets its contract.
 -- Assumes nothing.
 use mathlib.Core.Path.{_≡_, refl, sym, ap, _∙_}
-use Prim.Native.Nat.{_*_, _<_}
 use native.Mathlib.Omega.{arith}
 use borrow.Author.Needs.{needs}
 use Rattle.plane.proofs.Refusal.{written, kept}
@@ -16,12 +15,19 @@ plane-refusal-requires c κs = search needs
 returns : tie.Need-returns
 returns c =
     let n = c .before .plane-refusal in
-    let t = c .if1 .taken in
-    record { answer = ap labelled.Refused (n .ensures) ∙ not-counted _ _ (λ q. t (n .ensures ∙ q)); labels-are = sym (kept _ _ _ (λ q. t (n .ensures ∙ q))); kept = λ _. refl }
+    record {
+      answer = ap labelled.Refused (n .ensures) ∙ not-counted _ _ (λ q. omega (arith, q, n .ensures, c .if1 .taken));
+      labels-are = sym (kept _ _ _ (λ q. omega (arith, q, n .ensures, c .if1 .taken)));
+      kept = λ _. refl;
+    }
+
+-- where the call goes on, its refusal is 0
+zero : (c : tie.Else1) → c .before .plane-refusal .result ≡ 0
+zero c = omega (arith, c .if1 .left)
 
 label-requires : tie.Need-label-requires
 label-requires c κs =
-    let k = plane-ok _ _ _ _ _ (sym (c .before .before .before .plane-refusal .ensures) ∙ c .before .before .if1 .left) in
+    let k = plane-ok _ _ _ _ _ (sym (c .before .before .before .plane-refusal .ensures) ∙ zero (c .before .before)) in
     record { sides = k .sides; input = k .input; output = k .output; room = omega (arith, k .room); few = few-pixels _ _ (k .within) }
 
 same-length : tie.Need-same-length
@@ -34,7 +40,7 @@ returns-2 : tie.Need-returns-2
 returns-2 c =
     let accepted = c .before .before .before .before .before .before .before in
     let n = accepted .before .plane-refusal in
-    let z = sym (n .ensures) ∙ accepted .if1 .left in
+    let z = sym (n .ensures) ∙ zero accepted in
     let call = c .before .before .before .before .label in
     record {
       answer = ap labelled.Parts (call .ensures .0) ∙ counted _ _ z;

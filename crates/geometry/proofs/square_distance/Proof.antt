@@ -1,7 +1,6 @@
 -- `geometry::square_distance` meets its contract.
 -- Assumes nothing.
-use mathlib.Core.Path.{_≡_, refl, sym, ap, _∙_}
-use native.Mathlib.Omega.{arith}
+use mathlib.Core.Path.{refl, sym, ap, _∙_}
 use borrow.Author.Needs.{needs}
 use Rattle.plane.proofs.Refusal.{written, kept, three-lines}
 use Rattle.geometry.specs.declared.Answer.the-variants as answer

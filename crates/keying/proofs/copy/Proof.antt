@@ -6,7 +6,6 @@ use native.Mathlib.Nat.{not-suc-le-zero}
 use lib.ListN.{length, getD, length-set}
 use lib.Seq.{ext-getD}
 use Rattle.plane.proofs.Plane.{filled}
-use borrow.Author.Needs.{needs}
 use native.Mathlib.Omega.{arith}
 use Rattle.keying.proofs.copy.Statement.{statement}
 use Rattle.keying.proofs.copy.Tie as tie

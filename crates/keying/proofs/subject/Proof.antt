@@ -4,7 +4,6 @@ use mathlib.Core.Path.{_≡_, sym, ap, _∙_}
 use Prim.Native.Nat.{_*_}
 use lib.ListN.{length}
 use borrow.Author.Needs.{needs}
-use Rattle.plane.specs.Plane.{Sides}
 use Rattle.colour.proofs.Range.{is}
 use Rattle.outline.specs.Calls.{Buffers, refusalIn, HeldIn}
 use Rattle.outline.specs.Cut.{weightsOf}

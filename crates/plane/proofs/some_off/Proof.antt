@@ -8,7 +8,6 @@ use Rattle.plane.specs.Search.{someBelow}
 use Rattle.plane.specs.Mask.{isOn, someOff}
 use Rattle.plane.proofs.Search.{some-more}
 use Rattle.plane.proofs.Mask.{off-byte}
-use borrow.Author.Needs.{needs}
 use native.Mathlib.Omega.{arith}
 use Rattle.plane.proofs.some_off.Statement.{statement}
 use Rattle.plane.proofs.some_off.Tie as tie

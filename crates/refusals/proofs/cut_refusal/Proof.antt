@@ -1,7 +1,7 @@
 -- `refusals::cut_refusal` meets its contract.
 -- Assumes nothing.
-use mathlib.Core.Path.{_≡_, refl, sym, _∙_}
-use mathlib.Core.Bool.{true}
+use mathlib.Core.Path.{_≡_, sym, _∙_}
+use mathlib.Core.List.{List, [], _∷_, _++_}
 use Prim.Native.Nat.{ℕ}
 use lib.ListN.{length, getD}
 use mir.Syntax.{w64}
@@ -9,12 +9,12 @@ use mir.Val.{toZ, ofZ}
 use mir.Facts.{toZ-ofZ}
 use borrow.Author.Needs.{needs}
 use borrow.Author.Tests.{not-true, not-false}
-use Rattle.plane.specs.Refusal.{refusalOf}
+use Rattle.plane.specs.Refusal.{Test, refusalOf}
 use Rattle.plane.specs.Search.{someBelow}
 use Rattle.plane.proofs.Refusal.{declined-first}
 use Rattle.colour.specs.Settings.{onOf}
-use Rattle.outline.specs.Refusal.{cutRefusal}
-use Rattle.refusals.proofs.Laws.{cut-first}
+use Rattle.outline.specs.Refusal.{pictureTests, cutRefusal}
+use Rattle.refusals.proofs.Laws.{alphaTest, cut-first, picture-first, alpha-declined, alpha-accepted}
 use Rattle.refusals.proofs.cut_refusal.Statement.{statement}
 use Rattle.refusals.proofs.cut_refusal.Tie as tie
 
@@ -25,67 +25,64 @@ returns : tie.Need-returns
 unfolding cutRefusal
 returns c = let n = c .before .cut-lengths in n .ensures ∙ sym (declined-first _ _ (λ q. c .if1 .taken (n .ensures ∙ q)))
 
-colours-ok-requires : tie.Need-colours-ok-requires
-colours-ok-requires c κs = search needs
+picture-refusal-requires : tie.Need-picture-refusal-requires
+picture-refusal-requires c κs = search needs
+
+-- once the lengths are accepted: the start, and what is left to decide
+module _ (c : tie.Else1) where
+  abbrev start : tie.Start
+  start = c .before .before .before .before
+
+  abbrev tests : List Test
+  tests = pictureTests (start .args .colours .now) (start .args .s .«key_bg_tolerance»)
+
+  decides : let a = start .args in
+      refusalOf (tests ++ (alphaTest (a .alpha .now) (a .s) ∷ []))
+      ≡ cutRefusal (a .colours .now) (a .alpha .now) (a .h) (a .w) (a .s) (a .mask) (a .weights) (a .nearest) (a .shallow) (a .deep) (a .marks)
+  decides = sym (cut-first _ _ _ _ _ _ _ _ _ _ _ (sym (c .before .cut-lengths .ensures) ∙ c .if1 .left))
 
 returns-2 : tie.Need-returns-2
-unfolding refusalOf
 returns-2 c =
-    let at-lengths = c .before .before .before in
-    let a = at-lengths .before .before .before .args in
-    let e = sym (at-lengths .cut-lengths .ensures) ∙ c .before .before .if1 .left in
-    rw (cut-first (a .colours .now) (a .alpha .now) (a .h) (a .w) (a .s) (a .mask) (a .weights) (a .nearest) (a .shallow) (a .deep) (a .marks) e, sym (c .before .colours-ok .ensures .answer) ∙ not-true _ (c .if2 .taken))
-
-is-finite-requires : tie.Need-is-finite-requires
-is-finite-requires c κs = search needs
-
-returns-3 : tie.Need-returns-3
-unfolding refusalOf
-returns-3 c =
-    let at-lengths = c .before .before .before .before .before in
-    let a = at-lengths .before .before .before .args in
-    let e = sym (at-lengths .cut-lengths .ensures) ∙ c .before .before .before .before .if1 .left in
-    rw (cut-first (a .colours .now) (a .alpha .now) (a .h) (a .w) (a .s) (a .mask) (a .weights) (a .nearest) (a .shallow) (a .deep) (a .marks) e, sym (c .before .before .before .colours-ok .ensures .answer) ∙ not-false _ (c .before .before .if2 .left), sym (c .before .is-finite .ensures) ∙ not-true _ (c .if3 .taken))
+    let picture = c .before .picture-refusal in
+    let lengths = c .before .before in
+    picture .ensures ∙ sym (declined-first (tests lengths) _ (λ q. c .if2 .taken (picture .ensures ∙ q))) ∙ decides lengths
 
 some-reach-requires : tie.Need-some-reach-requires
 some-reach-requires c κs = search needs
 
--- some alpha reaches the threshold, as the settings hold it
-reached : (c : tie.After-some-reach) → let a = c .before .before .before .before .before .before .before .before .before .before .args in
-    someBelow (length (a .alpha .now)) (λ (i : ℕ). onOf (getD (a .alpha .now) i 0) (a .s .«alpha_threshold»)) ≡ c .some-reach .result
-reached c =
-    let a = c .before .before .before .before .before .before .before .before .before .before .args in
-    let z = a .s .«alpha_threshold» in
-    let t : toZ w64 (ofZ w64 z) ≡ z = toZ-ofZ {w = w64} {z = z} (record { sfits = c .before .struct-told .given .0 .1 }) in
-    let e = c .some-reach .ensures in
-    sym (rw t at e)
+-- and once the picture is accepted too, the alpha decides, with the threshold as the settings hold it
+module _ (c : tie.After-some-reach) where
+  abbrev accepted : tie.Else2
+  accepted = c .before .before
+
+  abbrev lengths-ok : tie.Else1
+  lengths-ok = accepted .before .before
+
+  reached : let a = start lengths-ok .args in
+      someBelow (length (a .alpha .now)) (λ (i : ℕ). onOf (getD (a .alpha .now) i 0) (a .s .«alpha_threshold»)) ≡ c .some-reach .result
+  reached =
+      let z = start lengths-ok .args .s .«alpha_threshold» in
+      let t : toZ w64 (ofZ w64 z) ≡ z = toZ-ofZ {w = w64} {z = z} (record { sfits = c .before .struct-told .given .0 .1 }) in
+      let e = c .some-reach .ensures in
+      sym (rw t at e)
+
+  alpha-decides : let a = start lengths-ok .args in
+      refusalOf (alphaTest (a .alpha .now) (a .s) ∷ [])
+      ≡ cutRefusal (a .colours .now) (a .alpha .now) (a .h) (a .w) (a .s) (a .mask) (a .weights) (a .nearest) (a .shallow) (a .deep) (a .marks)
+  alpha-decides =
+      sym (picture-first _ _ _ (sym (accepted .before .picture-refusal .ensures) ∙ accepted .if2 .left)) ∙ decides lengths-ok
+
+returns-3 : tie.Need-returns-3
+returns-3 c =
+    let a = start (lengths-ok (c .before)) .args in
+    alpha-declined (a .alpha .now) (a .s) (reached (c .before) ∙ not-true _ (c .if3 .taken)) ∙ alpha-decides (c .before)
 
 returns-4 : tie.Need-returns-4
-unfolding refusalOf
 returns-4 c =
-    let at-lengths = c .before .before .before .before .before .before .before .before in
-    let a = at-lengths .before .before .before .args in
-    let e = sym (at-lengths .cut-lengths .ensures) ∙ c .before .before .before .before .before .before .before .if1 .left in
-    rw (cut-first (a .colours .now) (a .alpha .now) (a .h) (a .w) (a .s) (a .mask) (a .weights) (a .nearest) (a .shallow) (a .deep) (a .marks) e, sym (c .before .before .before .before .before .before .colours-ok .ensures .answer) ∙ not-false _ (c .before .before .before .before .before .if2 .left), sym (c .before .before .before .before .is-finite .ensures) ∙ not-false _ (c .before .before .before .if3 .left), reached (c .before) ∙ not-true _ (c .if4 .taken))
-
-returns-5 : tie.Need-returns-5
-unfolding refusalOf
-returns-5 c =
-    let at-lengths = c .before .before .before .before .before .before .before .before in
-    let a = at-lengths .before .before .before .args in
-    let e = sym (at-lengths .cut-lengths .ensures) ∙ c .before .before .before .before .before .before .before .if1 .left in
-    rw (cut-first (a .colours .now) (a .alpha .now) (a .h) (a .w) (a .s) (a .mask) (a .weights) (a .nearest) (a .shallow) (a .deep) (a .marks) e, sym (c .before .before .before .before .before .before .colours-ok .ensures .answer) ∙ not-false _ (c .before .before .before .before .before .if2 .left), sym (c .before .before .before .before .is-finite .ensures) ∙ not-false _ (c .before .before .before .if3 .left), reached (c .before) ∙ not-false _ (c .if4 .left))
+    let a = start (lengths-ok (c .before)) .args in
+    alpha-accepted (a .alpha .now) (a .s) (reached (c .before) ∙ not-false _ (c .if3 .left)) ∙ alpha-decides (c .before)
 
 pub cut-refusal-spec : {M : Type 1} → statement M
 cut-refusal-spec =
     tie.close
-    (tie.spec
-    cut-lengths-requires
-    returns
-    colours-ok-requires
-    returns-2
-    is-finite-requires
-    returns-3
-    some-reach-requires
-    returns-4
-    returns-5)
+    (tie.spec cut-lengths-requires returns picture-refusal-requires returns-2 some-reach-requires returns-3 returns-4)

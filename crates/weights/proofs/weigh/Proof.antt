@@ -1,7 +1,6 @@
 -- `weights::weigh` meets its contract.
 -- Assumes nothing.
-use mathlib.Core.Path.{_≡_, sym, ap, _∙_}
-use Prim.Native.Nat.{ℕ, _<_}
+use mathlib.Core.Path.{_≡_, ap, _∙_}
 use lib.ListN.{length, getD}
 use mathlib.Core.List.{List}
 use lib.Ieee.{Float, nan, ofBits}

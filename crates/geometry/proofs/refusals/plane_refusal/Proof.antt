@@ -1,4 +1,4 @@
--- `geometry::refusal::plane_refusal` meets its contract.
+-- `geometry::refusals::plane_refusal` meets its contract.
 -- Assumes nothing.
 use mathlib.Core.Path.{_≡_, sym, _∙_}
 use mathlib.Core.Bool.{true}
@@ -9,8 +9,8 @@ use borrow.Author.Tests.{not-true, not-false, eq-eqb, ne-eqb, le-leb, lt-leb}
 use Rattle.plane.specs.Refusal.{refusalOf, sidesOk}
 use Rattle.plane.proofs.Refusal.{sides-are, accepted-area}
 use Rattle.geometry.specs.Refusal.{planeRefusal}
-use Rattle.geometry.proofs.refusal.plane_refusal.Statement.{statement}
-use Rattle.geometry.proofs.refusal.plane_refusal.Tie as tie
+use Rattle.geometry.proofs.refusals.plane_refusal.Statement.{statement}
+use Rattle.geometry.proofs.refusals.plane_refusal.Tie as tie
 
 sides-ok-requires : tie.Need-sides-ok-requires
 sides-ok-requires c κs = search needs

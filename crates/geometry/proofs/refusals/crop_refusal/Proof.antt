@@ -1,8 +1,7 @@
--- `geometry::refusal::crop_refusal` meets its contract.
+-- `geometry::refusals::crop_refusal` meets its contract.
 -- Assumes nothing.
 use mathlib.Core.Path.{_≡_, sym, _∙_}
 use mathlib.Core.Bool.{true}
-use Prim.Native.Nat.{_*_, _≤_}
 use native.Mathlib.Omega.{arith}
 use borrow.Author.Needs.{needs}
 use borrow.Author.Tests.{not-true, not-false, eq-eqb, ne-eqb}
@@ -10,8 +9,8 @@ use Rattle.plane.specs.Refusal.{refusalOf, sidesOk}
 use Rattle.plane.proofs.Refusal.{accepted-area}
 use Rattle.geometry.specs.Refusal.{cropRefusal}
 use Rattle.geometry.proofs.Accepted.{six-hold, one-fails}
-use Rattle.geometry.proofs.refusal.crop_refusal.Statement.{statement}
-use Rattle.geometry.proofs.refusal.crop_refusal.Tie as tie
+use Rattle.geometry.proofs.refusals.crop_refusal.Statement.{statement}
+use Rattle.geometry.proofs.refusals.crop_refusal.Tie as tie
 
 sides-ok-requires : tie.Need-sides-ok-requires
 sides-ok-requires c κs = search needs

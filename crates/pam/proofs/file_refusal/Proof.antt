@@ -1,4 +1,4 @@
--- `pam::file_number` meets its contract.
+-- `pam::file_refusal` meets its contract.
 -- Assumes nothing.
 use mathlib.Core.Path.{_≡_, sym, _∙_}
 use mathlib.Core.Bool.{true}
@@ -10,8 +10,8 @@ use Rattle.pam.specs.Header.{bodyAt, headerOk}
 use Rattle.pam.specs.Picture.{pixelsOf}
 use Rattle.pam.proofs.Files.{number-8, number-10, number-9, number-0}
 use borrow.Author.Needs.{needs}
-use Rattle.pam.proofs.file_number.Statement.{statement}
-use Rattle.pam.proofs.file_number.Tie as tie
+use Rattle.pam.proofs.file_refusal.Statement.{statement}
+use Rattle.pam.proofs.file_refusal.Tie as tie
 
 -- the header is as it should be
 accepted : (c : tie.Else1) → headerOk (c .before .before .before .args .input .now) ≡ true
@@ -66,8 +66,8 @@ returns-4 c =
     let p = pixels (c .before .before .before) in
     number-0 i (accepted (c .before .before .before .before .before)) (rw p (c .before .before .if2 .left)) (c .if3 .left ∙ sym (ends (c .before)))
 
-pub file-number-spec : {M : Type 1} → statement M
-file-number-spec =
+pub file-refusal-spec : {M : Type 1} → statement M
+file-refusal-spec =
     tie.close
     (tie.spec
     header-ok-requires

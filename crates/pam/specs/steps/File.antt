@@ -1,0 +1,9 @@
+-- The refusal of a file by its header and its length alone.
+-- Assumes nothing.
+use Prim.Native.Nat.{ℕ}
+use mathlib.Core.List.{List}
+use Rattle.plane.specs.Refusal.{refusalOf}
+use Rattle.pam.specs.Picture.{fileTests}
+
+unfoldable pub fileRefusal : List ℕ → ℕ
+fileRefusal input = refusalOf (fileTests input)

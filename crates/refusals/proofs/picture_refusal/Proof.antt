@@ -1,0 +1,40 @@
+-- `refusals::picture_refusal` meets its contract.
+-- Assumes nothing.
+use mathlib.Core.Path.{sym, _∙_}
+use borrow.Author.Needs.{needs}
+use borrow.Author.Tests.{not-true, not-false}
+use Rattle.plane.specs.Refusal.{refusalOf}
+use Rattle.outline.specs.Refusal.{pictureTests}
+use Rattle.refusals.proofs.picture_refusal.Statement.{statement}
+use Rattle.refusals.proofs.picture_refusal.Tie as tie
+
+colours-ok-requires : tie.Need-colours-ok-requires
+colours-ok-requires c κs = search needs
+
+returns : tie.Need-returns
+unfolding refusalOf pictureTests
+returns c = rw (sym (c .before .colours-ok .ensures .answer) ∙ not-true _ (c .if1 .taken))
+
+is-finite-requires : tie.Need-is-finite-requires
+is-finite-requires c κs = search needs
+
+returns-2 : tie.Need-returns-2
+unfolding refusalOf pictureTests
+returns-2 c =
+    let range = c .before .before in
+    rw (
+      sym (range .before .colours-ok .ensures .answer) ∙ not-false _ (range .if1 .left),
+      sym (c .before .is-finite .ensures) ∙ not-true _ (c .if2 .taken),
+    )
+
+returns-3 : tie.Need-returns-3
+unfolding refusalOf pictureTests
+returns-3 c =
+    let range = c .before .before in
+    rw (
+      sym (range .before .colours-ok .ensures .answer) ∙ not-false _ (range .if1 .left),
+      sym (c .before .is-finite .ensures) ∙ not-false _ (c .if2 .left),
+    )
+
+pub picture-refusal-spec : {M : Type 1} → statement M
+picture-refusal-spec = tie.close (tie.spec colours-ok-requires returns is-finite-requires returns-2 returns-3)
