@@ -211,6 +211,59 @@ fn cited_rules_exist() {
     assert!(missing.is_empty(), "no rule of docs/RULES.md: {missing:#?}");
 }
 
+/// What a line of a file of definitions defines, fields of records left out.
+fn defined(line: &str) -> Option<&str> {
+    let words = ["unfoldable ", "abbrev "];
+    let line = words
+        .iter()
+        .find_map(|w| line.strip_prefix(w))
+        .unwrap_or(line);
+    let line = line.strip_prefix("pub ")?;
+    let kinds = ["record ", "data "];
+    let line = kinds
+        .iter()
+        .find_map(|k| line.strip_prefix(k))
+        .unwrap_or(line);
+    (!line.starts_with("mod ")).then(|| line.split(' ').next().unwrap())
+}
+
+/// The comment above a definition names its rule, or that above the first of a group does. Searching and
+/// counting among numbers is general, and has none.
+#[test]
+fn definitions_name_their_rules() {
+    let (mut count, mut missing) = (0, Vec::new());
+    for (path, text) in texts() {
+        let own = path
+            .parent()
+            .is_some_and(|folder| folder.ends_with("specs"));
+        if !own
+            || path.extension().is_none_or(|e| e != "antt")
+            || path.ends_with("plane/specs/Search.antt")
+        {
+            continue;
+        }
+        let (mut comment, mut above) = (String::new(), String::new());
+        for line in text.lines() {
+            if let Some(said) = line.strip_prefix("--") {
+                above += said;
+                continue;
+            }
+            if let Some(name) = defined(line) {
+                count += 1;
+                if !above.is_empty() {
+                    comment = above.clone();
+                }
+                if cited(&comment).is_empty() {
+                    missing.push(format!("{}: {name}", path.display()));
+                }
+            }
+            above.clear();
+        }
+    }
+    assert!(count > 200, "{count} definitions");
+    assert!(missing.is_empty(), "no rule is named for: {missing:#?}");
+}
+
 /// The papers that the rules replace are named in docs/RULES.md and nowhere else.
 #[test]
 fn the_old_name_is_gone() {

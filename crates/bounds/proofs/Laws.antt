@@ -4,13 +4,13 @@ use mathlib.Core.Path.{_≡_}
 use mathlib.Core.Bool.{true, false, cond}
 use mathlib.Core.List.{List}
 use mathlib.Core.Logic.{⊎-elim}
-use Prim.Native.Nat.{ℕ, _+_, _≤_, _<_}
+use Prim.Native.Nat.{ℕ, _+_, _-_, _≤_, _<_}
 use native.Mathlib.Omega.{arith}
 use lib.Dec.{leb}
-use borrow.Author.Tests.{leb-false}
+use borrow.Author.Tests.{leb-true, leb-false}
 use Rattle.plane.specs.Plane.{onAt}
 use Rattle.plane.specs.Search.{lastBelow}
-use Rattle.plane.specs.Box.{rowHas, columnHas, lesserOf, boxOf, wholeOf}
+use Rattle.plane.specs.Box.{rowHas, columnHas, lesserOf, boxOf}
 use Rattle.plane.specs.declared.Box.{Box}
 use Rattle.plane.proofs.Search.{either, some-is}
 use Rattle.plane.proofs.Bounds.{between}
@@ -29,17 +29,13 @@ pub record Has (b : Box) (y x : ℕ) : Type 0 where
   pub from-column : b .x0 ≤ x
   pub to-column : x < b .x1
 
-lesser-above : (a b k : ℕ) → k < a → k < b → k < lesserOf a b
+-- the lesser of two numbers
+pub lesser-is : (a b : ℕ) → lesserOf a b ≡ a - (a - b)
 unfolding lesserOf
-lesser-above a b k l m =
-    ⊎-elim {C = k < cond (leb a b) a b} (λ (e : leb a b ≡ true). rw e l) (λ (e : leb a b ≡ false). rw e m) (either (leb a b))
-
-lesser-most : (a b : ℕ) → lesserOf a b ≤ a
-unfolding lesserOf
-lesser-most a b =
-    ⊎-elim {C = cond (leb a b) a b ≤ a}
-    (λ (e : leb a b ≡ true). rw e (omega arith))
-    (λ (e : leb a b ≡ false). (let g = leb-false a b e in rw e (omega arith)))
+lesser-is a b =
+    ⊎-elim {C = cond (leb a b) a b ≡ a - (a - b)}
+    (λ (e : leb a b ≡ true). rw e (omega (arith, leb-true a b e)))
+    (λ (e : leb a b ≡ false). rw e (omega (arith, leb-false a b e)))
     (either (leb a b))
 
 module _ (mask : List ℕ) (h w margin y x : ℕ) (row : y < h) (column : x < w) (is-on : onAt mask w y x ≡ true) where
@@ -51,9 +47,9 @@ module _ (mask : List ℕ) (h w margin y x : ℕ) (row : y < h) (column : x < w)
       let c = between (columnHas mask h w) w x column (some-is (λ (j : ℕ). onAt mask w j x) h y row is-on) in
       record {
         from-row = omega (arith, r .0);
-        to-row = lesser-above h (lastBelow h (rowHas mask w) + 1 + margin) y row (omega (arith, r .1));
+        to-row = omega (arith, r .1, lesser-is h (lastBelow h (rowHas mask w) + 1 + margin));
         from-column = omega (arith, c .0);
-        to-column = lesser-above w (lastBelow w (columnHas mask h w) + 1 + margin) x column (omega (arith, c .1));
+        to-column = omega (arith, c .1, lesser-is w (lastBelow w (columnHas mask h w) + 1 + margin));
       }
 
   -- and is one of the picture where there is such a pixel
@@ -63,16 +59,7 @@ module _ (mask : List ℕ) (h w margin y x : ℕ) (row : y < h) (column : x < w)
       let z : Has (boxOf mask h w margin) y x = box-has in
       record {
         some-rows = omega (arith, z .from-row, z .to-row);
-        rows-in = lesser-most h (lastBelow h (rowHas mask w) + 1 + margin);
+        rows-in = omega (arith, lesser-is h (lastBelow h (rowHas mask w) + 1 + margin));
         some-columns = omega (arith, z .from-column, z .to-column);
-        columns-in = lesser-most w (lastBelow w (columnHas mask h w) + 1 + margin);
+        columns-in = omega (arith, lesser-is w (lastBelow w (columnHas mask h w) + 1 + margin));
       }
-
-  -- so it is with the whole picture
-  pub whole-has : Has (wholeOf h w) y x
-  unfolding wholeOf
-  whole-has = record { from-row = omega arith; to-row = row; from-column = omega arith; to-column = column }
-
-  pub whole-in : BoxIn h w (wholeOf h w)
-  unfolding wholeOf
-  whole-in = record { some-rows = omega arith; rows-in = omega arith; some-columns = omega arith; columns-in = omega arith }

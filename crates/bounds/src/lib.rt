@@ -2,10 +2,10 @@
 ghost use mathlib.Core.Path.{_≡_};
 ghost use Prim.Native.Nat.{_+_, _*_, _-_, _≤_};
 ghost use lib.ListN.{length};
-ghost use Rattle.plane.specs.Plane.{longestSide, Sides};
+ghost use Rattle.plane.specs.steps.Sides.{longestSide, Sides};
 ghost use Rattle.plane.specs.Search.{firstBelow, lastBelow};
 ghost use Rattle.plane.specs.Mask.{isOn};
-ghost use Rattle.plane.specs.Box.{rowHas, columnHas, lesserOf, boxOf};
+ghost use Rattle.plane.specs.Box.{rowHas, columnHas, boxOf};
 
 // The first on-pixel of a line; its length where there is none.
 fn first(line: &[u8]) -> usize
@@ -41,21 +41,6 @@ fn last(line: &[u8]) -> usize
     0
 }
 
-// The first row with an on-pixel; h where there is none.
-fn first_row(mask: &[u8], h: usize, w: usize) -> usize
-    requires { ⌜ length (now mask) ≡ h * w ⌝ }
-    ensures { λ r. ⌜ r ≡ firstBelow h (rowHas (now (mask .entry)) w) ⌝ }
-{
-    let mut y = 0usize;
-    while y < h {
-        if plane::any(&mask[y * w..y * w + w]) {
-            return y;
-        }
-        y += 1;
-    }
-    y
-}
-
 // The last row with an on-pixel; 0 where there is none.
 fn last_row(mask: &[u8], h: usize, w: usize) -> usize
     requires { ⌜ length (now mask) ≡ h * w ⌝ }
@@ -69,34 +54,6 @@ fn last_row(mask: &[u8], h: usize, w: usize) -> usize
         }
     }
     0
-}
-
-// The first column with an on-pixel; w where there is none. Each row is searched in front of the column found so far.
-fn first_column(mask: &[u8], h: usize, w: usize) -> usize
-    requires { ⌜ length (now mask) ≡ h * w ⌝ }
-    ensures { λ r. ⌜ r ≡ firstBelow w (columnHas (now (mask .entry)) h w) ⌝ }
-{
-    let mut x = w;
-    let mut y = 0usize;
-    while y < h {
-        x = first(&mask[y * w..y * w + x]);
-        y += 1;
-    }
-    x
-}
-
-// The last column with an on-pixel; 0 where there is none. Each row is searched from the column found so far on.
-fn last_column(mask: &[u8], h: usize, w: usize) -> usize
-    requires { ⌜ length (now mask) ≡ h * w ⌝ }
-    ensures { λ r. ⌜ r ≡ lastBelow w (columnHas (now (mask .entry)) h w) ⌝ }
-{
-    let mut x = 0usize;
-    let mut y = 0usize;
-    while y < h {
-        x = x + last(&mask[y * w + x..y * w + w]);
-        y += 1;
-    }
-    x
 }
 
 // The margin before the first place, within the picture.
@@ -113,7 +70,7 @@ fn start(at: usize, margin: usize) -> usize
 fn end(at: usize, margin: usize, side: usize) -> usize
     requires { ⌜ at ≤ longestSide ⌝ }
     requires { ⌜ margin ≤ longestSide ⌝ }
-    ensures { λ r. ⌜ r ≡ lesserOf side (at + 1 + margin) ⌝ }
+    ensures { λ r. ⌜ r ≡ side - (side - (at + 1 + margin)) ⌝ }
 {
     let past = at + 1 + margin;
     if side <= past {
@@ -122,21 +79,32 @@ fn end(at: usize, margin: usize, side: usize) -> usize
     past
 }
 
-// The box of a mask's on-pixels with a margin on each side, clamped to the picture.
+// The box of a mask's on-pixels with a margin on each side, clamped to the picture. Of each row only what stands in front of
+// the first column found so far, and from the last one on, is searched. As long as no column is found, no row is.
 pub fn box_of(mask: &[u8], h: usize, w: usize, margin: usize) -> plane::Box
     requires { ⌜ Sides h w ⌝ }
     requires { ⌜ length (now mask) ≡ h * w ⌝ }
     requires { ⌜ margin ≤ longestSide ⌝ }
     ensures { λ r. ⌜ r ≡ boxOf (now (mask .entry)) h w margin ⌝ }
 {
-    let y0 = start(first_row(mask, h, w), margin);
-    let y1 = end(last_row(mask, h, w), margin, h);
-    let x0 = start(first_column(mask, h, w), margin);
-    let x1 = end(last_column(mask, h, w), margin, w);
+    let mut y0 = 0usize;
+    let mut x0 = w;
+    let mut x1 = 0usize;
+    let mut y = 0usize;
+    while y < h {
+        let row = &mask[y * w..y * w + w];
+        x0 = first(&row[..x0]);
+        x1 = x1 + last(&row[x1..]);
+        y += 1;
+        if x0 == w {
+            y0 = y;
+        }
+    }
+    let y1 = last_row(mask, h, w);
     plane::Box {
-        y0: y0,
-        y1: y1,
-        x0: x0,
-        x1: x1,
+        y0: start(y0, margin),
+        y1: end(y1, margin, h),
+        x0: start(x0, margin),
+        x1: end(x1, margin, w),
     }
 }

@@ -21,7 +21,8 @@ grey : Float → Rgb
 grey v = rgb v v v
 
 settings : ℤ → Settings
-settings p = record { «alpha_threshold» = pos 128; «key_bg» = true; «key_bg_fringe» = p; «key_bg_tolerance» = zero64; «crop_to_alpha» = true }
+settings p =
+    record { «alpha_threshold» = pos 128; «key_bg» = true; «key_bg_fringe» = p; «key_bg_tolerance» = zero64; «crop_to_alpha» = true }
 
 abbrev minus-zero : Float
 minus-zero = fin true 0 (pos 0)
@@ -82,5 +83,6 @@ cases =
     ∷ []
 
 cases-hold : T (all cases)
-unfolding cases all bits joined grey rgb settings joinsOf closeTo differenceOf larger absOf plusZero halfOf colourOk coloursOk sameColour weightOf passesOf onOf lt le eq neg add sub mul div ofInt ofBits toBits
+unfolding cases all bits joined grey rgb settings joinsOf closeTo differenceOf larger absOf plusZero halfOf colourOk coloursOk
+    sameColour weightOf passesOf onOf lt le eq neg add sub mul div ofInt ofBits toBits
 cases-hold = tt

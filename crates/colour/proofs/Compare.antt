@@ -2,7 +2,7 @@
 -- Assumes nothing.
 use mathlib.Core.Path.{_≡_, refl, sym, ap, _∙_, subst}
 use mathlib.Core.Bool.{Bool, true, false, not, _&&_, _||_, cond, and-true}
-use mathlib.Core.Logic.{inl, inr}
+use mathlib.Core.Logic.{⊎-elim}
 use Prim.Native.Nat.{ℕ, zero, suc, _+_, _*_, _≤_, _<_}
 use native.Mathlib.Nat.{zero-mul, le-of-mul-le-mul-right, le-of-eq, le-of-lt, eq-or-lt-of-le}
 use native.Mathlib.Omega.{arith}
@@ -13,16 +13,18 @@ use lib.Ieee.Fits.{down-pos, and-l, and-r}
 use lib.Ieee.Positive.{through}
 use Rattle.colour.specs.Number.{larger}
 
--- less or equal is at most
-pub lt-or-eq : (u v : ℕ) → ltb u v || eqb u v ≡ leb u v
-lt-or-eq u v = go (ltb u v) refl
+-- less, or what tests whether they are equal, is at most
+at-most : (u v : ℕ) (e : Bool) → (u ≡ v → e ≡ true) → ((u ≡ v → ⊥) → e ≡ false) → ltb u v || e ≡ leb u v
+at-most u v e p q = go (ltb u v) refl
   where
-    go : (t : Bool) → ltb u v ≡ t → t || eqb u v ≡ leb u v
-    go true e = sym (le-leb u v (le-of-lt (ltb-true u v e)))
-    go false e = same (ltb-false u v e)
-      where
-        same : v ≤ u → eqb u v ≡ leb u v
-        same h = elim (eq-or-lt-of-le h) [ inl z ↦ eq-eqb u v (sym z) ∙ sym (le-leb u v (le-of-eq (sym z))) | inr l ↦ ne-eqb u v (λ k. omega arith) ∙ sym (lt-leb u v l) ]
+    go : (t : Bool) → ltb u v ≡ t → t || e ≡ leb u v
+    go true h = sym (le-leb u v (le-of-lt (ltb-true u v h)))
+    go false h =
+        ⊎-elim (λ z. p (sym z) ∙ sym (le-leb u v (le-of-eq (sym z))))
+        (λ l. q (λ k. omega arith) ∙ sym (lt-leb u v l)) (eq-or-lt-of-le (ltb-false u v h))
+
+pub lt-or-eq : (u v : ℕ) → ltb u v || eqb u v ≡ leb u v
+lt-or-eq u v = at-most u v (eqb u v) (eq-eqb u v) (ne-eqb u v)
 
 -- ---- ±x at most ±y
 abbrev upto : Bool → ℕ → Bool → ℕ → Bool
@@ -32,14 +34,7 @@ both-plus : (x y : ℕ) → upto false x false y ≡ leb x y
 both-plus x y = rw (and-true (eqb x y)) (lt-or-eq x y)
 
 both-minus : (x y : ℕ) → upto true x true y ≡ leb y x
-both-minus x y = rw (and-true (eqb x y)) (flip (eqb x y) refl)
-  where
-    flip : (t : Bool) → eqb x y ≡ t → ltb y x || t ≡ leb y x
-    flip t e = ap (λ (b : Bool). ltb y x || b) (sym e ∙ turn (eqb y x) refl) ∙ lt-or-eq y x
-      where
-        turn : (b : Bool) → eqb y x ≡ b → eqb x y ≡ eqb y x
-        turn true q = eq-eqb x y (sym (eqb→eq y x (subst T (sym q) tt))) ∙ sym q
-        turn false q = ne-eqb x y (λ (h : x ≡ y). subst T q (subst (λ (k : ℕ). T (eqb k x)) h (subst T (sym (eq-eqb x x refl)) tt))) ∙ sym q
+both-minus x y = rw (and-true (eqb x y)) (at-most y x (eqb x y) (λ e. eq-eqb x y (sym e)) (λ n. ne-eqb x y (λ e. n (sym e))))
 
 minus-plus : (x y : ℕ) → T (upto true x false y)
 minus-plus zero zero = tt
@@ -67,11 +62,13 @@ module _ (a b c p q r : ℕ) (P : 0 < p) (Q : 0 < q) (R : 0 < r) where
   upto-trans : (s t u : Bool) → T (upto s (a * q) t (b * p)) → T (upto t (b * r) u (c * q)) → T (upto s (a * r) u (c * p))
   upto-trans true t false h k = minus-plus (a * r) (c * p)
   upto-trans false false false h k =
-      subst T (sym (both-plus (a * r) (c * p)))
-      (le→leb _ _ (through a b c p q r Q (leb→le _ _ (subst T (both-plus (a * q) (b * p)) h)) (leb→le _ _ (subst T (both-plus (b * r) (c * q)) k))))
+      let i = leb→le _ _ (subst T (both-plus (a * q) (b * p)) h) in
+      let j = leb→le _ _ (subst T (both-plus (b * r) (c * q)) k) in
+      subst T (sym (both-plus (a * r) (c * p))) (le→leb _ _ (through a b c p q r Q i j))
   upto-trans true true true h k =
-      subst T (sym (both-minus (a * r) (c * p)))
-      (le→leb _ _ (through c b a r q p Q (leb→le _ _ (subst T (both-minus (b * r) (c * q)) k)) (leb→le _ _ (subst T (both-minus (a * q) (b * p)) h))))
+      let i = leb→le _ _ (subst T (both-minus (b * r) (c * q)) k) in
+      let j = leb→le _ _ (subst T (both-minus (a * q) (b * p)) h) in
+      subst T (sym (both-minus (a * r) (c * p))) (le→leb _ _ (through c b a r q p Q i j))
   upto-trans false false true h k =
       let z = plus-minus (b * r) (c * q) k in
       let b0 = none b p (gone b r R (z .0)) in

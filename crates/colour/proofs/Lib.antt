@@ -3,5 +3,4 @@ pub mod Zero
 pub mod Order
 pub mod Range
 pub mod Same
-pub mod Table
 pub mod Cases

@@ -1,10 +1,13 @@
--- The order of the numbers that are at least 0, by a natural number: `unitsOf f x` is x in units of the format's smallest value. `<`, `<=` and `==` of such
--- floats are `<`, `≤` and `≡` of their units, so the laws of an order, and of a rank, are those of ℕ. Equal units are the same number, up to a zero's sign.
+-- The order of the numbers that are at least 0, by a natural number: `unitsOf f x` is x in units of the format's smallest value.
+-- `<`, `<=` and `==` of such floats are `<`, `≤` and `≡` of their units, so the laws of an order, and of a rank, are those of ℕ.
+-- Equal units are the same number, up to a zero's sign.
 -- Assumes nothing.
 use mathlib.Core.Path.{_≡_, refl, sym, ap, _∙_, subst}
 use mathlib.Core.Bool.{Bool, true, false, not, _&&_, _||_}
 use Prim.Native.Nat.{ℕ, zero, suc, _+_, _-_, _*_, _/_, _%_, _^_, _≤_, _<_}
-use native.Mathlib.Nat.{mul-pos, mul-comm, mul-assoc, mul-left-comm, mul-le-mul-right, mul-lt-mul-of-pos-right, le-of-mul-le-mul-right, lt-of-mul-lt-mul-right, eq-of-mul-eq-mul-right, le-trans, le-of-suc-le-suc, not-le-of-lt, lt-of-not-le, div-one, one-mul, mul-div-cancel-left, le-of-eq}
+use native.Mathlib.Nat.{mul-pos, mul-comm, mul-assoc, mul-left-comm, mul-le-mul-right, mul-lt-mul-of-pos-right, le-of-mul-le-mul-right}
+use native.Mathlib.Nat.{lt-of-mul-lt-mul-right, eq-of-mul-eq-mul-right, le-trans, le-of-suc-le-suc, not-le-of-lt, lt-of-not-le, div-one}
+use native.Mathlib.Nat.{one-mul, mul-div-cancel-left, le-of-eq}
 use native.Mathlib.Omega.{arith}
 use lib.IntN.{ℤ, pos, negsuc}
 use lib.Dec.{T, ltb, leb, eqb, leb→le, eqb→eq}
@@ -13,7 +16,7 @@ use lib.Pow.{pow-pos, pow-add, pow-lt, pow-mono}
 use lib.Ieee.{Float, nan, inf, fin, Format, up, down, low, prec, emax, lt, eq, le, fits}
 use lib.Ieee.Fits.{up-pos, down-pos, and-l, and-r}
 use Rattle.colour.proofs.Compare.{lt-or-eq}
-use Rattle.colour.proofs.Zero.{plus0, Alike, lt-left, lt-right, eq-left, eq-right, eq-alike}
+use Rattle.colour.proofs.Zero.{plus0, plus0-cases, plus0-cases, lt-left, lt-right, eq-left, eq-right}
 
 -- x in units of the format's smallest value
 abbrev pub unitsOf : Format → Float → ℕ
@@ -49,7 +52,8 @@ two-factors a b p e = le-trans (le-of-eq (sym (one-mul b))) (le-trans (mul-le-mu
 -- a value of the format is a whole number of its smallest values
 pub down-le : (f : Format) (s : Bool) (m : ℕ) (e : ℤ) → T (fits f (fin s m e)) → down e ≤ 2 ^ low f
 unfolding fits
-down-le f s zero e t = le-trans (two-factors (up e) (down e) (up-pos e) (eqb→eq (up e * down e) 1 t)) (pow-mono {i = 0} {j = low f} (omega arith))
+down-le f s zero e t =
+    le-trans (two-factors (up e) (down e) (up-pos e) (eqb→eq (up e * down e) 1 t)) (pow-mono {i = 0} {j = low f} (omega arith))
 down-le f s (suc m) e t =
     leb→le (down e) (2 ^ low f)
     (and-r (eqb (suc m % 2) 1 && ltb (suc m) (2 ^ prec f)) (leb (down e) (2 ^ low f))
@@ -69,14 +73,17 @@ module _ (a b u v p q : ℕ) (P : 0 < p) (Q : 0 < q) (x : a * p ≡ u * q) (y : 
     where
       go : (t : Bool) → eqb u v ≡ t → eqb a b ≡ eqb u v
       go true e = eq-eqb a b (eq-of-mul-eq-mul-right p P a b (x ∙ ap (λ (k : ℕ). k * q) (eqb-true u v e) ∙ sym y)) ∙ sym e
-      go false e = ne-eqb a b (λ (h : a ≡ b). eqb-false u v e (eq-of-mul-eq-mul-right q Q u v (sym x ∙ ap (λ (k : ℕ). k * p) h ∙ y))) ∙ sym e
+      go false e =
+          ne-eqb a b (λ (h : a ≡ b). eqb-false u v e (eq-of-mul-eq-mul-right q Q u v (sym x ∙ ap (λ (k : ℕ). k * p) h ∙ y))) ∙ sym e
 
 regroup : (m u dd de qe : ℕ) → m * u * dd * (de * qe) ≡ m * u * qe * (dd * de)
 regroup m u dd de qe = simp (mul-assoc, mul-comm, mul-left-comm)
 
 module _ (f : Format) (s t : Bool) (m : ℕ) (e : ℤ) (n : ℕ) (d : ℤ) (A : T (fits f (fin s m e))) (B : T (fits f (fin t n d))) where
   scaled-left : m * up e * down d * 2 ^ low f ≡ unitsOf f (fin s m e) * (down d * down e)
-  scaled-left = ap (λ (k : ℕ). m * up e * down d * k) (sym (down-divides e (low f) (down-le f s m e A))) ∙ regroup m (up e) (down d) (down e) (2 ^ low f / down e)
+  scaled-left =
+      ap (λ (k : ℕ). m * up e * down d * k) (sym (down-divides e (low f) (down-le f s m e A)))
+      ∙ regroup m (up e) (down d) (down e) (2 ^ low f / down e)
 
   scaled-right : n * up d * down e * 2 ^ low f ≡ unitsOf f (fin t n d) * (down d * down e)
   scaled-right =
@@ -92,18 +99,11 @@ module _ (f : Format) (s t : Bool) (m : ℕ) (e : ℤ) (n : ℕ) (d : ℤ) (A : 
 
 -- ---- with the sign cleared
 pub plus0-units : (f : Format) (x : Float) → unitsOf f (plus0 x) ≡ unitsOf f x
-unfolding plus0
-plus0-units f nan = refl
-plus0-units f (inf s) = refl
-plus0-units f (fin s zero e) = refl
-plus0-units f (fin s (suc m) e) = refl
+plus0-units f = plus0-cases (λ a b. unitsOf f b ≡ unitsOf f a) (λ a. refl) (λ s e. refl)
 
 pub plus0-fits : (f : Format) (x : Float) → T (fits f x) → T (fits f (plus0 x))
-unfolding plus0 fits
-plus0-fits f nan t = t
-plus0-fits f (inf s) t = t
-plus0-fits f (fin s zero e) t = t
-plus0-fits f (fin s (suc m) e) t = t
+unfolding fits
+plus0-fits f = plus0-cases (λ a b. T (fits f a) → T (fits f b)) (λ a t. t) (λ s e t. t)
 
 -- x is m * 2 ^ e with the sign clear
 pub data Plain : Float → Type 0 where
@@ -148,7 +148,3 @@ module _ (f : Format) (x y : Float) (a : T (fits f x)) (b : T (fits f y)) (p : T
   pub le-units : le x y ≡ leb (unitsOf f x) (unitsOf f y)
   unfolding le
   le-units = rw (lt-units, eq-units) (lt-or-eq (unitsOf f x) (unitsOf f y))
-
-  -- antisymmetry, up to the sign of a zero
-  pub units-alike : unitsOf f x ≡ unitsOf f y → Alike x y
-  units-alike e = eq-alike f x y a b (subst T (sym (eq-units ∙ eq-eqb _ _ e)) tt)

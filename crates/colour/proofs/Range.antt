@@ -1,4 +1,5 @@
--- Numbers from 0 to 1: each is finite, a difference of two is no NaN, and every entry of a list in range is in range. So closeness is three tests, one for each channel.
+-- Numbers from 0 to 1: each is finite, a difference of two is no NaN, and every entry of a list in range is in range. So closeness
+-- is three tests, one for each channel.
 -- Assumes nothing.
 use mathlib.Core.Path.{_≡_, refl, sym, ap, _∙_, subst}
 use mathlib.Core.Bool.{Bool, true, false, not, _&&_, Bool·beq, cond, and-assoc}
@@ -10,7 +11,7 @@ use lib.Dec.{T, ltb}
 use lib.ListN.{length, getD}
 use lib.Ieee.{Float, nan, inf, fin, Format, binary64, up, down, low, prec, emax, neg, add, sub, sum, round, units, odd, lt, le, eq, isNan}
 use lib.Ieee.Bits.{is-true}
-use lib.Ieee.Fits.{and-l, and-r, and-i}
+use lib.Ieee.Fits.{and-l, and-r}
 use lib.Ieee.Scale.{finite}
 use Rattle.colour.specs.declared.Rgb.{Rgb}
 use Rattle.colour.specs.Number.{zero64, absOf, larger}
@@ -45,7 +46,7 @@ cond-number false x y p q = q
 
 units-number : (f : Format) (s : Bool) (q k : ℕ) → number (units f s q k)
 unfolding units number isNan
-units-number f s q k = cond-number (ltb (q * 2 ^ k) (2 ^ (low f + suc (emax f)))) (odd (suc (prec f)) s q k (low f)) (inf s) (odd-number (suc (prec f)) s q k (low f)) tt
+units-number f s q k = cond-number (ltb (q * 2 ^ k) (2 ^ (low f + suc (emax f)))) _ _ (odd-number (suc (prec f)) s q k (low f)) tt
 
 round-number : (f : Format) (s : Bool) (a c : ℕ) → number (round f s a c)
 unfolding round
@@ -53,7 +54,8 @@ round-number f s a c = units-number f s _ _
 
 sum-number : (f : Format) (s : Bool) (a : ℕ) (t : Bool) (b c : ℕ) → number (sum f s a t b c)
 unfolding sum
-sum-number f s a t b c = cond-number (Bool·beq s t) _ _ (round-number f s _ c) (cond-number (ltb a b) _ _ (round-number f t _ c) (round-number f _ _ c))
+sum-number f s a t b c =
+    cond-number (Bool·beq s t) _ _ (round-number f s _ c) (cond-number (ltb a b) _ _ (round-number f t _ c) (round-number f _ _ c))
 
 pub sub-number : (f : Format) (x y : Float) → T (finite x) → T (finite y) → T (not (isNan (sub f x y)))
 unfolding sub add neg number
@@ -95,7 +97,9 @@ channel x y t u = abs-number (sub binary64 x y) (sub-number binary64 x y (ok-fin
 
 pub close-tests : (p q : Rgb) → InRange p q → (tolerance : Float)
     → closeTo tolerance q p
-    ≡ le (absOf (sub binary64 (p .r) (q .r))) tolerance && le (absOf (sub binary64 (p .g) (q .g))) tolerance && le (absOf (sub binary64 (p .b) (q .b))) tolerance
+    ≡ le (absOf (sub binary64 (p .r) (q .r))) tolerance
+    && le (absOf (sub binary64 (p .g) (q .g))) tolerance
+    && le (absOf (sub binary64 (p .b) (q .b))) tolerance
 unfolding closeTo differenceOf
 close-tests p q h t =
     let i = channels p (h .first) in
@@ -105,14 +109,10 @@ close-tests p q h t =
     let dr = absOf (sub binary64 (p .r) (q .r)) in
     let dg = absOf (sub binary64 (p .g) (q .g)) in
     let db = absOf (sub binary64 (p .b) (q .b)) in
-    larger-le (larger dr dg) db (larger-number dr dg a b) (channel (p .b) (q .b) (i .2) (j .2)) t ∙ ap (λ (k : Bool). k && le db t) (larger-le dr dg a b t)
+    larger-le (larger dr dg) db (larger-number dr dg a b) (channel (p .b) (q .b) (i .2) (j .2)) t
+    ∙ ap (λ (k : Bool). k && le db t) (larger-le dr dg a b t)
 
 -- ---- lists
-suc-pos : (n : ℕ) → 0 < suc n
-suc-pos n = omega arith
-
-suc-less : (i n : ℕ) → i < n → suc i < suc n
-suc-less i n h = omega arith
 
 -- every entry of a list in range is in range
 pub colours-at : (l : List Float) → coloursOk l ≡ true → (i : ℕ) → i < length l → colourOk (getD l i nan) ≡ true
@@ -125,10 +125,10 @@ colours-at (x ∷ l) e (suc i) h = colours-at l (is-true _ (and-r (colourOk x) (
 pub colours-all : (l : List Float) → ((i : ℕ) → i < length l → colourOk (getD l i nan) ≡ true) → coloursOk l ≡ true
 unfolding coloursOk
 colours-all [] h = refl
-colours-all (x ∷ l) h = is-true _ (and-i (colourOk x) (coloursOk l) (is _ (h 0 (suc-pos (length l)))) (is _ (colours-all l (λ i k. h (suc i) (suc-less i (length l) k)))))
+colours-all (x ∷ l) h = rw (h 0 (omega arith), colours-all l (λ i k. h (suc i) (omega arith)))
 
 -- two lists in a row are in range exactly when each is
 pub colours-append : (l m : List Float) → coloursOk (l ++ m) ≡ coloursOk l && coloursOk m
 unfolding coloursOk
 colours-append [] m = refl
-colours-append (x ∷ l) m = ap (λ (b : Bool). colourOk x && b) (colours-append l m) ∙ sym (and-assoc (colourOk x) (coloursOk l) (coloursOk m))
+colours-append (x ∷ l) m = rw (colours-append l m) (sym (and-assoc (colourOk x) (coloursOk l) (coloursOk m)))

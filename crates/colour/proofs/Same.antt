@@ -2,17 +2,17 @@
 -- Assumes nothing.
 use mathlib.Core.Path.{_≡_, refl, sym, ap, _∙_}
 use mathlib.Core.Bool.{Bool, true, false, _&&_, cond}
-use Prim.Native.Nat.{zero, suc}
 use lib.Dec.{T}
-use lib.Ieee.{Float, nan, inf, fin, binary64, neg, lt, eq, fits}
+use lib.Ieee.{Float, binary64, neg, lt, eq, fits}
 use lib.Ieee.Fits.{and-l, and-r}
 use lib.Ieee.Scale.{finite}
 use Rattle.colour.specs.declared.Rgb.{Rgb}
-use Rattle.colour.specs.Number.{zero64, one64, two64, absOf, larger, halfOf}
-use Rattle.colour.specs.Colour.{differenceOf, closeTo, colourOk, sameColour}
+use Rattle.colour.specs.Number.{zero64, two64, absOf, larger, halfOf}
+use Rattle.colour.specs.Colour.{differenceOf, closeTo, sameColour}
 use Rattle.colour.specs.Join.{millionth, joinsOf}
 use Rattle.colour.proofs.Range.{is}
-use Rattle.colour.proofs.Zero.{plus0, Alike, neg-of-alike, sub-alike, add-alike, mul-alike, div-alike, lt-alike, le-alike, eq-alike}
+use Rattle.colour.proofs.Zero.{plus0, plus0-cases, Alike, neg-of-alike, sub-alike, add-alike, mul-alike, div-alike, lt-alike}
+use Rattle.colour.proofs.Zero.{le-alike, eq-alike}
 
 pub abs-alike : (x y : Float) → Alike x y → Alike (absOf x) (absOf y)
 unfolding absOf
@@ -34,17 +34,10 @@ pub half-alike : (x x' y y' : Float) → Alike x x' → Alike y y' → Alike (ha
 unfolding halfOf
 half-alike x x' y y' p q = div-alike binary64 _ _ false 0 _ (add-alike binary64 x x' y y' p q)
 
--- the tests on one number: whether a colour is in range, and whether a tolerance is finite
-pub ok-alike : (x y : Float) → Alike x y → colourOk x ≡ colourOk y
-unfolding colourOk
-ok-alike x y p = rw (le-alike zero64 zero64 x y refl p, le-alike x y one64 one64 p refl)
+-- whether a tolerance is finite
 
 pub plus0-finite : (x : Float) → finite x ≡ finite (plus0 x)
-unfolding plus0
-plus0-finite nan = refl
-plus0-finite (inf s) = refl
-plus0-finite (fin s zero e) = refl
-plus0-finite (fin s (suc m) e) = refl
+plus0-finite = plus0-cases (λ a b. finite a ≡ finite b) (λ a. refl) (λ s e. refl)
 
 pub finite-alike : (x y : Float) → Alike x y → finite x ≡ finite y
 finite-alike x y p = plus0-finite x ∙ ap finite p ∙ sym (plus0-finite y)
@@ -76,9 +69,6 @@ same-colour p q h k e =
 pub same-refl : (p : Rgb) → SameColour p p
 same-refl p = record { r = refl; g = refl; b = refl }
 
-pub same-sym : (p q : Rgb) → SameColour p q → SameColour q p
-same-sym p q h = record { r = sym (h .r); g = sym (h .g); b = sym (h .b) }
-
 module _ (p p' q q' : Rgb) (h : SameColour p p') (k : SameColour q q') where
   pub difference-alike : Alike (differenceOf p q) (differenceOf p' q')
   unfolding differenceOf
@@ -101,5 +91,6 @@ joins-alike full full' mixed mixed' p q =
     rw (lt-alike millionth millionth full full' refl p, lt-alike _ _ full full' (mul-alike binary64 two64 mixed mixed' q) p) refl
 
 -- the join test of pixel p with body colour b and reference q
-pub joins-same : (p p' q q' b b' : Rgb) → SameColour p p' → SameColour q q' → SameColour b b' → joinsOf (differenceOf b q) (differenceOf p q) ≡ joinsOf (differenceOf b' q') (differenceOf p' q')
+pub joins-same : (p p' q q' b b' : Rgb) → SameColour p p' → SameColour q q' → SameColour b b'
+    → joinsOf (differenceOf b q) (differenceOf p q) ≡ joinsOf (differenceOf b' q') (differenceOf p' q')
 joins-same p p' q q' b b' h k j = joins-alike _ _ _ _ (difference-alike b b' q q' j k) (difference-alike p p' q q' h k)

@@ -1,15 +1,17 @@
--- The sign of a zero. `plus0 x` is x with a zero's sign cleared. Comparisons do not see the difference, and each operation here gives the same number.
--- `Alike x y`: x and y are the same number, up to the sign of a zero.
+-- The sign of a zero. `plus0 x` is x with a zero's sign cleared. Comparisons do not see the difference, and each operation here
+-- gives the same number. `Alike x y`: x and y are the same number, up to the sign of a zero.
 -- Assumes nothing.
 use mathlib.Core.Path.{_≡_, refl, sym, ap, _∙_, subst}
 use mathlib.Core.Bool.{Bool, true, false, not, _&&_, _||_, Bool·beq, cond}
 use Prim.Native.Nat.{ℕ, zero, suc, _*_, _^_, _<_}
-use native.Mathlib.Nat.{zero-mul, mul-zero, zero-add, add-zero, sub-zero, sub-self, le-refl, mul-pos, lt-irrefl, mul-comm, mul-assoc, mul-left-comm}
+use native.Mathlib.Nat.{zero-mul, mul-zero, zero-add, add-zero, sub-zero, sub-self, le-refl, mul-pos, mul-comm, mul-assoc}
+use native.Mathlib.Nat.{mul-left-comm}
 use native.Mathlib.Omega.{arith}
 use lib.IntN.{ℤ, pos}
 use lib.Dec.{T, ltb, eqb, eqb→eq}
 use borrow.Author.Tests.{lt-ltb, le-ltb, ne-eqb}
-use lib.Ieee.{Float, nan, inf, fin, Format, binary64, up, down, lt, eq, le, neg, add, sub, mul, div, sum, round, fits, below, level, toBits, ofBits, low, unlike}
+use lib.Ieee.{Float, nan, inf, fin, Format, binary64, up, down, lt, eq, le, neg, add, sub, mul, div, sum, round, fits, below, level}
+use lib.Ieee.{toBits, ofBits, low, unlike}
 use lib.Ieee.Bits.{ofBits-toBits}
 use lib.Ieee.Fits.{up-pos, down-pos, and-l, and-r}
 use lib.Ieee.Nearest.{div-same}
@@ -23,6 +25,15 @@ plus0 (inf s) = inf s
 plus0 (fin s zero e) = fin false zero e
 plus0 (fin s (suc m) e) = fin s (suc m) e
 
+-- what holds of each number and itself, and of a zero with either sign and +0, holds of each number and it with a zero's sign cleared
+pub plus0-cases : (P : Float → Float → Type 0) → ((x : Float) → P x x) → ((s : Bool) (e : ℤ) → P (fin s zero e) (fin false zero e))
+    → (x : Float) → P x (plus0 x)
+unfolding plus0
+plus0-cases P r z nan = r nan
+plus0-cases P r z (inf s) = r (inf s)
+plus0-cases P r z (fin s zero e) = z s e
+plus0-cases P r z (fin s (suc m) e) = r (fin s (suc m) e)
+
 -- ---- comparisons
 below-zero : (s t : Bool) (b : ℕ) → below s 0 t b ≡ below false 0 t b
 below-zero false t b = refl
@@ -34,26 +45,23 @@ below-zero-right s false a = refl
 below-zero-right false true a = sym (le-ltb a 0 (omega arith))
 below-zero-right true true a = ap (ltb 0) (sym (add-zero a))
 
+lt-zero : (s : Bool) (e : ℤ) (y : Float) → lt (fin s zero e) y ≡ lt (fin false zero e) y
+unfolding lt
+lt-zero s e nan = refl
+lt-zero s e (inf t) = refl
+lt-zero s e (fin t n d) = rw (zero-mul, zero-mul) (below-zero s t (n * up d * down e))
+
 pub lt-left : (x y : Float) → lt x y ≡ lt (plus0 x) y
-unfolding lt plus0
-lt-left nan y = refl
-lt-left (inf s) y = refl
-lt-left (fin s (suc m) e) y = refl
-lt-left (fin s zero e) nan = refl
-lt-left (fin s zero e) (inf t) = refl
-lt-left (fin s zero e) (fin t n d) = rw (zero-mul, zero-mul) (below-zero s t (n * up d * down e))
+lt-left x y = plus0-cases (λ a b. lt a y ≡ lt b y) (λ a. refl) (λ s e. lt-zero s e y) x
+
+lt-zero-right : (x : Float) (t : Bool) (d : ℤ) → lt x (fin t zero d) ≡ lt x (fin false zero d)
+unfolding lt
+lt-zero-right nan t d = refl
+lt-zero-right (inf s) t d = refl
+lt-zero-right (fin s m e) t d = rw (zero-mul, zero-mul) (below-zero-right s t (m * up e * down d))
 
 pub lt-right : (x y : Float) → lt x y ≡ lt x (plus0 y)
-unfolding lt plus0
-lt-right nan y = refl
-lt-right (inf s) nan = refl
-lt-right (inf s) (inf t) = refl
-lt-right (inf s) (fin t zero d) = refl
-lt-right (inf s) (fin t (suc n) d) = refl
-lt-right (fin s m e) nan = refl
-lt-right (fin s m e) (inf t) = refl
-lt-right (fin s m e) (fin t (suc n) d) = refl
-lt-right (fin s m e) (fin t zero d) = rw (zero-mul, zero-mul) (below-zero-right s t (m * up e * down d))
+lt-right x y = plus0-cases (λ a b. lt x a ≡ lt x b) (λ a. refl) (lt-zero-right x) y
 
 level-zero : (s t : Bool) (b : ℕ) → level s 0 t b ≡ level false 0 t b
 level-zero false t b = refl
@@ -71,26 +79,23 @@ and-zero a p q = go (eqb a 0)
     go true = or-true p ∙ sym (or-true q)
     go false = refl
 
+eq-zero : (s : Bool) (e : ℤ) (y : Float) → eq (fin s zero e) y ≡ eq (fin false zero e) y
+unfolding eq
+eq-zero s e nan = refl
+eq-zero s e (inf t) = refl
+eq-zero s e (fin t n d) = rw (zero-mul, zero-mul) (level-zero s t (n * up d * down e))
+
 pub eq-left : (x y : Float) → eq x y ≡ eq (plus0 x) y
-unfolding eq plus0
-eq-left nan y = refl
-eq-left (inf s) y = refl
-eq-left (fin s (suc m) e) y = refl
-eq-left (fin s zero e) nan = refl
-eq-left (fin s zero e) (inf t) = refl
-eq-left (fin s zero e) (fin t n d) = rw (zero-mul, zero-mul) (level-zero s t (n * up d * down e))
+eq-left x y = plus0-cases (λ a b. eq a y ≡ eq b y) (λ a. refl) (λ s e. eq-zero s e y) x
+
+eq-zero-right : (x : Float) (t : Bool) (d : ℤ) → eq x (fin t zero d) ≡ eq x (fin false zero d)
+unfolding eq
+eq-zero-right nan t d = refl
+eq-zero-right (inf s) t d = refl
+eq-zero-right (fin s m e) t d = rw (zero-mul, zero-mul) (and-zero (m * up e * down d) (Bool·beq s t) (Bool·beq s false))
 
 pub eq-right : (x y : Float) → eq x y ≡ eq x (plus0 y)
-unfolding eq plus0
-eq-right nan y = refl
-eq-right (inf s) nan = refl
-eq-right (inf s) (inf t) = refl
-eq-right (inf s) (fin t zero d) = refl
-eq-right (inf s) (fin t (suc n) d) = refl
-eq-right (fin s m e) nan = refl
-eq-right (fin s m e) (inf t) = refl
-eq-right (fin s m e) (fin t (suc n) d) = refl
-eq-right (fin s m e) (fin t zero d) = rw (zero-mul, zero-mul) (and-zero (m * up e * down d) (Bool·beq s t) (Bool·beq s false))
+eq-right x y = plus0-cases (λ a b. eq x a ≡ eq x b) (λ a. refl) (eq-zero-right x) y
 
 pub le-left : (x y : Float) → le x y ≡ le (plus0 x) y
 unfolding le
@@ -107,17 +112,11 @@ Alike x y = plus0 x ≡ plus0 y
 
 pub plus0-plus0 : (x : Float) → plus0 (plus0 x) ≡ plus0 x
 unfolding plus0
-plus0-plus0 nan = refl
-plus0-plus0 (inf s) = refl
-plus0-plus0 (fin s zero e) = refl
-plus0-plus0 (fin s (suc m) e) = refl
+plus0-plus0 = plus0-cases (λ a b. plus0 b ≡ plus0 a) (λ a. refl) (λ s e. refl)
 
 pub neg-alike : (x : Float) → Alike (neg x) (neg (plus0 x))
 unfolding neg plus0
-neg-alike nan = refl
-neg-alike (inf s) = refl
-neg-alike (fin s zero e) = refl
-neg-alike (fin s (suc m) e) = refl
+neg-alike = plus0-cases (λ a b. Alike (neg a) (neg b)) (λ a. refl) (λ s e. refl)
 
 round-one : (f : Format) (s : Bool) → round f s 0 1 ≡ fin s 0 (pos 0)
 unfolding round
@@ -149,36 +148,36 @@ sum-zero-right f true false (suc a) c h = rw (le-ltb (suc a) 0 (omega arith), lt
 sum-zero-right f false true zero c h = refl
 sum-zero-right f false true (suc a) c h = rw (le-ltb (suc a) 0 (omega arith), sub-zero) refl
 
-pub add-left : (f : Format) (x y : Float) → Alike (add f x y) (add f (plus0 x) y)
-unfolding add plus0
-add-left f nan y = refl
-add-left f (inf s) y = refl
-add-left f (fin s (suc m) e) y = refl
-add-left f (fin s zero e) nan = refl
-add-left f (fin s zero e) (inf t) = refl
-add-left f (fin s zero e) (fin t n d) =
+add-zero-left : (f : Format) (s : Bool) (e : ℤ) (y : Float) → Alike (add f (fin s zero e) y) (add f (fin false zero e) y)
+unfolding add
+add-zero-left f s e nan = refl
+add-zero-left f s e (inf t) = refl
+add-zero-left f s e (fin t n d) =
     let h : 0 < down e * down d = mul-pos (down-pos e) (down-pos d) in
-    simp zero-mul (sum-zero f s t (n * up d * down e) (down e * down d) h ∙ sym (sum-zero f false t (n * up d * down e) (down e * down d) h))
+    simp zero-mul (sum-zero f s t (n * up d * down e) _ h ∙ sym (sum-zero f false t (n * up d * down e) _ h))
+
+pub add-left : (f : Format) (x y : Float) → Alike (add f x y) (add f (plus0 x) y)
+add-left f x y = plus0-cases (λ a b. Alike (add f a y) (add f b y)) (λ a. refl) (λ s e. add-zero-left f s e y) x
+
+add-zero-right : (f : Format) (x : Float) (t : Bool) (d : ℤ) → Alike (add f x (fin t zero d)) (add f x (fin false zero d))
+unfolding add
+add-zero-right f nan t d = refl
+add-zero-right f (inf s) t d = refl
+add-zero-right f (fin s m e) t d =
+    let h : 0 < down e * down d = mul-pos (down-pos e) (down-pos d) in
+    simp zero-mul (sum-zero-right f s t (m * up e * down d) _ h ∙ sym (sum-zero-right f s false (m * up e * down d) _ h))
 
 pub add-right : (f : Format) (x y : Float) → Alike (add f x y) (add f x (plus0 y))
-unfolding add plus0
-add-right f nan y = refl
-add-right f (inf s) nan = refl
-add-right f (inf s) (inf t) = refl
-add-right f (inf s) (fin t zero d) = refl
-add-right f (inf s) (fin t (suc n) d) = refl
-add-right f (fin s m e) nan = refl
-add-right f (fin s m e) (inf t) = refl
-add-right f (fin s m e) (fin t (suc n) d) = refl
-add-right f (fin s m e) (fin t zero d) =
-    let h : 0 < down e * down d = mul-pos (down-pos e) (down-pos d) in
-    simp zero-mul (sum-zero-right f s t (m * up e * down d) (down e * down d) h ∙ sym (sum-zero-right f s false (m * up e * down d) (down e * down d) h))
+add-right f x y = plus0-cases (λ a b. Alike (add f x a) (add f x b)) (λ a. refl) (add-zero-right f x) y
 
 -- an operation that agrees with itself at `plus0` on each side agrees at numbers that are alike
+agrees : {A : Type 0} (op : Float → Float → A) → ((x y : Float) → op x y ≡ op (plus0 x) y) → ((x y : Float) → op x y ≡ op x (plus0 y))
+    → (x x' y y' : Float) → Alike x x' → Alike y y' → op x y ≡ op x' y'
+agrees op l r x x' y y' p q =
+    l x y ∙ ap (λ (z : Float). op z y) p ∙ sym (l x' y) ∙ r x' y ∙ ap (λ (z : Float). op x' z) q ∙ sym (r x' y')
+
 pub add-alike : (f : Format) (x x' y y' : Float) → Alike x x' → Alike y y' → Alike (add f x y) (add f x' y')
-add-alike f x x' y y' p q =
-    add-left f x y ∙ ap (λ (z : Float). plus0 (add f z y)) p ∙ sym (add-left f x' y)
-    ∙ add-right f x' y ∙ ap (λ (z : Float). plus0 (add f x' z)) q ∙ sym (add-right f x' y')
+add-alike f x x' y y' p q = agrees (λ a b. plus0 (add f a b)) (add-left f) (add-right f) x x' y y' p q
 
 pub neg-of-alike : (x y : Float) → Alike x y → Alike (neg x) (neg y)
 neg-of-alike x y p = neg-alike x ∙ ap (λ (z : Float). plus0 (neg z)) p ∙ sym (neg-alike y)
@@ -188,36 +187,28 @@ unfolding sub
 sub-alike f x x' y y' p q = add-alike f x x' (neg y) (neg y') p (neg-of-alike y y' q)
 
 pub lt-alike : (x x' y y' : Float) → Alike x x' → Alike y y' → lt x y ≡ lt x' y'
-lt-alike x x' y y' p q =
-    lt-left x y ∙ ap (λ (z : Float). lt z y) p ∙ sym (lt-left x' y) ∙ lt-right x' y ∙ ap (λ (z : Float). lt x' z) q ∙ sym (lt-right x' y')
+lt-alike = agrees lt lt-left lt-right
 
 pub le-alike : (x x' y y' : Float) → Alike x x' → Alike y y' → le x y ≡ le x' y'
-le-alike x x' y y' p q =
-    le-left x y ∙ ap (λ (z : Float). le z y) p ∙ sym (le-left x' y) ∙ le-right x' y ∙ ap (λ (z : Float). le x' z) q ∙ sym (le-right x' y')
+le-alike = agrees le le-left le-right
 
 -- ---- multiplication (2 * mixed, and half of the sum)
-pub mul-right : (f : Format) (x y : Float) → Alike (mul f x y) (mul f x (plus0 y))
-unfolding mul plus0
-mul-right f nan y = refl
-mul-right f (inf s) nan = refl
-mul-right f (inf s) (inf t) = refl
-mul-right f (inf s) (fin t zero d) = refl
-mul-right f (inf s) (fin t (suc n) d) = refl
-mul-right f (fin s m e) nan = refl
-mul-right f (fin s m e) (inf t) = refl
-mul-right f (fin s m e) (fin t (suc n) d) = refl
-mul-right f (fin s m e) (fin t zero d) =
+mul-zero-right : (f : Format) (x : Float) (t : Bool) (d : ℤ) → Alike (mul f x (fin t zero d)) (mul f x (fin false zero d))
+unfolding mul
+mul-zero-right f nan t d = refl
+mul-zero-right f (inf s) t d = refl
+mul-zero-right f (fin s m e) t d =
     let c = down e * down d in
     let z : m * up e * (zero * up d) ≡ 0 = simp (zero-mul, mul-zero) in
     ap (λ (q : ℕ). plus0 (round f (unlike s t) q c)) z
     ∙ round-zero-alike f (unlike s t) (unlike s false) c (mul-pos (down-pos e) (down-pos d))
     ∙ sym (ap (λ (q : ℕ). plus0 (round f (unlike s false) q c)) z)
 
+pub mul-right : (f : Format) (x y : Float) → Alike (mul f x y) (mul f x (plus0 y))
+mul-right f x y = plus0-cases (λ a b. Alike (mul f x a) (mul f x b)) (λ a. refl) (mul-zero-right f x) y
+
 pub mul-alike : (f : Format) (x y y' : Float) → Alike y y' → Alike (mul f x y) (mul f x y')
 mul-alike f x y y' q = mul-right f x y ∙ ap (λ (z : Float). plus0 (mul f x z)) q ∙ sym (mul-right f x y')
-
-suc-pos : (n : ℕ) → 0 < suc n
-suc-pos n = omega arith
 
 -- ---- division by a number that is not 0, as by 2
 pub div-left : (f : Format) (x : Float) (t : Bool) (n : ℕ) (d : ℤ) → Alike (div f x (fin t (suc n) d)) (div f (plus0 x) (fin t (suc n) d))
@@ -230,33 +221,45 @@ div-left f (fin s zero e) t n d =
     let z : zero * up e * down d ≡ 0 = simp zero-mul in
     rw (ne-eqb (suc n) 0 (λ q. omega arith))
     (ap (λ (q : ℕ). plus0 (round f (unlike s t) q c)) z
-    ∙ round-zero-alike f (unlike s t) (unlike false t) c (mul-pos (mul-pos (suc-pos n) (up-pos d)) (down-pos e))
+    ∙ round-zero-alike f (unlike s t) (unlike false t) c (mul-pos (mul-pos (omega arith) (up-pos d)) (down-pos e))
     ∙ sym (ap (λ (q : ℕ). plus0 (round f (unlike false t) q c)) z))
 
-pub div-alike : (f : Format) (x y : Float) (t : Bool) (n : ℕ) (d : ℤ) → Alike x y → Alike (div f x (fin t (suc n) d)) (div f y (fin t (suc n) d))
+pub div-alike : (f : Format) (x y : Float) (t : Bool) (n : ℕ) (d : ℤ) → Alike x y
+    → Alike (div f x (fin t (suc n) d)) (div f y (fin t (suc n) d))
 div-alike f x y t n d p = div-left f x t n d ∙ ap (λ (z : Float). plus0 (div f z (fin t (suc n) d))) p ∙ sym (div-left f y t n d)
 
 -- ---- equal as numbers: `eq` says so. Of two values that the format holds, they are then alike
-same-fraction : (m u d m' u' d' l : ℕ) → m * u * d' ≡ m' * u' * d → m * u * l * d' ≡ m' * u' * l * d
-same-fraction m u d m' u' d' l p = simp (mul-assoc, mul-comm, mul-left-comm) (simp (mul-assoc, mul-comm, mul-left-comm) at (ap (λ (z : ℕ). z * l) p))
+-- m * 2 ^ e and n * 2 ^ d are one number
+abbrev SameNumber : ℕ → ℤ → ℕ → ℤ → Type 0
+SameNumber m e n d = m * up e * down d ≡ n * up d * down e
 
-same-bits : (f : Format) (s : Bool) (m : ℕ) (e : ℤ) (n : ℕ) (d : ℤ) → m * up e * down d ≡ n * up d * down e → toBits f (fin s m e) ≡ toBits f (fin s n d)
+same-fraction : (m u d m' u' d' l : ℕ) → m * u * d' ≡ m' * u' * d → m * u * l * d' ≡ m' * u' * l * d
+same-fraction m u d m' u' d' l p =
+    simp (mul-assoc, mul-comm, mul-left-comm) (simp (mul-assoc, mul-comm, mul-left-comm) at (ap (λ (z : ℕ). z * l) p))
+
+same-bits : (f : Format) (s : Bool) (m : ℕ) (e : ℤ) (n : ℕ) (d : ℤ) → SameNumber m e n d → toBits f (fin s m e) ≡ toBits f (fin s n d)
 unfolding toBits
 same-bits f s m e n d p =
-    rw (div-same (m * up e * 2 ^ low f) (down e) (n * up d * 2 ^ low f) (down d) (down-pos e) (down-pos d) (same-fraction m (up e) (down e) n (up d) (down d) (2 ^ low f) p))
+    rw (div-same (m * up e * 2 ^ low f) (down e) (n * up d * 2 ^ low f) (down d) (down-pos e) (down-pos d)
+    (same-fraction m (up e) (down e) n (up d) (down d) (2 ^ low f) p))
 
-pub same-value : (f : Format) (s : Bool) (m : ℕ) (e : ℤ) (n : ℕ) (d : ℤ) → T (fits f (fin s m e)) → T (fits f (fin s n d)) → m * up e * down d ≡ n * up d * down e → fin s m e ≡ fin s n d
+pub same-value : (f : Format) (s : Bool) (m : ℕ) (e : ℤ) (n : ℕ) (d : ℤ) → T (fits f (fin s m e)) → T (fits f (fin s n d))
+    → SameNumber m e n d → fin s m e ≡ fin s n d
 same-value f s m e n d a b p = sym (ofBits-toBits f (fin s m e) a) ∙ ap (ofBits f) (same-bits f s m e n d p) ∙ ofBits-toBits f (fin s n d) b
 
 zero-factor : (n : ℕ) (d e : ℤ) → 0 ≡ n * up d * down e → n ≡ 0
 zero-factor zero d e p = refl
-zero-factor (suc n) d e p = absurd (lt-irrefl 0 (subst (λ (k : ℕ). 0 < k) (sym p) (mul-pos (mul-pos (suc-pos n) (up-pos d)) (down-pos e))))
+zero-factor (suc n) d e p =
+    let h : 0 < suc n * up d * down e = mul-pos (mul-pos (omega arith) (up-pos d)) (down-pos e) in
+    absurd (omega arith)
 
-zero-alike : (f : Format) (s t : Bool) (e d : ℤ) → T (fits f (fin s zero e)) → T (fits f (fin t zero d)) → Alike (fin s zero e) (fin t zero d)
+zero-alike : (f : Format) (s t : Bool) (e d : ℤ) → T (fits f (fin s zero e)) → T (fits f (fin t zero d))
+    → Alike (fin s zero e) (fin t zero d)
 unfolding plus0 fits
 zero-alike f s t e d a b = same-value f false zero e zero d a b (simp zero-mul)
 
-both-zero : (f : Format) (s t : Bool) (m : ℕ) (e : ℤ) (n : ℕ) (d : ℤ) → T (fits f (fin s m e)) → T (fits f (fin t n d)) → m * up e * down d ≡ n * up d * down e → m * up e * down d ≡ 0 → Alike (fin s m e) (fin t n d)
+both-zero : (f : Format) (s t : Bool) (m : ℕ) (e : ℤ) (n : ℕ) (d : ℤ) → T (fits f (fin s m e)) → T (fits f (fin t n d))
+    → SameNumber m e n d → m * up e * down d ≡ 0 → Alike (fin s m e) (fin t n d)
 both-zero f s t m e n d a b p z =
     let hm : m ≡ zero = zero-factor m e d (sym z) in
     let hn : n ≡ zero = zero-factor n d e (sym z ∙ p) in
@@ -265,7 +268,7 @@ both-zero f s t m e n d a b p z =
     ∙ sym (ap (λ (k : ℕ). plus0 (fin t k d)) hn)
 
 fin-alike : (f : Format) (s : Bool) (m : ℕ) (e : ℤ) (t : Bool) (n : ℕ) (d : ℤ) → T (fits f (fin s m e)) → T (fits f (fin t n d))
-    → m * up e * down d ≡ n * up d * down e → T (Bool·beq s t || eqb (m * up e * down d) 0) → Alike (fin s m e) (fin t n d)
+    → SameNumber m e n d → T (Bool·beq s t || eqb (m * up e * down d) 0) → Alike (fin s m e) (fin t n d)
 fin-alike f true m e true n d a b p q = ap plus0 (same-value f true m e n d a b p)
 fin-alike f false m e false n d a b p q = ap plus0 (same-value f false m e n d a b p)
 fin-alike f true m e false n d a b p q = both-zero f true false m e n d a b p (eqb→eq (m * up e * down d) 0 q)
@@ -283,7 +286,9 @@ eq-alike f (inf s) (fin t n d) a b h = absurd h
 eq-alike f (fin s m e) nan a b t = absurd t
 eq-alike f (fin s m e) (inf t) a b h = absurd h
 eq-alike f (fin s m e) (fin t n d) a b h =
-    fin-alike f s m e t n d a b (eqb→eq (m * up e * down d) (n * up d * down e) (and-l (eqb (m * up e * down d) (n * up d * down e)) (Bool·beq s t || eqb (m * up e * down d) 0) h))
+    let i = m * up e * down d in
+    let j = n * up d * down e in
+    fin-alike f s m e t n d a b (eqb→eq i j (and-l (eqb i j) (Bool·beq s t || eqb i 0) h))
     (and-r (eqb (m * up e * down d) (n * up d * down e)) (Bool·beq s t || eqb (m * up e * down d) 0) h)
 
 -- ---- x - x is 0 exactly where x is finite
@@ -297,7 +302,8 @@ unfolding sub add neg ofBits eq
 finite-test nan = refl
 finite-test (inf true) = refl
 finite-test (inf false) = refl
-finite-test (fin s m e) = ap (λ (z : Float). eq z zero64) (self-zero binary64 s (m * up e * down e) (down e * down e) (mul-pos (down-pos e) (down-pos e)))
+finite-test (fin s m e) =
+    ap (λ (z : Float). eq z zero64) (self-zero binary64 s (m * up e * down e) (down e * down e) (mul-pos (down-pos e) (down-pos e)))
 
 -- ---- a zero as +0
 -- numbers that are alike have one plusZero
@@ -307,11 +313,8 @@ zero-eq true e = simp zero-mul
 zero-eq false e = simp zero-mul
 
 plus-zero-left : (x : Float) → plusZero x ≡ plusZero (plus0 x)
-unfolding plusZero plus0
-plus-zero-left nan = refl
-plus-zero-left (inf s) = refl
-plus-zero-left (fin s zero e) = rw (zero-eq s e, zero-eq false e) refl
-plus-zero-left (fin s (suc m) e) = refl
+unfolding plusZero
+plus-zero-left = plus0-cases (λ a b. plusZero a ≡ plusZero b) (λ a. refl) (λ s e. rw (zero-eq s e, zero-eq false e) refl)
 
 pub plus-zero-same : (x y : Float) → Alike x y → plusZero x ≡ plusZero y
 plus-zero-same x y p = plus-zero-left x ∙ ap plusZero p ∙ sym (plus-zero-left y)

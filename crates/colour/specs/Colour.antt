@@ -19,12 +19,12 @@ closeTo tolerance reference p = le (differenceOf p reference) tolerance
 unfoldable pub colourOk : Float → Bool
 colourOk x = le zero64 x && le x one64
 
--- every number of a list is from 0 to 1
+-- every number of a list is from 0 to 1 (R47)
 unfoldable pub coloursOk : List Float → Bool
 coloursOk [] = true
 coloursOk (x ∷ xs) = colourOk x && coloursOk xs
 
--- the three channels of a colour are from 0 to 1
+-- the three channels of a colour are from 0 to 1 (R47)
 unfoldable pub rgbOk : Rgb → Bool
 rgbOk p = colourOk (p .r) && colourOk (p .g) && colourOk (p .b)
 

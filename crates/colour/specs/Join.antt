@@ -4,7 +4,7 @@ use mathlib.Core.Bool.{Bool, _&&_}
 use lib.Ieee.{Float, binary64, ofBits, mul, lt}
 use Rattle.colour.specs.Number.{two64}
 
--- the number nearest to 1e-6
+-- the number nearest to 1e-6 (R27)
 abbrev pub millionth : Float
 millionth = ofBits binary64 0x3eb0_c6f7_a0b5_ed8d
 

@@ -6,7 +6,7 @@ use lib.IntN.{ℤ, pos, negsuc}
 use lib.Signed.{leZ}
 use Rattle.colour.specs.declared.Settings.{Settings}
 
--- a whole number as a count: a negative number counts as 0
+-- a whole number as a count: a negative number counts as 0 (R28)
 abbrev pub atLeastZero : ℤ → ℕ
 atLeastZero (pos n) = n
 atLeastZero (negsuc n) = 0

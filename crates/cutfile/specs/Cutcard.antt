@@ -15,7 +15,7 @@ use Rattle.pam.specs.Picture.{coloursOf, alphaOf, fileTests}
 use Rattle.pam.specs.Settings.{threshold, settings}
 use Rattle.pbm.specs.Text.{maskText, refusalText}
 
--- 6 where no alpha reaches the threshold
+-- 6 where no alpha reaches the threshold (R49)
 abbrev pub alphaTest : List ℕ → Test
 alphaTest alpha = (6, someBelow (length alpha) (λ (i : ℕ). leb threshold (getD alpha i 0)))
 
@@ -23,25 +23,25 @@ alphaTest alpha = (6, someBelow (length alpha) (λ (i : ℕ). leb threshold (get
 unfoldable pub cardRefusal : List ℕ → ℕ
 cardRefusal input = refusalOf (fileTests input ++ (alphaTest (alphaOf input) ∷ []))
 
--- the picture cut with the settings of cutcard
+-- the picture cut with the settings of cutcard (R40)
 abbrev pub cutWith : List Float → List ℕ → ℕ → ℕ → Cut
 cutWith colours alpha h w = cutOf colours alpha h w (referenceOf colours h w) settings
 
--- its text
+-- its text (R41)
 unfoldable pub cutText : List Float → List ℕ → ℕ → ℕ → List ℕ
 cutText colours alpha h w = let c = cutWith colours alpha h w in maskText (c .mask) h w (c .box) (c .keyed)
 
--- what is printed for an input
+-- what is printed for an input (R41, R42)
 unfoldable pub cardText : List ℕ → List ℕ
 cardText input =
     cond (eqb (cardRefusal input) 0)
     (cutText (coloursOf input) (alphaOf input) (heightOf input) (widthOf input))
     (refusalText (cardRefusal input))
 
--- no text is longer than this: 48 bytes for the lines before the pixels, and two for each of 2304 pixels
+-- no text is longer than this: 48 bytes for the lines before the pixels, and two for each of 2304 pixels (R41)
 abbrev pub mostText : ℕ
 mostText = 4656
 
--- a buffer after a text was written at its front
+-- a buffer after a text was written at its front (R63)
 abbrev pub over : List ℕ → List ℕ → List ℕ
 over text old = text ++ drop (length text) old

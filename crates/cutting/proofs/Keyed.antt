@@ -11,7 +11,8 @@ use lib.Ieee.{Float}
 use types.Run.{OneOf}
 use denote.Enum.Declared.{tagOf}
 use Rattle.plane.specs.Plane.{on, table}
-use Rattle.plane.specs.Mask.{isOn, maskOf, complementOf, someOff}
+use Rattle.plane.specs.Mask.{isOn, maskOf, someOff}
+use Rattle.plane.specs.steps.Complement.{complementOf}
 use Rattle.plane.proofs.Search.{not-both, none-found}
 use Rattle.plane.proofs.Plane.{table-length, table-at}
 use Rattle.plane.proofs.Mask.{mask-on, mask-same}

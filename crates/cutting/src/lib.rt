@@ -2,7 +2,7 @@
 ghost use mathlib.Core.Path.{_≡_};
 ghost use Prim.Native.Nat.{ℕ, _*_};
 ghost use lib.ListN.{length};
-ghost use Rattle.plane.specs.Plane.{Sides};
+ghost use Rattle.plane.specs.steps.Sides.{Sides};
 ghost use Rattle.outline.specs.Border.{referenceOf};
 ghost use Rattle.outline.specs.Ground.{isFound};
 ghost use Rattle.outline.specs.Cut.{isKeyed, cutMask, margin, cropOf};

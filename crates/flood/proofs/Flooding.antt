@@ -17,8 +17,8 @@ use Rattle.plane.proofs.Mask.{on-inside}
 use Rattle.labels.proofs.Joined.{end-on}
 use Rattle.labels.proofs.Steps.{beside-above, beside-below, beside-left, beside-right, beside-sides}
 use Rattle.outline.specs.Border.{onBorder}
-use Rattle.flood.specs.steps.Flood.{State, state, pushed, visited, visitIf, spreadFrom}
-use Rattle.flood.proofs.Room.{Kept, room-for, pushed-room}
+use Rattle.flood.specs.steps.Flood.{State, pushed, visited, visitIf, spreadFrom, onTop, popped}
+use Rattle.flood.proofs.Room.{Kept, room-for, pushed-room, popped-room}
 
 -- what pixel k holds
 abbrev pub at : State → ℕ → ℕ
@@ -59,6 +59,12 @@ module _ (mask : List ℕ) (h w : ℕ) where
   reach-inside : (p : ℕ) → Reach p → p < length mask
   reach-inside p r = on-inside mask p (end-on (r .2))
 
+  -- what a visit to q leaves, where there is such a pixel
+  pub record Visits (hold : ℕ) (has : Bool) (q : ℕ) (s t : State) : Type 0 where
+    pub floods : Flooding mask h w hold t
+    pub stays : (k : ℕ) → at s k ≡ 2 → at t k ≡ 2
+    pub done : has ≡ true → isOn mask q ≡ true → at t q ≡ 2
+
   module _ (hold : ℕ) (s : State) (f : Flooding mask h w hold s) where
     -- a pixel that waits and is reached is pushed
     module _ (q : ℕ) (r : Reach q) (e : at s q ≡ 1) where
@@ -73,33 +79,12 @@ module _ (mask : List ℕ) (h w : ℕ) where
       new k = set-cases (s .plane) q k 2 q-in
 
       pushed-stays : (k : ℕ) → at s k ≡ 2 → at (pushed q s) k ≡ 2
-      pushed-stays k l = ⊎-elim {C = at (pushed q s) k ≡ 2} (λ z. z .1) (λ z. z ∙ l) (new k)
-
-      pushed-kept : Kept (length mask) (pushed q s)
-      unfolding pushed
-      pushed-kept = record { room = pushed-room s q (f .kept .room) q-in e; long = f .kept .long ∙ sym (length-set (s .plane) q 2) }
-
-      pushed-lit : (k : ℕ) → at (pushed q s) k ≡ 1 → isOn mask k ≡ true
-      pushed-lit k u =
-          ⊎-elim {C = isOn mask k ≡ true}
-          (λ z. absurd (omega (arith, z .1)))
-          (λ z. f .lit k (sym z ∙ u))
-          (new k)
-
-      pushed-due : (k : ℕ) → isOn mask k ≡ true → (at (pushed q s) k ≡ 1) ⊎ (at (pushed q s) k ≡ 2)
-      pushed-due k o =
-          ⊎-elim {C = (at (pushed q s) k ≡ 1) ⊎ (at (pushed q s) k ≡ 2)}
-          (λ z. inr (z .1))
-          (λ z. rw z (f .due k o))
-          (new k)
-
-      pushed-sound : (k : ℕ) → at (pushed q s) k ≡ 2 → Reach k
-      pushed-sound k u = ⊎-elim {C = Reach k} (λ z. rw (z .0) r) (λ z. f .sound k (sym z ∙ u)) (new k)
+      pushed-stays k l = ⊎-elim (λ z. z .1) (λ z. z ∙ l) (new k)
 
       pushed-stacked : (k : ℕ) → k < pushed q s .top → Reach (getD (pushed q s .stack) k 0)
       unfolding pushed
       pushed-stacked k l =
-          ⊎-elim {C = Reach (getD (set (s .stack) (s .top) q) k 0)}
+          ⊎-elim
           (λ (m : k < s .top). rw (getD-set-other (s .stack) (s .top) k q 0 (λ z. omega arith)) (f .stacked k m))
           (λ (m : s .top ≤ k). (let y : k ≡ s .top = omega arith in rw (y, getD-set-same (s .stack) (s .top) q 0 t-in) r))
           (which k (s .top))
@@ -112,25 +97,23 @@ module _ (mask : List ℕ) (h w : ℕ) where
       unfolding pushed
       now-on = (s .top, omega arith, getD-set-same (s .stack) (s .top) q 0 t-in)
 
-      pushed-closed : (k j : ℕ) → at (pushed q s) k ≡ 2 → beside w k j ≡ true → isOn mask j ≡ true → (at (pushed q s) j ≡ 2) ⊎ ((k ≡ hold) ⊎ OnStack (pushed q s) k)
-      pushed-closed k j l b o =
-          ⊎-elim {C = (at (pushed q s) j ≡ 2) ⊎ ((k ≡ hold) ⊎ OnStack (pushed q s) k)}
-          (λ z. inr (inr (rw (z .0) now-on)))
-          (λ z.
-          ⊎-elim {C = (at (pushed q s) j ≡ 2) ⊎ ((k ≡ hold) ⊎ OnStack (pushed q s) k)}
-          (λ y. inl (pushed-stays j y))
-          (λ y. inr (⊎-elim {C = (k ≡ hold) ⊎ OnStack (pushed q s) k} (λ x. inl x) (λ x. inr (still-on k x)) y))
-          (f .closed k j (sym z ∙ l) b o))
-          (new k)
+      pushed-long : length (s .plane) ≡ length (pushed q s .plane)
+      unfolding pushed
+      pushed-long = sym (length-set (s .plane) q 2)
 
       pushed-floods : Flooding mask h w hold (pushed q s)
       pushed-floods = record {
-        kept = pushed-kept;
-        lit = pushed-lit;
-        due = pushed-due;
-        sound = pushed-sound;
+        kept = record { room = pushed-room s q (f .kept .room) q-in e; long = f .kept .long ∙ pushed-long };
+        lit = λ k u. ⊎-elim (λ z. absurd (omega (arith, z .1))) (λ z. f .lit k (sym z ∙ u)) (new k);
+        due = λ k o. ⊎-elim (λ z. inr (z .1)) (λ z. rw z (f .due k o)) (new k);
+        sound = λ k u. ⊎-elim (λ z. rw (z .0) r) (λ z. f .sound k (sym z ∙ u)) (new k);
         stacked = pushed-stacked;
-        closed = pushed-closed;
+        closed = λ k j l b o.
+            ⊎-elim (λ z. inr (inr (rw (z .0) now-on)))
+            (λ z.
+            ⊎-elim (λ y. inl (pushed-stays j y)) (λ y. inr (⊎-elim (λ x. inl x) (λ x. inr (still-on k x)) y))
+            (f .closed k j (sym z ∙ l) b o))
+            (new k);
       }
 
     -- a visit to q, which is reached if it is close
@@ -138,70 +121,50 @@ module _ (mask : List ℕ) (h w : ℕ) where
       onto : at s q ≡ 1 → Reach q
       onto e = r (f .lit q e)
 
-      visited-floods : Flooding mask h w hold (visited q s)
+      visited-floods : Visits hold true q s (visited q s)
       unfolding visited
       visited-floods =
-          ⊎-elim {C = Flooding mask h w hold (visited q s)}
-          (λ (t : eqb (at s q) 1 ≡ true). (let e = eqb-true (at s q) 1 t in rw t (pushed-floods q (onto e) e)))
-          (λ (t : eqb (at s q) 1 ≡ false). rw t f)
-          (either (eqb (at s q) 1))
-
-      visited-stays : (k : ℕ) → at s k ≡ 2 → at (visited q s) k ≡ 2
-      unfolding visited
-      visited-stays k l =
-          ⊎-elim {C = at (visited q s) k ≡ 2}
-          (λ (t : eqb (at s q) 1 ≡ true). (let e = eqb-true (at s q) 1 t in rw t (pushed-stays q (onto e) e k l)))
-          (λ (t : eqb (at s q) 1 ≡ false). rw t l)
-          (either (eqb (at s q) 1))
-
-      visited-done : isOn mask q ≡ true → at (visited q s) q ≡ 2
-      unfolding visited pushed
-      visited-done o =
-          ⊎-elim {C = at (visited q s) q ≡ 2}
+          ⊎-elim
           (λ (t : eqb (at s q) 1 ≡ true). (
           let e = eqb-true (at s q) 1 t in
-          rw t (getD-set-same (s .plane) q 2 0 (q-in q (onto e) e))))
+          rw t (record {
+            floods = pushed-floods q (onto e) e;
+            stays = pushed-stays q (onto e) e;
+            done = λ z o. unfold pushed in getD-set-same (s .plane) q 2 0 (q-in q (onto e) e);
+          })))
           (λ (t : eqb (at s q) 1 ≡ false).
-          rw t (⊎-elim {C = at s q ≡ 2} (λ e. absurd (eqb-false (at s q) 1 t e)) (λ e. e) (f .due q o)))
+          rw t (record {
+            floods = f;
+            stays = λ k l. l;
+            done = λ z o. ⊎-elim (λ e. absurd (eqb-false (at s q) 1 t e)) (λ e. e) (f .due q o);
+          }))
           (either (eqb (at s q) 1))
 
-  -- a visit where the plane has the pixel
-  pub record Visits (hold : ℕ) (has : Bool) (q : ℕ) (s t : State) : Type 0 where
-    pub floods : Flooding mask h w hold t
-    pub stays : (k : ℕ) → at s k ≡ 2 → at t k ≡ 2
-    pub done : has ≡ true → isOn mask q ≡ true → at t q ≡ 2
-
-  pub visits : (hold : ℕ) (has : Bool) (q : ℕ) (s : State) → (has ≡ true → isOn mask q ≡ true → FromBorder mask h w q) → Flooding mask h w hold s → Visits hold has q s (visitIf has q s)
+  -- the same where the plane may have no such pixel
+  pub visits : (hold : ℕ) (has : Bool) (q : ℕ) (s : State) → (has ≡ true → isOn mask q ≡ true → Reach q)
+      → Flooding mask h w hold s → Visits hold has q s (visitIf has q s)
   unfolding visitIf
-  visits hold true q s r f = record {
-    floods = visited-floods hold s f q (r refl);
-    stays = visited-stays hold s f q (r refl);
-    done = λ z. visited-done hold s f q (r refl);
-  }
+  visits hold true q s r f = visited-floods hold s f q (r refl)
   visits hold false q s r f = record { floods = f; stays = λ k l. l; done = λ z. not-both false z refl }
 
   -- past the end there is no 2, so no such pixel is held
   pub not-past : (s : State) → Kept (length mask) s → (k : ℕ) → k ≡ length mask → at s k ≡ 2 → ⊥
-  not-past s k x e l =
-      let z = List·getD-eq-default (s .plane) 0 {n = x} (omega (arith, k .long)) in
-      omega arith
+  not-past s k x e l = let z = List·getD-eq-default (s .plane) 0 {n = x} (omega (arith, k .long)) in omega arith
 
   -- the top of the stack is taken off and held
-  pub popped-floods : (s : State) → 0 < s .top → Flooding mask h w (length mask) s → Flooding mask h w (getD (s .stack) (s .top - 1) 0) (state (s .top - 1) (s .stack) (s .plane))
+  pub popped-floods : (s : State) → 0 < s .top → Flooding mask h w (length mask) s → Flooding mask h w (onTop s) (popped s)
   popped-floods s l f = record {
-    kept = record { room = record { small = f .kept .room .small; tall = f .kept .room .tall; fits = omega (arith, f .kept .room .fits) }; long = f .kept .long };
+    kept = record { room = popped-room (f .kept .room); long = f .kept .long };
     lit = f .lit;
     due = f .due;
     sound = f .sound;
     stacked = λ e m. f .stacked e (omega arith);
     closed = λ k j a b o.
-        ⊎-elim {C = Held k j}
-        (λ z. inl z)
+        ⊎-elim (λ z. inl z)
         (λ z.
-        ⊎-elim {C = Held k j}
-        (λ y. absurd (not-past s (f .kept) k y a))
+        ⊎-elim (λ y. absurd (not-past s (f .kept) k y a))
         (λ y.
-        ⊎-elim {C = Held k j}
+        ⊎-elim
         (λ (x : y .0 < s .top - 1). inr (inr (y .0, x, y .2)))
         (λ (x : s .top - 1 ≤ y .0). (
         let v : y .0 ≡ s .top - 1 = omega (arith, y .1) in
@@ -210,12 +173,10 @@ module _ (mask : List ℕ) (h w : ℕ) where
         z)
         (f .closed k j a b o);
   }
-    where
-      Held : ℕ → ℕ → Type 0
-      Held k j = (at s j ≡ 2) ⊎ ((k ≡ getD (s .stack) (s .top - 1) 0) ⊎ OnStack (state (s .top - 1) (s .stack) (s .plane)) k)
 
   -- and let go when its close neighbours are 2
-  released : (p : ℕ) (s : State) → Flooding mask h w p s → ((j : ℕ) → beside w p j ≡ true → isOn mask j ≡ true → at s j ≡ 2) → Flooding mask h w (length mask) s
+  released : (p : ℕ) (s : State) → Flooding mask h w p s
+      → ((j : ℕ) → beside w p j ≡ true → isOn mask j ≡ true → at s j ≡ 2) → Flooding mask h w (length mask) s
   released p s f g = record {
     kept = f .kept;
     lit = f .lit;
@@ -223,43 +184,29 @@ module _ (mask : List ℕ) (h w : ℕ) where
     sound = f .sound;
     stacked = f .stacked;
     closed = λ k j a b o.
-        ⊎-elim {C = Freed k j}
-        (λ z. inl z)
-        (λ z. ⊎-elim {C = Freed k j} (λ y. inl (g j (rw y at b) o)) (λ y. inr (inr y)) z)
-        (f .closed k j a b o);
+        ⊎-elim (λ z. inl z) (λ z. ⊎-elim (λ y. inl (g j (rw y at b) o)) (λ y. inr (inr y)) z) (f .closed k j a b o);
   }
-    where
-      Freed : ℕ → ℕ → Type 0
-      Freed k j = (at s j ≡ 2) ⊎ ((k ≡ length mask) ⊎ OnStack s k)
 
   -- so one spread keeps it, and every 2
-  pub spread-floods : (p : ℕ) (s : State) → 0 < w → FromBorder mask h w p → Flooding mask h w p s
-      → Flooding mask h w (length mask) (spreadFrom w (length mask) p s) × ((k : ℕ) → at s k ≡ 2 → at (spreadFrom w (length mask) p s) k ≡ 2)
+  pub spread-floods : (p : ℕ) (s : State) → 0 < w → Reach p → Flooding mask h w p s
+      → let t = spreadFrom w (length mask) p s in Flooding mask h w (length mask) t × ((k : ℕ) → at s k ≡ 2 → at t k ≡ 2)
   unfolding spreadFrom
   spread-floods p s wide r f =
-      let v1 = visits p (leb w p) (p - w) s (λ t o. further p (p - w) r (beside-above w wide p (leb-true w p t)) o) f in
-      let s1 = visitIf (leb w p) (p - w) s in
-      let v2 = visits p (ltb (p + w) (length mask)) (p + w) s1 (λ t o. further p (p + w) r (beside-below w wide p) o) (v1 .floods) in
-      let s2 = visitIf (ltb (p + w) (length mask)) (p + w) s1 in
-      let v3 = visits p (ltb 0 (p % w)) (p - 1) s2 (λ t o. further p (p - 1) r (beside-left w wide p (ltb-true 0 (p % w) t)) o) (v2 .floods) in
-      let s3 = visitIf (ltb 0 (p % w)) (p - 1) s2 in
-      let v4 = visits p (ltb (p % w) (w - 1)) (p + 1) s3 (λ t o. further p (p + 1) r (beside-right w wide p (omega (arith, ltb-true (p % w) (w - 1) t))) o) (v3 .floods) in
-      let s4 = visitIf (ltb (p % w) (w - 1)) (p + 1) s3 in (
-        released p s4 (v4 .floods)
+      let x = p % w in
+      let v1 = visits p (leb w p) (p - w) s (λ t. further p (p - w) r (beside-above w wide p (leb-true w p t))) f in
+      let v2 = visits p (ltb (p + w) (length mask)) (p + w) _ (λ t. further p (p + w) r (beside-below w wide p)) (v1 .floods) in
+      let v3 = visits p (ltb 0 x) (p - 1) _ (λ t. further p (p - 1) r (beside-left w wide p (ltb-true 0 x t))) (v2 .floods) in
+      let last : ltb x (w - 1) ≡ true → x + 1 < w = λ t. omega (arith, ltb-true x (w - 1) t) in
+      let v4 = visits p (ltb x (w - 1)) (p + 1) _ (λ t. further p (p + 1) r (beside-right w wide p (last t))) (v3 .floods) in (
+        released p _ (v4 .floods)
             (λ j b o.
-            ⊎-elim {C = at s4 j ≡ 2}
-            (λ z. v4 .stays j (v3 .stays j (v2 .stays j (rw (z .1) (v1 .done (le-leb w p (z .0)) (rw (z .1) at o))))))
-            (λ y.
-            ⊎-elim {C = at s4 j ≡ 2}
+            ⊎-elim (λ z. v4 .stays j (v3 .stays j (v2 .stays j (rw (z .1) (v1 .done (le-leb w p (z .0)) (rw (z .1) at o))))))
+            (⊎-elim
             (λ z. (
             let e : isOn mask (p + w) ≡ true = rw z at o in
             v4 .stays j (v3 .stays j (rw z (v2 .done (lt-ltb (p + w) (length mask) (on-inside mask (p + w) e)) e)))))
-            (λ x.
-            ⊎-elim {C = at s4 j ≡ 2}
-            (λ z. v4 .stays j (rw (z .1) (v3 .done (lt-ltb 0 (p % w) (z .0)) (rw (z .1) at o))))
-            (λ z. rw (z .1) (v4 .done (lt-ltb (p % w) (w - 1) (omega (arith, z .0))) (rw (z .1) at o)))
-            x)
-            y)
+            (⊎-elim (λ z. v4 .stays j (rw (z .1) (v3 .done (lt-ltb 0 x (z .0)) (rw (z .1) at o))))
+            (λ z. rw (z .1) (v4 .done (lt-ltb x (w - 1) (omega (arith, z .0))) (rw (z .1) at o)))))
             (beside-sides w wide p j b)),
         λ k l. v4 .stays k (v3 .stays k (v2 .stays k (v1 .stays k l))),
       )

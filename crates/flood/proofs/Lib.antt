@@ -1,4 +1,3 @@
-pub mod Tables
 pub mod Room
 pub mod Border
 pub mod Flooding

@@ -4,7 +4,7 @@ use mathlib.Core.Path.{_≡_, refl, sym, ap, _∙_}
 use mathlib.Core.Bool.{Bool, true, false}
 use mathlib.Core.Logic.{⊎-elim}
 use mathlib.Core.List.{List}
-use Prim.Native.Nat.{ℕ, _+_, _*_, _-_, _%_, _≤_, _<_}
+use Prim.Native.Nat.{ℕ, _+_, _*_, _-_, _%_, _^_, _≤_, _<_}
 use native.Mathlib.Omega.{arith}
 use lib.Dec.{eqb, ltb, leb}
 use lib.ListN.{length, getD, set, length-set}
@@ -13,7 +13,8 @@ use borrow.Author.Tests.{ltb-true, eqb-true, eq-eqb, ne-eqb}
 use Rattle.plane.proofs.Plane.{area-most}
 use Rattle.plane.proofs.Search.{either, count-most}
 use Rattle.labels.proofs.Counts.{count-without}
-use Rattle.flood.specs.steps.Flood.{State, state, pushed, visited, visitIf, spreadFrom, waiting, Room, Spreads, Closed}
+use Rattle.flood.specs.steps.Flood.{State, state, pushed, visited, visitIf, spreadFrom}
+use Rattle.flood.specs.steps.Flood.{onTop, popped, spreadTop, waiting, Room, Spreads, Closed}
 
 abbrev waits : List ℕ → ℕ → Bool
 waits plane k = eqb (getD plane k 0) 1
@@ -40,6 +41,10 @@ first-room stack plane h w g t = record {
   tall = omega (arith, g .output);
   fits = omega (arith, waiting-most plane);
 }
+
+-- a pixel that is taken off leaves room
+pub popped-room : {s : State} → Room s → Room (popped s)
+popped-room r = record { small = r .small; tall = r .tall; fits = omega (arith, r .fits) }
 
 -- a pixel that waits has room
 pub room-for : (s : State) (q : ℕ) → Room s → q < length (s .plane) → getD (s .plane) q 0 ≡ 1 → s .top < length (s .stack)
@@ -92,52 +97,53 @@ visited-kept area q s l k =
     let i : q < length (s .plane) = omega (arith, k .long) in
     record { room = visited-room s q (k .room) i; long = k .long ∙ sym (visited-long s q) }
 
-if-kept : (area q : ℕ) (has : Bool) (s : State) → (has ≡ true → q < area) → Kept area s → Kept area (visitIf has q s)
+pub if-kept : {area q : ℕ} {has : Bool} {s : State} → (has ≡ true → q < area) → Kept area s → Kept area (visitIf has q s)
 unfolding visitIf
-if-kept area q true s l k = visited-kept area q s (l refl) k
-if-kept area q false s l k = k
+if-kept {has = true} l k = visited-kept _ _ _ (l refl) k
+if-kept {has = false} l k = k
 
--- the four visits of one spread keep it
-module _ {w area top : ℕ} {stack plane : List ℕ} (g : Spreads w area top stack plane) where
-  abbrev pixel : ℕ
-  pixel = getD stack (top - 1) 0
+if-total : {area q : ℕ} {has : Bool} {s : State} → (has ≡ true → q < area) → Kept area s → total (visitIf has q s) ≡ total s
+unfolding visitIf
+if-total {has = true} l k = visited-total _ _ (omega (arith, l refl, k .long))
+if-total {has = false} l k = refl
 
-  pub kept-first : Kept area (state (top - 1) stack plane)
-  kept-first =
-      let r = g .room in
-      record { room = record { small = r .small; tall = r .tall; fits = omega (arith, r .fits) }; long = g .long }
+-- a visit asks for the pixel only where there is one
+pub if-same : (s : State) (has : Bool) {q r : ℕ} → (has ≡ true → q ≡ r) → visitIf has q s ≡ visitIf has r s
+unfolding visitIf
+if-same s true e = ap (λ (k : ℕ). visited k s) (e refl)
+if-same s false e = refl
 
-  pub kept-above : (s t : State) → Kept area s → t ≡ visitIf (leb w pixel) (pixel - w) s → Kept area t
-  kept-above s t k e = rw e (if-kept area (pixel - w) (leb w pixel) s (λ v. omega (arith, g .inside)) k)
+-- a difference that did not wrap
+pub unwrapped : {p b r : ℕ} → (r + b) % 2 ^ 64 ≡ p → r < 2 ^ 64 → b ≤ p → r ≡ p - b
+unwrapped e f l = omega arith
 
-  pub kept-below : (s t : State) → Kept area s → t ≡ visitIf (ltb (pixel + w) area) (pixel + w) s → Kept area t
-  kept-below s t k e = rw e (if-kept area (pixel + w) (ltb (pixel + w) area) s (λ v. ltb-true (pixel + w) area v) k)
+-- ---- the four visits of one spread
 
-  pub kept-left : (s t : State) → Kept area s → t ≡ visitIf (ltb 0 (pixel % w)) (pixel - 1) s → Kept area t
-  kept-left s t k e = rw e (if-kept area (pixel - 1) (ltb 0 (pixel % w)) s (λ v. omega (arith, g .inside)) k)
+module _ {w : ℕ} {s : State} (g : Spreads w s) where
+  abbrev area : ℕ
+  area = length (s .plane)
 
-  -- and the height with those that wait
-  same-total : (has : Bool) (q : ℕ) → (has ≡ true → q < area) → (s : State) → Kept area s → total (visitIf has q s) ≡ total s
-  unfolding visitIf
-  same-total true q l s k = visited-total s q (omega (arith, l refl, k .long))
-  same-total false q l s k = refl
+  -- they are to pixels of the plane
+  pub above-in : leb w (onTop s) ≡ true → onTop s - w < area
+  above-in t = omega (arith, g .inside)
 
-  -- so one spread takes one off
-  pub spread-total : total (spreadFrom w area pixel (state (top - 1) stack plane)) + 1 ≡ top + waiting plane
+  pub below-in : ltb (onTop s + w) area ≡ true → onTop s + w < area
+  below-in t = ltb-true (onTop s + w) area t
+
+  pub left-in : ltb 0 (onTop s % w) ≡ true → onTop s - 1 < area
+  left-in t = omega (arith, g .inside)
+
+  pub right-in : ltb (onTop s % w) (w - 1) ≡ true → onTop s + 1 < area
+  right-in t = g .row (ltb-true (onTop s % w) (w - 1) t)
+
+  pub kept-first : Kept area (popped s)
+  kept-first = record { room = popped-room (g .room); long = refl }
+
+  -- so one spread takes one off the height with those that wait
+  pub spread-total : total (spreadTop w s) + 1 ≡ s .top + waiting (s .plane)
   unfolding spreadFrom total
   spread-total =
-      let s0 = state (top - 1) stack plane in
-      let s1 = visitIf (leb w pixel) (pixel - w) s0 in
-      let s2 = visitIf (ltb (pixel + w) area) (pixel + w) s1 in
-      let s3 = visitIf (ltb 0 (pixel % w)) (pixel - 1) s2 in
-      let k1 = kept-above s0 s1 kept-first refl in
-      let k2 = kept-below s1 s2 k1 refl in
-      let k3 = kept-left s2 s3 k2 refl in
-      omega (
-        arith,
-        g .some,
-        same-total (leb w pixel) (pixel - w) (λ t. omega (arith, g .inside)) s0 kept-first,
-        same-total (ltb (pixel + w) area) (pixel + w) (λ t. ltb-true (pixel + w) area t) s1 k1,
-        same-total (ltb 0 (pixel % w)) (pixel - 1) (λ t. omega (arith, g .inside)) s2 k2,
-        same-total (ltb (pixel % w) (w - 1)) (pixel + 1) (λ t. g .row (ltb-true (pixel % w) (w - 1) t)) s3 k3,
-      )
+      let k1 = if-kept above-in kept-first in
+      let k2 = if-kept below-in k1 in
+      let k3 = if-kept left-in k2 in
+      omega (arith, g .some, if-total above-in kept-first, if-total below-in k1, if-total left-in k2, if-total right-in k3)

@@ -7,7 +7,7 @@ use Prim.Native.Nat.{ℕ, _+_, _*_, _≤_, _<_}
 use native.Mathlib.Nat.{mul-le-mul}
 use native.Mathlib.Omega.{arith}
 use borrow.Author.Tests.{eq-eqb, ne-eqb, eqb-true, leb-true, ltb-true}
-use Rattle.plane.specs.Plane.{Sides}
+use Rattle.plane.specs.steps.Sides.{Sides}
 use Rattle.plane.specs.Refusal.{refusalOf, roomFor}
 use Rattle.plane.proofs.Plane.{row-in, area-most}
 use Rattle.plane.proofs.Refusal.{Within, and-true, passed, sides-are, sides-within}

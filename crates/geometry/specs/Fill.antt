@@ -12,6 +12,6 @@ unfoldable pub sourceOf : ℕ → ℕ → Option (ℕ × ℕ) → ℕ
 sourceOf h w none = (h - 1) * w
 sourceOf h w (some q) = q .1 * w + q .0
 
--- the filled colours: h * w pixels of three channels
+-- the filled colours: h * w pixels of three channels (R14)
 unfoldable pub filledColours : List ℕ → List ℕ → ℕ → ℕ → List ℕ
 filledColours colours mask h w = planeOf (h * w) 3 (λ (i c : ℕ). getD colours (3 * sourceOf h w (nearest mask h w (i / w) (i % w)) + c) 0)

@@ -9,7 +9,8 @@ use native.Mathlib.Omega.{arith}
 use lib.Dec.{leb}
 use lib.ListN.{length, getD, List·getD-eq-default}
 use lib.Ieee.{Float}
-use Rattle.plane.specs.Plane.{Sides, bit, table}
+use Rattle.plane.specs.Plane.{bit, table}
+use Rattle.plane.specs.steps.Sides.{Sides}
 use Rattle.plane.specs.Mask.{maskOf, someOff}
 use Rattle.plane.proofs.Plane.{table-length, table-at}
 use Rattle.plane.proofs.Search.{which, and-no}
@@ -20,7 +21,11 @@ use Rattle.outline.specs.Border.{borderList}
 use Rattle.outline.specs.Ground.{isClose, closePlane, groundFrom, groundOf, countOn, foundFrom, isFound, groundPlane}
 use Rattle.outline.specs.Answer.{groundFor}
 use Rattle.flood.specs.steps.Flood.{Closed}
-use Rattle.ground.proofs.Lines.{bit-most}
+
+pub bit-most : (b : Bool) → bit b ≤ 1
+unfolding bit
+bit-most true = omega arith
+bit-most false = omega arith
 
 module _ (colours : List Float) (h w : ℕ) (reference : Rgb) (tolerance : Float) where
   -- the close pixels of the picture
@@ -55,14 +60,18 @@ module _ (colours : List Float) (h w : ℕ) (reference : Rgb) (tolerance : Float
   abbrev nineTenths : List ℕ → Bool
   nineTenths p = leb (9 * length (borderList h w)) (10 * countOn p (borderList h w))
 
-  absent : (n : ℕ) (z : List ℕ) → isFound colours h w reference tolerance ≡ false → n ≡ h * w → z ≡ table (λ (i : ℕ). 0) 0 n → Answered Absent z
+  -- a plane of 0
+  abbrev Cleared : List ℕ → ℕ → Type 0
+  Cleared z n = (n ≡ h * w) × (z ≡ table (λ (i : ℕ). 0) 0 n)
+
+  absent : (n : ℕ) (z : List ℕ) → isFound colours h w reference tolerance ≡ false → Cleared z n → Answered Absent z
   unfolding groundFor groundPlane
-  absent n z t l e = (rw t, rw (t, ← l) e)
+  absent n z t e = (rw t, rw (t, ← (e .0)) (e .1))
 
   -- too few are close
-  pub absent-few : (p : List ℕ) (n : ℕ) (z : List ℕ) → p ≡ close → nineTenths p ≡ false → n ≡ h * w → z ≡ table (λ (i : ℕ). 0) 0 n → Answered Absent z
+  pub absent-few : (p : List ℕ) (n : ℕ) (z : List ℕ) → p ≡ close → nineTenths p ≡ false → Cleared z n → Answered Absent z
   unfolding isFound foundFrom
-  absent-few p n z e t l q = let u : nineTenths close ≡ false = rw e at t in absent n z (rw u) l q
+  absent-few p n z e t q = let u : nineTenths close ≡ false = rw e at t in absent n z (rw u) q
 
   module _ (p v : List ℕ) (e : p ≡ close) (q : v ≡ groundFrom p h w) (m : length v ≡ h * w) where
     ground-is : v ≡ groundOf colours h w reference tolerance
@@ -73,9 +82,9 @@ module _ (colours : List Float) (h w : ℕ) (reference : Rgb) (tolerance : Float
     off-is b t = rw (← ground-is, ← m) t
 
     -- all is ground
-    pub absent-full : (n : ℕ) (z : List ℕ) → someOff v (length v) ≡ false → n ≡ h * w → z ≡ table (λ (i : ℕ). 0) 0 n → Answered Absent z
+    pub absent-full : (n : ℕ) (z : List ℕ) → someOff v (length v) ≡ false → Cleared z n → Answered Absent z
     unfolding isFound foundFrom groundOf
-    absent-full n z t l y = absent n z (ap (λ (b : Bool). nineTenths close && b) (off-is false t) ∙ and-no (nineTenths close)) l y
+    absent-full n z t y = absent n z (ap (λ (b : Bool). nineTenths close && b) (off-is false t) ∙ and-no (nineTenths close)) y
 
     -- the ground is found
     pub found : nineTenths p ≡ true → someOff v (length v) ≡ true → Answered (Found reference) v

@@ -2,43 +2,19 @@
 // border reaches.
 ghost use mathlib.Core.Path.{_≡_};
 ghost use mathlib.Core.Bool.{true};
-ghost use mathlib.Core.List.{_++_, map};
-ghost use Prim.Native.Nat.{ℕ, _+_, _*_, _<_, _≤_};
+ghost use Prim.Native.Nat.{ℕ, _*_, _<_};
 ghost use lib.Dec.{leb};
-ghost use lib.ListN.{length, take};
+ghost use lib.ListN.{length};
 ghost use Rattle.plane.specs.Plane.{table};
 ghost use Rattle.plane.specs.Mask.{maskOf};
 ghost use Rattle.colour.specs.Colour.{colourOk, rgbOk};
-ghost use Rattle.median.specs.steps.Values.{floatsOf};
-ghost use Rattle.outline.specs.Border.{borderList, channelAt, referenceChannel, referenceOf};
+ghost use Rattle.outline.specs.Border.{borderList, referenceChannel, referenceOf};
 ghost use Rattle.outline.specs.Ground.{isClose, countOn, groundPlane};
 ghost use Rattle.outline.specs.Answer.{groundFor};
-ghost use Rattle.flood.specs.steps.Lines.{linePixels};
 ghost use Rattle.flood.specs.steps.Flood.{Closed};
-ghost use Rattle.ground.specs.steps.Lines.{OnPlane, Gathers};
 ghost use Rattle.ground.specs.steps.Picture.{Picture, Given, Closes};
 use colour::Rgb;
 use outline::Ground;
-
-// Channel c of n pixels, the first `start` and each `stride` after the one before, becomes value `at` and those after it.
-fn gather(
-    colours: &[f64],
-    c: usize,
-    start: usize,
-    stride: usize,
-    n: usize,
-    at: usize,
-    values: &mut [u32],
-)
-    requires { ⌜ Gathers (now colours) c start stride n at (floatsOf (now values)) ⌝ }
-    ensures { λ _. ⌜ take (at + n) (floatsOf (now (values .exit)))
-        ≡ take at (floatsOf (now (values .entry))) ++ map (channelAt (now (colours .entry)) c) (linePixels start stride n) ⌝ }
-{
-    for k in 0..n {
-        let i = start + k * stride;
-        median::put(values, at + k, colours[3 * i + c]);
-    }
-}
 
 // The reference of channel c: the median of the border list's values.
 fn channel(colours: &[f64], h: usize, w: usize, c: usize, work: &mut [u32]) -> f64
@@ -47,12 +23,12 @@ fn channel(colours: &[f64], h: usize, w: usize, c: usize, work: &mut [u32]) -> f
     ensures { λ r. ⌜ r ≡ referenceChannel (now (colours .entry)) h w c ⌝ }
     ensures { λ r. ⌜ colourOk r ≡ true ⌝ }
 {
-    let m = flood::between(h);
-    gather(colours, c, 0, 1, w, 0, work);
-    gather(colours, c, (h - 1) * w, 1, w, w, work);
-    gather(colours, c, w, w, m, w + w, work);
-    gather(colours, c, w + (w - 1), w, m, w + w + m, work);
-    median::median(&work[0..2 * (w + w + m + m)])
+    let n = flood::border_count(h, w);
+    for k in 0..n {
+        let i = flood::border_pixel(h, w, k);
+        median::put(work, k, colours[3 * i + c]);
+    }
+    median::median(&work[0..2 * n])
 }
 
 // The reference colour of the border.
@@ -82,30 +58,18 @@ fn close_plane(colours: &[f64], reference: Rgb, tolerance: f64, out: &mut [u8])
     }
 }
 
-// How many of n pixels are on, the first `start` and each `stride` after the one before.
-fn count(mask: &[u8], start: usize, stride: usize, n: usize) -> usize
-    requires { ⌜ OnPlane (now mask) start stride n ⌝ }
-    ensures { λ r. ⌜ r ≡ countOn (now (mask .entry)) (linePixels start stride n) ⌝ }
-    ensures { λ r. ⌜ r ≤ n ⌝ }
-{
-    let mut count = 0usize;
-    for k in 0..n {
-        count += plane::byte(mask[start + k * stride] != 0) as usize;
-    }
-    count
-}
-
 // Whether at least nine tenths of the border list are on.
 fn mostly(mask: &[u8], h: usize, w: usize) -> bool
     requires { ⌜ Closed (now mask) h w ⌝ }
     ensures { λ r. ⌜ r ≡ leb (9 * length (borderList h w)) (10 * countOn (now (mask .entry)) (borderList h w)) ⌝ }
 {
-    let m = flood::between(h);
-    let first = count(mask, 0, 1, w);
-    let last = count(mask, (h - 1) * w, 1, w);
-    let left = count(mask, w, w, m);
-    let right = count(mask, w + (w - 1), w, m);
-    9 * (w + w + m + m) <= 10 * (first + last + left + right)
+    let total = flood::border_count(h, w);
+    let mut count = 0usize;
+    for k in 0..total {
+        let i = flood::border_pixel(h, w, k);
+        count += plane::byte(mask[i] != 0) as usize;
+    }
+    9 * total <= 10 * count
 }
 
 // Every pixel becomes 0.

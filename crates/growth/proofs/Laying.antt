@@ -12,7 +12,8 @@ use Rattle.plane.specs.Plane.{on, bit, apart, table}
 use Rattle.plane.specs.Search.{someBelow}
 use Rattle.plane.proofs.Search.{either, some-same}
 use Rattle.plane.proofs.Plane.{row-of, column-of, plane-index, table-same, on-bit}
-use Rattle.plane.specs.Mask.{isOn, maskOf, complementOf}
+use Rattle.plane.specs.Mask.{isOn, maskOf}
+use Rattle.plane.specs.steps.Complement.{complementOf}
 use Rattle.squares.specs.Squares.{reach, inSquare, squaresPlane}
 use Rattle.squares.proofs.Laws.{reach-some, square-is, squares-length}
 use Rattle.outline.specs.Growth.{nearGround, isEdge, isShallow, isDeep}

@@ -9,7 +9,7 @@ use lib.IntN.{ℤ}
 use lib.ListN.{length}
 use lib.Ieee.{Float}
 use borrow.Author.Tests.{eq-eqb, ne-eqb, eqb-true, leb-true}
-use Rattle.plane.specs.Plane.{Sides}
+use Rattle.plane.specs.steps.Sides.{Sides}
 use Rattle.plane.specs.Refusal.{roomFor}
 use Rattle.plane.specs.declared.Box.{Box}
 use Rattle.plane.proofs.Refusal.{passed, sides-are, written, kept}

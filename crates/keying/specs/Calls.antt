@@ -25,10 +25,11 @@ use Rattle.outline.specs.declared.Outcome.{Outcome}
 
 -- ---- flat_background
 
+-- the refusal of a call with these buffers, 0 where it is accepted (R55)
 abbrev pub groundRefusalIn : List Float → ℕ → ℕ → Float → List ℕ → List ℕ → ℕ
 groundRefusalIn colours h w tolerance work out = groundRefusal colours h w tolerance (length out) (length work)
 
--- the ground of a picture, by the reference of its border
+-- the ground of a picture, by the reference of its border (R22)
 pub record GroundCalled (colours : List Float) (h w : ℕ) (tolerance : Float) (work out : List ℕ)
     (r : Ground) (work′ out′ : List ℕ) : Type 0 where
   pub answer : r ≡ groundFor (groundRefusalIn colours h w tolerance work out) colours h w (referenceOf colours h w) tolerance
@@ -38,7 +39,7 @@ pub record GroundCalled (colours : List Float) (h w : ℕ) (tolerance : Float) (
 
 -- ---- unmix_fringe
 
--- the buffers that growth is lent: its output and four work buffers
+-- the buffers that growth is lent: its output and four work buffers (R46)
 pub record GrowthBuffers : Type 0 where
   pub out : List ℕ
   pub nearest : List ℕ
@@ -46,12 +47,13 @@ pub record GrowthBuffers : Type 0 where
   pub deep : List ℕ
   pub marks : List ℕ
 
+-- the refusal of a call with these buffers (R56)
 abbrev pub growthRefusalIn : List Float → List ℕ → ℕ → ℕ → Rgb → GrowthBuffers → ℕ
 growthRefusalIn colours background h w reference b =
     growthRefusal colours (length background) h w reference (length (b .out))
     (length (b .nearest)) (length (b .shallow)) (length (b .deep)) (length (b .marks))
 
--- the background after at most p passes
+-- the background after at most p passes (R29)
 pub record GrowthCalled (colours : List Float) (background : List ℕ) (h w : ℕ) (reference : Rgb) (p : ℤ) (b : GrowthBuffers)
     (r : Answer) (b′ : GrowthBuffers) : Type 0 where
   pub answer : r ≡ answerFor (growthRefusalIn colours background h w reference b)
@@ -61,11 +63,11 @@ pub record GrowthCalled (colours : List Float) (background : List ℕ) (h w : �
 
 -- ---- subject
 
--- the cut of a picture, by the reference of its border
+-- the cut of a picture, by the reference of its border (R30 to R36)
 abbrev pub cutIn : List Float → List ℕ → ℕ → ℕ → Settings → Cut
 cutIn colours alpha h w s = cutOf colours alpha h w (referenceOf colours h w) s
 
--- a call of the cut with these buffers has answered r and left these
+-- a call of the cut with these buffers has answered r and left these (R63)
 pub record Called (colours : List Float) (alpha : List ℕ) (h w : ℕ) (s : Settings) (b : Buffers) (r : Outcome) (b′ : Buffers) : Type 0 where
   pub answer : r ≡ outcomeFor (refusalIn colours alpha h w s b) (cutIn colours alpha h w s)
   pub mask-is : b′ .mask ≡ after (refusalIn colours alpha h w s b) (cutIn colours alpha h w s .mask) (b .mask)
@@ -74,7 +76,7 @@ pub record Called (colours : List Float) (alpha : List ℕ) (h w : ℕ) (s : Set
   -- what is lent are binary64 numbers, as every f64 in memory is
   pub held : HeldIn colours s
 
--- two calls have one outline: the same answer, and, accepted, the same mask and the same weights bit for bit
+-- two calls have one outline: the same answer, and, accepted, the same mask and the same weights bit for bit (R66)
 pub record OneOutline (r q : Outcome) (b′ c′ : Buffers) : Type 0 where
   pub answers : r ≡ q
   pub masks : refusalOfOutcome r ≡ 0 → b′ .mask ≡ c′ .mask

@@ -38,7 +38,10 @@ module _ (p : ℕ → Bool) where
       (λ (m : b < a). (let q : a ≡ suc b = omega arith in rw q (omega arith)))
       (λ (m : a ≤ b). (
       let z = count-slow a b m in
-      ⊎-elim {C = countBelow b p + cond (p b) 1 0 + a ≤ countBelow a p + suc b} (λ e. rw e (omega arith)) (λ e. rw e (omega arith)) (either (p b))))
+      ⊎-elim {C = countBelow b p + cond (p b) 1 0 + a ≤ countBelow a p + suc b}
+      (λ e. rw e (omega arith))
+      (λ e. rw e (omega arith))
+      (either (p b))))
       (which b a)
 
   -- and stays where p holds of none in between
@@ -69,7 +72,8 @@ module _ (p : ℕ → Bool) where
       (which k (countBelow n p))
 
 -- where one number below n is taken away, the count is one less
-pub count-without : (p q : ℕ → Bool) (n i : ℕ) → i < n → p i ≡ true → q i ≡ false → ((k : ℕ) → (k ≡ i → ⊥) → q k ≡ p k) → countBelow n q + 1 ≡ countBelow n p
+pub count-without : (p q : ℕ → Bool) (n i : ℕ) → i < n → p i ≡ true → q i ≡ false → ((k : ℕ) → (k ≡ i → ⊥) → q k ≡ p k)
+    → countBelow n q + 1 ≡ countBelow n p
 unfolding countBelow
 count-without p q zero i l e g same = absurd (not-suc-le-zero l)
 count-without p q (suc n) i l e g same =

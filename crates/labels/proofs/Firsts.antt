@@ -9,13 +9,14 @@ use native.Mathlib.Nat.{not-suc-le-zero, le-of-suc-le-suc}
 use native.Mathlib.Omega.{arith}
 use lib.Dec.{eqb, leb}
 use lib.ListN.{length, getD, length-map}
-use borrow.Author.Tests.{leb-true, leb-false, eqb-true, eq-eqb}
+use borrow.Author.Tests.{le-leb, lt-leb, eqb-true, eq-eqb}
 use Rattle.plane.specs.Plane.{table}
 use Rattle.plane.proofs.Plane.{table-at, table-length}
 use Rattle.plane.proofs.Search.{which, either, or-right}
 use Rattle.plane.proofs.Refusal.{and-true}
 use Rattle.plane.specs.Mask.{isOn}
-use Rattle.labels.specs.Labels.{beside, Joined, same, onward, lesser, renamed, merge, joinTwo, joinWith, joinUpto, firstPixel, isFirst}
+use Rattle.labels.specs.Labels.{beside, Joined, same, onward, lesser, renamed, merge, joinTwo, joinWith, joinUpto}
+use Rattle.labels.specs.Labels.{firstPixel, isFirst}
 use Rattle.plane.proofs.Mask.{on-inside}
 use Rattle.labels.proofs.Joined.{beside-back, start-on, end-on, joined-trans, joined-sym}
 
@@ -42,30 +43,34 @@ unfolding renamed
 renamed-right a b = rw (or-right (eqb b a) (eqb b b) (eq-eqb b b refl))
 
 -- a number is one of the two, and renamed to the lesser, or stays
-pub renamed-cases : (a b n : ℕ) → ((n ≡ a) × (renamed a b n ≡ lesser a b)) ⊎ (((n ≡ b) × (renamed a b n ≡ lesser a b)) ⊎ (renamed a b n ≡ n))
+abbrev pub Cases : ℕ → ℕ → ℕ → Type 0
+Cases a b n = (((n ≡ a) ⊎ (n ≡ b)) × (renamed a b n ≡ lesser a b)) ⊎ (renamed a b n ≡ n)
+
+pub renamed-cases : (a b n : ℕ) → Cases a b n
 unfolding renamed
 renamed-cases a b n = cases (eqb n a) (eqb n b) refl refl
   where
-    cases : (s t : Bool) → eqb n a ≡ s → eqb n b ≡ t → ((n ≡ a) × (cond (s || t) (lesser a b) n ≡ lesser a b)) ⊎ (((n ≡ b) × (cond (s || t) (lesser a b) n ≡ lesser a b)) ⊎ (cond (s || t) (lesser a b) n ≡ n))
-    cases true t e g = inl (eqb-true n a e, refl)
-    cases false true e g = inr (inl (eqb-true n b g, refl))
-    cases false false e g = inr (inr refl)
+    Out : Bool → Bool → ℕ
+    Out s t = cond (s || t) (lesser a b) n
 
-pub lesser-left : (a b : ℕ) → lesser a b ≤ a
-unfolding lesser
-lesser-left a b =
-    ⊎-elim {C = cond (leb a b) a b ≤ a}
-    (λ (e : leb a b ≡ true). rw e (omega arith))
-    (λ (e : leb a b ≡ false). (let l = leb-false a b e in rw e (omega arith)))
-    (either (leb a b))
+    cases : (s t : Bool) → eqb n a ≡ s → eqb n b ≡ t → (((n ≡ a) ⊎ (n ≡ b)) × (Out s t ≡ lesser a b)) ⊎ (Out s t ≡ n)
+    cases true t e g = inl (inl (eqb-true n a e), refl)
+    cases false true e g = inl (inr (eqb-true n b g), refl)
+    cases false false e g = inr refl
 
-pub lesser-right : (a b : ℕ) → lesser a b ≤ b
+-- the lesser of two numbers is one of them
+pub lesser-cases : (a b : ℕ) → ((lesser a b ≡ a) × (a ≤ b)) ⊎ ((lesser a b ≡ b) × (b ≤ a))
 unfolding lesser
-lesser-right a b =
-    ⊎-elim {C = cond (leb a b) a b ≤ b}
-    (λ (e : leb a b ≡ true). (let l = leb-true a b e in rw e (omega arith)))
-    (λ (e : leb a b ≡ false). rw e (omega arith))
-    (either (leb a b))
+lesser-cases a b =
+    ⊎-elim {C = ((cond (leb a b) a b ≡ a) × (a ≤ b)) ⊎ ((cond (leb a b) a b ≡ b) × (b ≤ a))}
+    (λ (l : b < a). inr (rw (lt-leb a b l), omega arith))
+    (λ (l : a ≤ b). inl (rw (le-leb a b l), l))
+    (which b a)
+
+-- and neither is less
+pub lesser-low : (a b : ℕ) → (lesser a b ≤ a) × (lesser a b ≤ b)
+lesser-low a b =
+    ⊎-elim {C = (lesser a b ≤ a) × (lesser a b ≤ b)} (λ z. omega (arith, z .0, z .1)) (λ z. omega (arith, z .0, z .1)) (lesser-cases a b)
 
 -- the pixels i and j carry one number
 abbrev Alike : List ℕ → ℕ → ℕ → Type 0
@@ -74,12 +79,8 @@ Alike l i j = getD l i 0 ≡ getD l j 0
 module _ (mask : List ℕ) (w : ℕ) where
   -- the lesser of two numbers that are joined is joined to both
   lesser-joined : (a b : ℕ) → Joined mask w a b → Joined mask w (lesser a b) a
-  unfolding lesser
   lesser-joined a b r =
-      ⊎-elim {C = Joined mask w (cond (leb a b) a b) a}
-      (λ (e : leb a b ≡ true). rw e (same (start-on r)))
-      (λ (e : leb a b ≡ false). rw e (joined-sym r))
-      (either (leb a b))
+      ⊎-elim {C = Joined mask w (lesser a b) a} (λ z. rw (z .0) (same (start-on r))) (λ z. rw (z .0) (joined-sym r)) (lesser-cases a b)
 
   -- every on-pixel carries the number of a pixel joined to it that is not after it
   record Sound (numbers : List ℕ) : Type 0 where
@@ -98,18 +99,15 @@ module _ (mask : List ℕ) (w : ℕ) where
       least = λ i e. rw (merge-at a b numbers i (inside i e)) (least-at i e (renamed-cases a b (getD numbers i 0)));
     }
       where
-        Cases : ℕ → Type 0
-        Cases n = ((n ≡ a) × (renamed a b n ≡ lesser a b)) ⊎ (((n ≡ b) × (renamed a b n ≡ lesser a b)) ⊎ (renamed a b n ≡ n))
+        joined-at : (i : ℕ) → isOn mask i ≡ true → Cases a b (getD numbers i 0) → Joined mask w (renamed a b (getD numbers i 0)) i
+        joined-at i e (inl (inl q, z)) = rw z (joined-trans (lesser-joined a b r) (rw q at (s .joined i e)))
+        joined-at i e (inl (inr q, z)) = rw z (joined-trans (joined-trans (lesser-joined a b r) r) (rw q at (s .joined i e)))
+        joined-at i e (inr z) = rw z (s .joined i e)
 
-        joined-at : (i : ℕ) → isOn mask i ≡ true → Cases (getD numbers i 0) → Joined mask w (renamed a b (getD numbers i 0)) i
-        joined-at i e (inl z) = rw (z .1) (joined-trans (lesser-joined a b r) (rw (z .0) at (s .joined i e)))
-        joined-at i e (inr (inl z)) = rw (z .1) (joined-trans (joined-trans (lesser-joined a b r) r) (rw (z .0) at (s .joined i e)))
-        joined-at i e (inr (inr z)) = rw z (s .joined i e)
-
-        least-at : (i : ℕ) → isOn mask i ≡ true → Cases (getD numbers i 0) → renamed a b (getD numbers i 0) ≤ i
-        least-at i e (inl z) = rw (z .1) (omega (arith, lesser-left a b, s .least i e, z .0))
-        least-at i e (inr (inl z)) = rw (z .1) (omega (arith, lesser-right a b, s .least i e, z .0))
-        least-at i e (inr (inr z)) = rw z (s .least i e)
+        least-at : (i : ℕ) → isOn mask i ≡ true → Cases a b (getD numbers i 0) → renamed a b (getD numbers i 0) ≤ i
+        least-at i e (inl (inl q, z)) = rw z (omega (arith, lesser-low a b, s .least i e))
+        least-at i e (inl (inr q, z)) = rw z (omega (arith, lesser-low a b, s .least i e))
+        least-at i e (inr z) = rw z (s .least i e)
 
     merge-keeps : (a b i j : ℕ) → isOn mask i ≡ true → isOn mask j ≡ true → Alike numbers i j → Alike (merge a b numbers) i j
     merge-keeps a b i j e g q = merge-at a b numbers i (inside i e) ∙ ap (renamed a b) q ∙ sym (merge-at a b numbers j (inside j g))
@@ -160,7 +158,8 @@ module _ (mask : List ℕ) (w : ℕ) where
     with-keeps i (suc n) p q e g r =
         two-keeps (joinWith mask w i n numbers) (with-sound numbers s i n) i n p q e g (with-keeps i n p q e g r)
 
-    with-does : (i n j : ℕ) → j < n → isOn mask i ≡ true → isOn mask j ≡ true → beside w i j ≡ true → Alike (joinWith mask w i n numbers) i j
+    with-does : (i n j : ℕ) → j < n → isOn mask i ≡ true → isOn mask j ≡ true → beside w i j ≡ true
+        → Alike (joinWith mask w i n numbers) i j
     unfolding joinWith
     with-does i zero j l e g b = absurd (not-suc-le-zero l)
     with-does i (suc n) j l e g b =

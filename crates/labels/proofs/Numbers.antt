@@ -25,7 +25,7 @@ use Rattle.plane.proofs.Mask.{on-inside}
 use Rattle.labels.proofs.Joined.{start-on, spreads}
 use Rattle.labels.proofs.Firsts.{first-joined, first-least, first-same, is-first, first-on}
 use Rattle.labels.proofs.Laws.{label-on, label-off}
-use Rattle.labels.proofs.Forests.{set-cases}
+use Rattle.labels.proofs.Forests.{set-cases, less-of}
 
 -- ---- numbering
 
@@ -89,7 +89,7 @@ module _ (old : List ℕ) (m : ℕ) (t : Trees old m) where
         let p = getD new k 0 in
         let d : p ≤ k = omega (arith, same-k, f .down k high) in
         let a : rep p ≡ rep k = ap rep same-k ∙ f .along k high in
-        let less : p < k = ⊎-elim {C = p < k} (λ (z : p < k). z) (λ (z : k ≤ p). absurd (ne (omega arith))) (which p k) in
+        let less : p < k = less-of d ne in
         let some : 0 < p = omega (arith, a, f .some k low, f .low p) in
         rw e (g .done rep f p some less ∙ ap (λ (i : ℕ). 1 + countBelow i (isRoot old)) a)))
         (either (eqb (getD new k 0) k))
@@ -98,9 +98,11 @@ module _ (old : List ℕ) (m : ℕ) (t : Trees old m) where
     count-is =
         ⊎-elim {C = count' ≡ countBelow (k + 1) (isRoot old)}
         (λ (e : eqb (getD new k 0) k ≡ true).
-        rw (e, add-one k) (omega (arith, g .count, count-more (isRoot old) k (root-is old k low (sym same-k ∙ eqb-true (getD new k 0) k e)))))
+        let root = root-is old k low (sym same-k ∙ eqb-true (getD new k 0) k e) in
+        rw (e, add-one k) (omega (arith, g .count, count-more (isRoot old) k root)))
         (λ (e : eqb (getD new k 0) k ≡ false).
-        rw (e, add-one k) (omega (arith, g .count, count-no-more (isRoot old) k (root-not old k low (λ q. eqb-false (getD new k 0) k e (same-k ∙ q))))))
+        let no-root = root-not old k low (λ q. eqb-false (getD new k 0) k e (same-k ∙ q)) in
+        rw (e, add-one k) (omega (arith, g .count, count-no-more (isRoot old) k no-root)))
         (either (eqb (getD new k 0) k))
 
     pub one-numbered : Numbered old (set new k value) m (k + 1) count'
@@ -111,13 +113,10 @@ module _ (old : List ℕ) (m : ℕ) (t : Trees old m) where
       done = λ rep f l a b.
           ⊎-elim {C = getD (set new k value) l 0 ≡ 1 + countBelow (rep l) (isRoot old)}
           (λ z. z .1 ∙ value-is rep f ∙ ap (λ (i : ℕ). 1 + countBelow (rep i) (isRoot old)) (sym (z .0)))
-          (λ z. z .1 ∙ g .done rep f l a (below l b (z .0)))
-          (set-cases new k l value k-in);
+          (λ z. z .1 ∙ g .done rep f l a (less-of (omega arith) (z .0)))
+          (set-cases new k value k-in l);
       rest = λ l a. getD-set-other new k l value 0 (λ q. omega arith) ∙ g .rest l (omega arith);
     }
-      where
-        below : (l : ℕ) → l < k + 1 → (l ≡ k → ⊥) → l < k
-        below l b q = ⊎-elim {C = l < k} (λ (z : l < k). z) (λ (z : k ≤ l). absurd (q (omega arith))) (which l k)
 
 -- ---- the numbers are the labels
 
@@ -131,27 +130,37 @@ unfolding countBelow
 one-each p q a b e g = rw (e, g)
 
 module _ {mask labels parents : List ℕ} {h w m : ℕ} (fits : length mask ≡ h * w) (s : Scanned mask labels parents h w (h * w) m) where
+  abbrev lab : ℕ → ℕ
+  lab k = getD labels k 0
+
   in-plane : (k : ℕ) → isOn mask k ≡ true → k < h * w
   in-plane k o = omega (arith, on-inside mask k o)
 
-  pub label-in : (k : ℕ) → k < h * w → getD labels k 0 ≤ m
+  pub label-in : (k : ℕ) → k < h * w → lab k ≤ m
   label-in k l =
-      ⊎-elim {C = getD labels k 0 ≤ m} (λ e. s .on k l e .1) (λ e. omega (arith, s .off k l e)) (either (isOn mask k))
+      ⊎-elim {C = lab k ≤ m} (λ e. s .on k l e .1) (λ e. omega (arith, s .off k l e)) (either (isOn mask k))
 
   -- pixels that are joined have one root
-  one-root : {i j : ℕ} → Joined mask w i j → s .rep (getD labels i 0) ≡ s .rep (getD labels j 0)
+  one-root : {i j : ℕ} → Joined mask w i j → s .rep (lab i) ≡ s .rep (lab j)
   one-root {i} {j} r =
-      spreads (λ (k : ℕ). (isOn mask k ≡ true) × (s .rep (getD labels i 0) ≡ s .rep (getD labels k 0)))
+      spreads (λ (k : ℕ). (isOn mask k ≡ true) × (s .rep (lab i) ≡ s .rep (lab k)))
       (λ a b p d o. (o, p .1 ∙ s .alike a b (in-plane a (p .0)) (in-plane b o) (p .0) o d))
       r (start-on r, refl) .1
 
-  -- no label is above one whose seed is not after its own
+  -- labels and their seeds are in one order
   seeds-order : (a b : ℕ) → 0 < a → a ≤ m → 0 < b → b ≤ m → s .seed a ≤ s .seed b → a ≤ b
   seeds-order a b p q u v l =
       ⊎-elim {C = a ≤ b} (λ (z : b < a). absurd (omega (arith, s .rises b a u z q))) (λ (z : a ≤ b). z) (which b a)
 
+  order-seeds : (a b : ℕ) → 0 < a → a ≤ b → b ≤ m → s .seed a ≤ s .seed b
+  order-seeds a b p l q =
+      ⊎-elim {C = s .seed a ≤ s .seed b}
+      (λ (z : a < b). omega (arith, s .rises a b p z q))
+      (λ (z : b ≤ a). (let e : a ≡ b = omega arith in rw e (omega arith)))
+      (which a b)
+
   -- a first pixel has a label, whose seed it is
-  first-label : (k : ℕ) → isFirst mask h w k ≡ true → (0 < getD labels k 0) × (getD labels k 0 ≤ m) × (s .seed (getD labels k 0) ≡ k)
+  first-label : (k : ℕ) → isFirst mask h w k ≡ true → (0 < lab k) × (lab k ≤ m) × (s .seed (lab k) ≡ k)
   first-label k f =
       let o = first-on mask h w fits k f .0 in
       let z = s .on k (in-plane k o) o in
@@ -163,18 +172,20 @@ module _ {mask labels parents : List ℕ} {h w m : ℕ} (fits : length mask ≡ 
       let o = s .own l p q in
       let f = firstPixel mask h w (s .seed l) in
       let z = first-label f (is-first mask h w fits (s .seed l) (o .0)) in
-      let c : s .rep (getD labels f 0) ≡ l = one-root (first-joined mask h w fits (s .seed l) (o .0)) ∙ ap (s .rep) (o .1) ∙ e in
-      let i : l ≤ getD labels f 0 = omega (arith, c, s .forest .low (getD labels f 0)) in
-      let j : getD labels f 0 ≤ l = seeds-order (getD labels f 0) l (z .0) (z .1) p q (omega (arith, z .2, first-least mask h w fits (s .seed l) (o .0))) in
-      let n : getD labels f 0 ≡ l = omega arith in
+      let c : s .rep (lab f) ≡ l = one-root (first-joined mask h w fits (s .seed l) (o .0)) ∙ ap (s .rep) (o .1) ∙ e in
+      let i : l ≤ lab f = omega (arith, c, s .forest .low (lab f)) in
+      let low = first-least mask h w fits (s .seed l) (o .0) in
+      let j : lab f ≤ l = seeds-order (lab f) l (z .0) (z .1) p q (omega (arith, z .2)) in
+      let n : lab f ≡ l = omega arith in
       sym (z .2) ∙ ap (s .seed) n
 
   -- the root of a pixel's label has the first pixel of its part as its seed
-  root-seed : (k : ℕ) → isOn mask k ≡ true → s .seed (s .rep (getD labels k 0)) ≡ firstPixel mask h w k
+  root-seed : (k : ℕ) → isOn mask k ≡ true → s .seed (s .rep (lab k)) ≡ firstPixel mask h w k
   root-seed k o =
       let z = s .on k (in-plane k o) o in
-      let r = s .rep (getD labels k 0) in
-      sym (root-first r (s .forest .some (getD labels k 0) (z .0)) (omega (arith, s .forest .low (getD labels k 0), z .1)) (s .forest .again (getD labels k 0)))
+      let r = s .rep (lab k) in
+      let low : r ≤ m = omega (arith, s .forest .low (lab k), z .1) in
+      sym (root-first r (s .forest .some (lab k) (z .0)) low (s .forest .again (lab k)))
       ∙ first-same mask h w fits (s .joined k (in-plane k o) o)
 
   -- a label is a root exactly when its seed is a first pixel
@@ -205,38 +216,25 @@ module _ {mask labels parents : List ℕ} {h w m : ℕ} (fits : length mask ≡ 
   endOf zero = 0
   endOf (suc l) = s .seed (suc l) + 1
 
+  end-is : (l : ℕ) → 0 < l → endOf l ≡ s .seed l + 1
+  unfolding endOf
+  end-is zero p = absurd (not-suc-le-zero p)
+  end-is (suc l) p = refl
+
   -- no first pixel lies between two seeds, or after the last
   none-between : (l k : ℕ) → l ≤ m → endOf l ≤ k → (l < m → k < s .seed (l + 1)) → isFirst mask h w k ≡ false
-  unfolding endOf
   none-between l k q i j =
       ⊎-elim {C = isFirst mask h w k ≡ false}
       (λ (f : isFirst mask h w k ≡ true). (
       let z = first-label k f in
-      let a : l < getD labels k 0 = after l q i z in
-      let b : k < s .seed (l + 1) = j (omega (arith, z .1)) in
       ⊎-elim {C = isFirst mask h w k ≡ false}
-      (λ (d : l + 1 < getD labels k 0). absurd (omega (arith, s .rises (l + 1) (getD labels k 0) (omega arith) d (z .1), z .2)))
-      (λ (d : getD labels k 0 ≤ l + 1). (
-      let e : getD labels k 0 ≡ l + 1 = omega arith in
-      let g : s .seed (l + 1) ≡ k = ap (s .seed) (sym e) ∙ z .2 in
-      absurd (omega arith)))
-      (which (l + 1) (getD labels k 0))))
+      (λ (a : l < lab k).
+      let next = order-seeds (l + 1) (lab k) (omega arith) (omega arith) (z .1) in
+      absurd (omega (arith, j (omega (arith, z .1)), z .2)))
+      (λ (a : lab k ≤ l). absurd (omega (arith, z .2, order-seeds (lab k) l (z .0) a q, end-is l (omega (arith, z .0)))))
+      (which l (lab k))))
       (λ (f : isFirst mask h w k ≡ false). f)
       (either (isFirst mask h w k))
-    where
-      after : (l : ℕ) → l ≤ m → endOf l ≤ k → (0 < getD labels k 0) × (getD labels k 0 ≤ m) × (s .seed (getD labels k 0) ≡ k) → l < getD labels k 0
-      after zero q i z = z .0
-      after (suc l) q i z =
-          ⊎-elim {C = suc l < getD labels k 0}
-          (λ (d : suc l < getD labels k 0). d)
-          (λ (d : getD labels k 0 ≤ suc l).
-          ⊎-elim {C = suc l < getD labels k 0}
-          (λ (e : getD labels k 0 < suc l). absurd (omega (arith, z .2, s .rises (getD labels k 0) (suc l) (z .0) e q)))
-          (λ (e : suc l ≤ getD labels k 0). (
-          let g : s .seed (suc l) ≡ k = ap (s .seed) (let q : suc l ≡ getD labels k 0 = omega arith in q) ∙ z .2 in
-          absurd (omega arith)))
-          (which (getD labels k 0) (suc l)))
-          (which (suc l) (getD labels k 0))
 
   end-low : (l : ℕ) → suc l ≤ m → endOf l ≤ s .seed (suc l)
   unfolding endOf
@@ -252,10 +250,7 @@ module _ {mask labels parents : List ℕ} {h w m : ℕ} (fits : length mask ≡ 
   -- so the roots up to label l are as many as the first pixels up to its seed
   roots-upto : (l : ℕ) → l ≤ m → countBelow (suc l) (isRoot parents) ≡ countBelow (endOf l) (isFirst mask h w)
   unfolding endOf
-  roots-upto zero q = omega (arith, count-few parents 1 (omega arith), none-yet)
-    where
-      none-yet : countBelow 0 (isFirst mask h w) ≡ 0
-      none-yet = nothing (isFirst mask h w)
+  roots-upto zero q = omega (arith, count-few parents 1 (omega arith), nothing (isFirst mask h w))
   roots-upto (suc l) q =
       let z = roots-upto l (omega arith) ∙ sym (gap-count l q) in
       let a = root-alike (suc l) (omega arith) q in
@@ -271,60 +266,64 @@ module _ {mask labels parents : List ℕ} {h w m : ℕ} (fits : length mask ≡ 
   roots-all =
       rw (add-one m)
       (roots-upto m (omega arith)
-      ∙ sym (count-gap (isFirst mask h w) (endOf m) (h * w) (ends m (omega arith)) (λ k i j. none-between m k (omega arith) i (λ d. absurd (omega arith)))))
+      ∙ sym
+      (count-gap (isFirst mask h w) (endOf m) (h * w) (ends m (omega arith))
+      (λ k i j. none-between m k (omega arith) i (λ d. absurd (omega arith)))))
     where
       ends : (l : ℕ) → l ≤ m → endOf l ≤ h * w
       ends zero q = omega arith
       ends (suc l) q = omega (arith, s .inside (suc l) (omega arith) q)
 
   -- the number of the root of a pixel's label is the pixel's label
-  pub number-is : (k : ℕ) → isOn mask k ≡ true → 1 + countBelow (s .rep (getD labels k 0)) (isRoot parents) ≡ labelOf mask h w k
+  pub number-is : (k : ℕ) → isOn mask k ≡ true → 1 + countBelow (s .rep (lab k)) (isRoot parents) ≡ labelOf mask h w k
   number-is k o =
       let z = s .on k (in-plane k o) o in
-      let r = s .rep (getD labels k 0) in
+      let r = s .rep (lab k) in
       ap (λ (i : ℕ). 1 + i)
-      (roots-below r (s .forest .some (getD labels k 0) (z .0)) (omega (arith, s .forest .low (getD labels k 0), z .1))
+      (roots-below r (s .forest .some (lab k) (z .0)) (omega (arith, s .forest .low (lab k), z .1))
       ∙ ap (λ (i : ℕ). countBelow i (isFirst mask h w)) (root-seed k o))
       ∙ sym (label-on mask h w k o)
 
-  -- the plane of numbers
-  pub numbers-are : (new out : List ℕ) (n : ℕ) → Numbered parents new m (m + 1) n → length labels ≡ h * w → out ≡ table (λ (k : ℕ). getD new (getD labels k 0) 0) 0 (length labels) → out ≡ labelsPlane mask h w
+  -- numbers that are 0 off the mask, and else the number of the root of the pixel's label, are the labels
+  labels-by : (out : List ℕ) → length out ≡ h * w → ((k : ℕ) → k < h * w → isOn mask k ≡ false → getD out k 0 ≡ 0)
+      → ((k : ℕ) → k < h * w → isOn mask k ≡ true → getD out k 0 ≡ 1 + countBelow (s .rep (getD labels k 0)) (isRoot parents))
+      → out ≡ labelsPlane mask h w
   unfolding labelsPlane labelAt
-  numbers-are new out n g long e =
-      plane-is h w (labelAt mask h w) out 0 (ap length e ∙ table-length (λ (k : ℕ). getD new (getD labels k 0) 0) 0 (length labels) ∙ long)
+  labels-by out long zeros ones =
+      plane-is h w (labelAt mask h w) out 0 long
       (λ y x a b. (
+      let k = y * w + x in
       let i = pixel-in y x h w a b in
-      ap (λ (l : List ℕ). getD l (y * w + x) 0) e
-      ∙ table-at (λ (k : ℕ). getD new (getD labels k 0) 0) (length labels) (y * w + x) 0 (omega arith)
-      ∙ at (y * w + x) i))
-    where
-      at : (k : ℕ) → k < h * w → getD new (getD labels k 0) 0 ≡ labelOf mask h w k
-      at k i =
-          ⊎-elim {C = getD new (getD labels k 0) 0 ≡ labelOf mask h w k}
-          (λ (o : isOn mask k ≡ true). (let z = s .on k i o in g .done (s .rep) (s .forest) (getD labels k 0) (z .0) (omega (arith, z .1)) ∙ number-is k o))
-          (λ (o : isOn mask k ≡ false). ap (λ (j : ℕ). getD new j 0) (s .off k i o) ∙ g .zero ∙ sym (label-off mask h w k o))
-          (either (isOn mask k))
+      ⊎-elim {C = getD out k 0 ≡ labelOf mask h w k}
+      (λ (o : isOn mask k ≡ true). ones k i o ∙ number-is k o)
+      (λ (o : isOn mask k ≡ false). zeros k i o ∙ sym (label-off mask h w k o))
+      (either (isOn mask k))))
 
-  -- where every label is a root, each is its own number
-  own-number : countBelow (m + 1) (isRoot parents) ≡ m → (l : ℕ) → 0 < l → l ≤ m → 1 + countBelow (s .rep l) (isRoot parents) ≡ l
-  own-number e l p q =
-      let a = count-few parents l p in
-      let b = count-slow (isRoot parents) l (m + 1) (omega arith) in
-      let c = count-slow (isRoot parents) (suc l) (m + 1) (omega arith) in
-      ⊎-elim {C = 1 + countBelow (s .rep l) (isRoot parents) ≡ l}
-      (λ (t : isRoot parents l ≡ true). rw (s .forest .top l q (root-at parents l t .1)) (omega arith))
-      (λ (t : isRoot parents l ≡ false). absurd (omega (arith, count-no-more (isRoot parents) l t)))
-      (either (isRoot parents l))
+  -- so the plane of the labels' numbers is,
+  pub numbers-are : {new out : List ℕ} {n : ℕ} → Numbered parents new m (m + 1) n → length labels ≡ h * w
+      → out ≡ table (λ (k : ℕ). getD new (getD labels k 0) 0) 0 (length labels) → out ≡ labelsPlane mask h w
+  numbers-are {new} {out} g long e =
+      let f : ℕ → ℕ = λ (k : ℕ). getD new (getD labels k 0) 0 in
+      let at : (k : ℕ) → k < h * w → getD out k 0 ≡ f k =
+      λ k i. (ap (λ (l : List ℕ). getD l k 0) e ∙ table-at f (length labels) k 0 (omega arith)) in
+      labels-by out (ap length e ∙ table-length f 0 (length labels) ∙ long)
+      (λ k i o. at k i ∙ ap (λ (j : ℕ). getD new j 0) (s .off k i o) ∙ g .zero)
+      (λ k i o. (let z = s .on k i o in at k i ∙ g .done (s .rep) (s .forest) (getD labels k 0) (z .0) (omega (arith, z .1))))
 
-  -- so the provisional labels are the labels
-  pub labels-stay : (new : List ℕ) (n : ℕ) → Numbered parents new m (m + 1) n → n ≡ m → length labels ≡ h * w → labels ≡ labelsPlane mask h w
-  unfolding labelsPlane labelAt
-  labels-stay new n g e long =
-      plane-is h w (labelAt mask h w) labels 0 long (λ y x a b. at (y * w + x) (pixel-in y x h w a b))
+  -- and so are the provisional labels where every label is a root
+  pub labels-stay : {new : List ℕ} {n : ℕ} → Numbered parents new m (m + 1) n → n ≡ m → length labels ≡ h * w
+      → labels ≡ labelsPlane mask h w
+  labels-stay g e long =
+      labels-by labels long (s .off)
+      (λ k i o. (let z = s .on k i o in sym (own-number (sym (g .count) ∙ e) (lab k) (z .0) (z .1))))
     where
-      at : (k : ℕ) → k < h * w → getD labels k 0 ≡ labelOf mask h w k
-      at k i =
-          ⊎-elim {C = getD labels k 0 ≡ labelOf mask h w k}
-          (λ (o : isOn mask k ≡ true). (let z = s .on k i o in sym (own-number (sym (g .count) ∙ e) (getD labels k 0) (z .0) (z .1)) ∙ number-is k o))
-          (λ (o : isOn mask k ≡ false). s .off k i o ∙ sym (label-off mask h w k o))
-          (either (isOn mask k))
+      own-number : countBelow (m + 1) (isRoot parents) ≡ m → (l : ℕ) → 0 < l → l ≤ m
+          → 1 + countBelow (s .rep l) (isRoot parents) ≡ l
+      own-number e l p q =
+          let a = count-few parents l p in
+          let b = count-slow (isRoot parents) l (m + 1) (omega arith) in
+          let c = count-slow (isRoot parents) (suc l) (m + 1) (omega arith) in
+          ⊎-elim {C = 1 + countBelow (s .rep l) (isRoot parents) ≡ l}
+          (λ (t : isRoot parents l ≡ true). rw (s .forest .top l q (root-at parents l t .1)) (omega arith))
+          (λ (t : isRoot parents l ≡ false). absurd (omega (arith, count-no-more (isRoot parents) l t)))
+          (either (isRoot parents l))

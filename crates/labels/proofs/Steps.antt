@@ -4,9 +4,9 @@ use mathlib.Core.Path.{_≡_, ap, _∙_}
 use mathlib.Core.Bool.{true}
 use mathlib.Core.Logic.{_⊎_, inl, inr, ⊎-elim}
 use Prim.Native.Nat.{ℕ, _+_, _*_, _-_, _/_, _%_, _≤_, _<_}
-use native.Mathlib.Nat.{add-mul, one-mul, add-zero, div-add-mod', mod-lt, mul-add-div-right, mul-add-mod-self-right, div-eq-of-lt, mod-eq-of-lt, add-div-right, add-mod-right}
+use native.Mathlib.Nat.{add-mul, one-mul, add-zero, div-add-mod', mod-lt, mul-add-div-right, mul-add-mod-self-right}
+use native.Mathlib.Nat.{div-eq-of-lt, mod-eq-of-lt, add-div-right, add-mod-right}
 use native.Mathlib.Omega.{arith}
-use lib.Dec.{eqb}
 use borrow.Author.Tests.{eqb-true, eq-eqb}
 use Rattle.plane.specs.Plane.{apart}
 use Rattle.plane.proofs.Plane.{row-of, pixel-in}
@@ -20,11 +20,6 @@ row-is y x w l = mul-add-div-right {m = w} (omega arith) y x ∙ ap (λ (n : ℕ
 
 pub column-is : (y x w : ℕ) → x < w → (y * w + x) % w ≡ x
 column-is y x w l = mul-add-mod-self-right y w x ∙ mod-eq-of-lt l
-
--- whether (j, i) is one step from (y, x)
-pub beside-is : (w y x j i : ℕ) → x < w → i < w → beside w (y * w + x) (j * w + i) ≡ eqb (apart y j + apart x i) 1
-unfolding beside
-beside-is w y x j i a b = rw (row-is y x w a, column-is y x w a, row-is j i w b, column-is j i w b)
 
 module _ (w : ℕ) (wide : 0 < w) where
   -- pixel p + 1 is in p's row unless p ends it

@@ -9,32 +9,20 @@ ghost use Rattle.plane.specs.Plane.{table};
 ghost use Rattle.labels.specs.Labels.{parts, labelsPlane};
 ghost use Rattle.labels.specs.steps.Trees.{Given, Trees, Found, Joinable, Linked, Placeable, Placed, upAt, larger};
 ghost use Rattle.labels.specs.steps.Trees.{Scanned, RowsDone, Numberable, Numbered};
-use plane::wide;
 
-// The parent of label a becomes its parent's parent, which is the result.
-fn halve(parents: &mut [u32], m: u32, a: u32) -> u32
-    requires { ⌜ Trees (now parents) m ⌝ }
-    requires { ⌜ a ≤ m ⌝ }
-    ensures { λ r. ⌜ r ≡ getD (now (parents .entry)) (getD (now (parents .entry)) a 0) 0 ⌝ }
-    ensures { λ r. ⌜ now (parents .exit) ≡ set (now (parents .entry)) a r ⌝ }
-{
-    let b = parents[wide(a)];
-    let c = parents[wide(b)];
-    parents[wide(a)] = c;
-    c
-}
-
-// The root of label l, of the labels up to m.
+// The root of label l, of the labels up to m; on the way each label gets its parent's parent as its parent.
 fn find(parents: &mut [u32], m: u32, l: u32) -> u32
     requires { ⌜ Trees (now parents) m ⌝ }
     requires { ⌜ l ≤ m ⌝ }
     ensures { λ r. ⌜ Found (now (parents .entry)) (now (parents .exit)) m l r ⌝ }
 {
     let mut a = l;
-    let mut b = parents[wide(a)];
+    let mut b = parents[a as usize];
     while b != a {
-        a = halve(parents, m, a);
-        b = parents[wide(a)];
+        let c = parents[b as usize];
+        parents[a as usize] = c;
+        a = c;
+        b = parents[a as usize];
     }
     a
 }
@@ -47,10 +35,10 @@ fn join(parents: &mut [u32], m: u32, a: u32, b: u32) -> u32
     let x = find(parents, m, a);
     let y = find(parents, m, b);
     if x < y {
-        parents[wide(y)] = x;
+        parents[y as usize] = x;
         return x;
     }
-    parents[wide(x)] = y;
+    parents[x as usize] = y;
     y
 }
 
@@ -65,7 +53,7 @@ fn place(v: u8, left: u32, up: u32, diag: u32, m: u32, parents: &mut [u32]) -> u
     }
     if left == 0 {
         if up == 0 {
-            parents[wide(m + 1)] = m + 1;
+            parents[m as usize + 1] = m + 1;
             return m + 1;
         }
         return up;
@@ -154,7 +142,7 @@ fn number(parents: &mut [u32], k: usize, n: u32) -> u32
         (cond (eqb (getD (now (parents .entry)) k 0) k) (n + 1)
         (getD (now (parents .entry)) (getD (now (parents .entry)) k 0) 0)) ⌝ }
 {
-    let p = wide(parents[k]);
+    let p = parents[k] as usize;
     if p == k {
         parents[k] = n + 1;
         return n + 1;
@@ -169,7 +157,7 @@ fn flatten(parents: &mut [u32], m: u32) -> u32
     requires { ⌜ m < 4294967296 ⌝ }
     ensures { λ r. ⌜ Numbered (now (parents .entry)) (now (parents .exit)) m (m + 1) r ⌝ }
 {
-    let end = wide(m) + 1;
+    let end = m as usize + 1;
     let mut n = 0u32;
     let mut k = 1usize;
     while k < end {
@@ -188,7 +176,7 @@ fn rename(numbers: &[u32], labels: &mut [u32])
 {
     let mut i = 0usize;
     while i < labels.len() {
-        labels[i] = numbers[wide(labels[i])];
+        labels[i] = numbers[labels[i] as usize];
         i += 1;
     }
 }

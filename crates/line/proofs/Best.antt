@@ -1,32 +1,29 @@
 -- From the stack's terms to the definition's: a site that leads among all places is what the walk answers; a line is given by its places.
 -- Assumes nothing.
-use mathlib.Core.Path.{_≡_, sym, _∙_}
+use mathlib.Core.Path.{_≡_}
 use mathlib.Core.List.{List}
 use mathlib.Core.Option.{none, some}
 use mathlib.Core.Logic.{⊎-elim}
 use Prim.Native.Nat.{ℕ, _≤_, _<_}
 use native.Mathlib.Omega.{arith}
 use lib.ListN.{length, getD}
-use lib.Seq.{ext-getD}
 use borrow.Author.Tests.{le-leb, lt-leb}
 use Rattle.line.specs.steps.Line.{mostCost, Site, valueAt, offer, best, placeOf, lineOf}
 use Rattle.line.specs.steps.Envelope.{Leads}
 use Rattle.plane.proofs.Search.{which}
-use Rattle.plane.proofs.Plane.{table-length, table-at}
+use Rattle.plane.proofs.Plane.{table-at, table-is}
 use Rattle.line.proofs.Walk.{clash, same, walk-is}
 
 module _ (costs : List ℕ) where
-  pub line-length : length (lineOf costs) ≡ length costs
-  unfolding lineOf
-  line-length = table-length (λ (y : ℕ). placeOf (best costs y)) 0 (length costs)
-
   pub line-at : (x : ℕ) → x < length costs → getD (lineOf costs) x 0 ≡ placeOf (best costs x)
   unfolding lineOf
   line-at x h = table-at (λ (y : ℕ). placeOf (best costs y)) (length costs) x 0 h
 
   -- a list is the line where its places are
-  pub line-is : (out : List ℕ) → length out ≡ length costs → ((x : ℕ) → x < length costs → getD out x 0 ≡ placeOf (best costs x)) → out ≡ lineOf costs
-  line-is out e h = ext-getD 0 out (lineOf costs) (e ∙ sym line-length) (λ x l. h x (omega arith) ∙ sym (line-at x (omega arith)))
+  pub line-is : (out : List ℕ) → length out ≡ length costs
+      → ((x : ℕ) → x < length costs → getD out x 0 ≡ placeOf (best costs x)) → out ≡ lineOf costs
+  unfolding lineOf
+  line-is out e h = table-is (λ (y : ℕ). placeOf (best costs y)) (length costs) out 0 e h
 
   pub offer-site : (x i : ℕ) → Site costs i → offer costs x i ≡ some (valueAt costs x i)
   unfolding offer
@@ -63,4 +60,6 @@ module _ (costs : List ℕ) where
   unfolding best
   no-leader h x =
       walk-is (offer costs x) (length costs) none
-      (λ j l. offer-none x j (⊎-elim (λ (z : mostCost < getD costs j 0). z) (λ (z : getD costs j 0 ≤ mostCost). absurd (h j l z)) (which mostCost (getD costs j 0))))
+      (λ j l.
+      offer-none x j
+      (⊎-elim (λ (z : mostCost < getD costs j 0). z) (λ (z : Site costs j). absurd (h j l z)) (which mostCost (getD costs j 0))))

@@ -9,22 +9,25 @@ use Prim.Native.Nat.{ℕ, zero, suc, _+_, _*_, _≤_, _<_}
 use native.Mathlib.Omega.{arith}
 use lib.ListN.{length}
 use borrow.Author.Tests.{lt-ltb, le-ltb}
-use Rattle.line.specs.steps.FirstLeast.{at, firstLeast, Answers}
+use Rattle.line.specs.steps.FirstLeast.{firstLeast}
 use Rattle.line.specs.Walk.{lower}
 use Rattle.line.specs.steps.Line.{valueAt, offer, best}
 use Rattle.line.specs.steps.Columns.{attach, chosen, Encodes}
 use Rattle.line.specs.Grid.{valueOf, walk, upto, grid, plus}
 use Rattle.plane.specs.Plane.{apart}
 use Rattle.plane.proofs.Search.{which}
-use Rattle.line.proofs.Walk.{walk-answers, walk-is}
 use Rattle.line.proofs.Best.{offer-site, offer-none}
 
 -- the second where it is strictly better, else the first
 unfoldable pub better : {P : Type 0} → (P → Option ℕ) → Option P → Option P → Option P
 better f b c = cond (lower (valueOf f c) (valueOf f b)) c b
 
+-- the places of one column
+abbrev column : {P : Type 0} → ℕ → List P → List (ℕ × P)
+column {P} n ps = map {B = ℕ × P} (λ (p : P). (n, p)) ps
+
 module _ {P : Type 0} (f : P → Option ℕ) where
-  pub walk-append : (b : Option P) (ps qs : List P) → walk f b (ps ++ qs) ≡ walk f (walk f b ps) qs
+  walk-append : (b : Option P) (ps qs : List P) → walk f b (ps ++ qs) ≡ walk f (walk f b ps) qs
   unfolding walk
   walk-append b [] qs = refl
   walk-append b (p ∷ ps) qs = walk-append (cond (lower (f p) (valueOf f b)) (some p) b) ps qs
@@ -63,7 +66,7 @@ module _ {P : Type 0} (f : P → Option ℕ) where
       (which v a)
 
   -- a walk from b is b, or what the walk from nothing gives where that is strictly better
-  pub walk-from : (b : Option P) (ps : List P) → walk f b ps ≡ better f b (walk f none ps)
+  walk-from : (b : Option P) (ps : List P) → walk f b ps ≡ better f b (walk f none ps)
   unfolding walk
   walk-from b [] = unfold better lower valueOf in refl
   walk-from b (p ∷ ps) =
@@ -73,7 +76,7 @@ module _ {P : Type 0} (f : P → Option ℕ) where
 
 module _ {P : Type 0} (f : ℕ → P → Option ℕ) where
   -- the numbers of the grid
-  abbrev over : ℕ × P → Option ℕ
+  abbrev pub over : ℕ × P → Option ℕ
   over q = f (q .0) (q .1)
 
   attach-value : (i : ℕ) (b : Option P) → valueOf over (attach i b) ≡ valueOf (f i) b
@@ -87,11 +90,11 @@ module _ {P : Type 0} (f : ℕ → P → Option ℕ) where
   attach-cond i false p b = refl
 
   -- down a column the grid's walk is the column's
-  walk-column : (i : ℕ) (b : Option P) (ps : List P) → walk over (attach i b) (map {B = ℕ × P} (λ (p : P). (i, p)) ps) ≡ attach i (walk (f i) b ps)
+  walk-column : (i : ℕ) (b : Option P) (ps : List P) → walk over (attach i b) (column i ps) ≡ attach i (walk (f i) b ps)
   unfolding walk
   walk-column i b [] = refl
   walk-column i b (p ∷ ps) =
-      ap (λ (c : Option (ℕ × P)). walk over c (map {B = ℕ × P} (λ (y : P). (i, y)) ps))
+      ap (λ (c : Option (ℕ × P)). walk over c (column i ps))
       (rw (attach-value i b) (attach-cond i (lower (f i p) (valueOf (f i) b)) p b))
       ∙ walk-column i (cond (lower (f i p) (valueOf (f i) b)) (some p) b) ps
 
@@ -103,32 +106,35 @@ module _ {P : Type 0} (f : ℕ → P → Option ℕ) where
     abbrev pub columnCost : ℕ → Option ℕ
     columnCost i = valueOf (f i) (walk (f i) none ps)
 
-    chosen-value : (b : Option ℕ) → valueOf over (chosen columnBest b) ≡ at columnCost b
-    unfolding valueOf chosen at
+    chosen-value : (b : Option ℕ) → valueOf over (chosen columnBest b) ≡ valueOf columnCost b
+    unfolding valueOf chosen
     chosen-value none = refl
     chosen-value (some i) = attach-value i (columnBest i)
 
-    chosen-cond : (n : ℕ) (t : Bool) (b : Option ℕ) → cond t (attach n (columnBest n)) (chosen columnBest b) ≡ chosen columnBest (cond t (some n) b)
+    chosen-cond : (n : ℕ) (t : Bool) (b : Option ℕ)
+        → cond t (attach n (columnBest n)) (chosen columnBest b) ≡ chosen columnBest (cond t (some n) b)
     unfolding chosen
     chosen-cond n true b = refl
     chosen-cond n false b = refl
 
-    first-column : (n : ℕ) → walk over none (map {B = ℕ × P} (λ (p : P). (n, p)) ps) ≡ attach n (columnBest n)
+    first-column : (n : ℕ) → walk over none (column n ps) ≡ attach n (columnBest n)
     unfolding attach
     first-column n = walk-column n none ps
 
-    next-column : (n : ℕ) (b : Option ℕ) → better over (chosen columnBest b) (attach n (columnBest n)) ≡ chosen columnBest (cond (lower (columnCost n) (at columnCost b)) (some n) b)
+    next-column : (n : ℕ) (b : Option ℕ)
+        → better over (chosen columnBest b) (attach n (columnBest n))
+        ≡ chosen columnBest (cond (lower (columnCost n) (valueOf columnCost b)) (some n) b)
     unfolding better
-    next-column n b = rw (attach-value n (columnBest n), chosen-value b) (chosen-cond n (lower (columnCost n) (at columnCost b)) b)
+    next-column n b = rw (attach-value n (columnBest n), chosen-value b) (chosen-cond n (lower (columnCost n) (valueOf columnCost b)) b)
 
     -- the law: one walk over the grid, columns outermost, is the walk over the columns' answers
     pub compose : (n : ℕ) → walk over none (grid n ps) ≡ chosen columnBest (firstLeast columnCost n)
     unfolding grid firstLeast
     compose zero = unfold walk chosen in refl
     compose (suc n) =
-        walk-append over none (grid n ps) (map {B = ℕ × P} (λ (p : P). (n, p)) ps)
-        ∙ ap (λ (b : Option (ℕ × P)). walk over b (map {B = ℕ × P} (λ (p : P). (n, p)) ps)) (compose n)
-        ∙ walk-from over (chosen columnBest (firstLeast columnCost n)) (map {B = ℕ × P} (λ (p : P). (n, p)) ps)
+        walk-append over none (grid n ps) (column n ps)
+        ∙ ap (λ (b : Option (ℕ × P)). walk over b (column n ps)) (compose n)
+        ∙ walk-from over (chosen columnBest (firstLeast columnCost n)) (column n ps)
         ∙ ap (better over (chosen columnBest (firstLeast columnCost n))) (first-column n)
         ∙ next-column n (firstLeast columnCost n)
 
@@ -148,7 +154,7 @@ plus-lower k (some a) (some b) =
     (λ (h : b ≤ a). le-ltb (a + k) (b + k) (omega arith) ∙ sym (le-ltb a b h))
     (which a b)
 
-pub walk-plus : {P : Type 0} (f : P → Option ℕ) (k : ℕ) (b : Option P) (ps : List P) → walk (λ (p : P). plus k (f p)) b ps ≡ walk f b ps
+walk-plus : {P : Type 0} (f : P → Option ℕ) (k : ℕ) (b : Option P) (ps : List P) → walk (λ (p : P). plus k (f p)) b ps ≡ walk f b ps
 unfolding walk
 walk-plus f k b [] = refl
 walk-plus {P} f k b (p ∷ ps) =
@@ -157,51 +163,32 @@ walk-plus {P} f k b (p ∷ ps) =
     ∙ walk-plus f k (cond (lower (f p) (valueOf f b)) (some p) b) ps
 
 -- a walk along a line is one over its places
-same-value : (f : ℕ → Option ℕ) (b : Option ℕ) → valueOf f b ≡ at f b
-unfolding valueOf at
-same-value f none = refl
-same-value f (some i) = refl
-
-last-place : (f : ℕ → Option ℕ) (n : ℕ) (b : Option ℕ) → walk f b (n ∷ []) ≡ cond (lower (f n) (at f b)) (some n) b
-unfolding walk
-last-place f n b = ap (λ (v : Option ℕ). cond (lower (f n) v) (some n) b) (same-value f b)
-
 pub walk-line : (f : ℕ → Option ℕ) (n : ℕ) → walk f none (upto n) ≡ firstLeast f n
-unfolding upto firstLeast
-walk-line f zero = unfold walk in refl
+unfolding upto firstLeast walk
+walk-line f zero = refl
 walk-line f (suc n) =
     walk-append f none (upto n) (n ∷ [])
-    ∙ last-place f n (walk f none (upto n))
-    ∙ ap (λ (b : Option ℕ). cond (lower (f n) (at f b)) (some n) b) (walk-line f n)
+    ∙ ap (λ (b : Option ℕ). cond (lower (f n) (valueOf f b)) (some n) b) (walk-line f n)
 
--- a walk sees the numbers of its places alone
-carry : (f g : ℕ → Option ℕ) (n : ℕ) → ((i : ℕ) → i < n → f i ≡ g i) → (b : Option ℕ) → Answers g n b → Answers f n b
-carry f g n h none a = λ j l. h j l ∙ a j l
-carry f g n h (some i) a =
-    let inner = a .1 .inside in (
-      a .0,
-      record {
-        inside = inner;
-        here = h i inner ∙ a .1 .here;
-        least = λ j w l e. a .1 .least j w l (sym (h j l) ∙ e);
-        first = λ j w l e. a .1 .first j w l (sym (h j (omega arith)) ∙ e);
-      },
-    )
+-- a walk sees the numbers of its places alone: equal numbers give one answer, and its number is the same
+module _ (f g : ℕ → Option ℕ) where
+  one-more : (n : ℕ) (t : Bool) (b c : Option ℕ) → f n ≡ g n → valueOf f b ≡ valueOf g c
+      → valueOf f (cond t (some n) b) ≡ valueOf g (cond t (some n) c)
+  one-more n true b c e h = unfold valueOf in e
+  one-more n false b c e h = h
 
-pub first-least-same : (f g : ℕ → Option ℕ) (n : ℕ) → ((i : ℕ) → i < n → f i ≡ g i) → firstLeast f n ≡ firstLeast g n
-first-least-same f g n h = walk-is f n (firstLeast g n) (carry f g n h (firstLeast g n) (walk-answers g n))
-
-at-inside : (f g : ℕ → Option ℕ) (n : ℕ) → ((i : ℕ) → i < n → f i ≡ g i) → (b : Option ℕ) → Answers f n b → at f b ≡ at g b
-unfolding at
-at-inside f g n h none a = refl
-at-inside f g n h (some i) a = h i (a .1 .inside)
-
--- and its answer's number is the same
-pub at-same : (f g : ℕ → Option ℕ) (n : ℕ) → ((i : ℕ) → i < n → f i ≡ g i) → at f (firstLeast f n) ≡ at g (firstLeast g n)
-at-same f g n h = at-inside f g n h (firstLeast f n) (walk-answers f n) ∙ ap (at g) (first-least-same f g n h)
+  same-walk : (n : ℕ) → ((i : ℕ) → i < n → f i ≡ g i)
+      → (firstLeast f n ≡ firstLeast g n) × (valueOf f (firstLeast f n) ≡ valueOf g (firstLeast g n))
+  unfolding firstLeast
+  same-walk zero h = (refl, unfold valueOf in refl)
+  same-walk (suc n) h =
+      let e = h n (omega arith) in
+      let r = same-walk n (λ i l. h i (omega arith)) in
+      (rw (e, r .1, r .0), rw (e, r .1) (one-more n (lower (g n) (valueOf g (firstLeast g n))) (firstLeast f n) (firstLeast g n) e (r .1)))
 
 -- the line pass over the costs of the columns
-offer-encoded : (costs : List ℕ) (c : ℕ → Option ℕ) (x : ℕ) → Encodes costs c → (i : ℕ) → i < length costs → (v : Option ℕ) → c i ≡ v → plus (apart x i * apart x i) v ≡ offer costs x i
+offer-encoded : (costs : List ℕ) (c : ℕ → Option ℕ) (x : ℕ) → Encodes costs c → (i : ℕ) → i < length costs → (v : Option ℕ) → c i ≡ v
+    → plus (apart x i * apart x i) v ≡ offer costs x i
 unfolding plus valueAt
 offer-encoded costs c x e i l none q = sym (offer-none costs x i (e .no-cost i l q))
 offer-encoded costs c x e i l (some a) q =
@@ -210,12 +197,8 @@ offer-encoded costs c x e i l (some a) q =
     let w = z .1 in
     sym (offer-site costs x i (omega arith) ∙ rw y)
 
-pub best-encoded : (costs : List ℕ) (c : ℕ → Option ℕ) (x : ℕ) → Encodes costs c → firstLeast (λ (i : ℕ). plus (apart x i * apart x i) (c i)) (length costs) ≡ best costs x
-unfolding best
-best-encoded costs c x e =
-    first-least-same (λ (i : ℕ). plus (apart x i * apart x i) (c i)) (offer costs x) (length costs) (λ i l. offer-encoded costs c x e i l (c i) refl)
-
--- two stages: where the costs of a line are those of the columns' answers, the walk over the grid is the line pass and the column's answer there
+-- two stages: where the costs of a line are those of the columns' answers, the walk over the grid is the line pass and the
+-- column's answer there
 module _ {P : Type 0} (c : ℕ → P → Option ℕ) (ps : List P) (x : ℕ) where
   -- the number of a place: its number in its column, and the square of the column's distance
   abbrev pub far : ℕ → P → Option ℕ
@@ -230,20 +213,22 @@ module _ {P : Type 0} (c : ℕ → P → Option ℕ) (ps : List P) (x : ℕ) whe
   far-chosen none = refl
   far-chosen (some i) = ap (attach i) (walk-plus (c i) (apart x i * apart x i) none ps)
 
-  pub two-stages : (costs : List ℕ) → Encodes costs (columnCost c ps)
-      → walk (λ (q : ℕ × P). far (q .0) (q .1)) none (grid (length costs) ps) ≡ chosen (columnBest c ps) (best costs x)
-  two-stages costs e =
-      compose far ps (length costs)
-      ∙ ap (chosen (columnBest far ps))
-      (first-least-same (columnCost far ps) (λ (i : ℕ). plus (apart x i * apart x i) (columnCost c ps i)) (length costs) (λ i l. far-cost i) ∙ best-encoded costs (columnCost c ps) x e)
-      ∙ far-chosen (best costs x)
+  module _ (costs : List ℕ) (e : Encodes costs (columnCost c ps)) where
+    -- the numbers of the columns' answers are those of the line pass
+    offered : (i : ℕ) → i < length costs → columnCost far ps i ≡ offer costs x i
+    offered i l = far-cost i ∙ offer-encoded costs (columnCost c ps) x e i l (columnCost c ps i) refl
 
-  -- and the number of the grid's answer is the number of the line pass, so that a further axis takes it as its cost
-  pub two-stages-value : (costs : List ℕ) → Encodes costs (columnCost c ps)
-      → valueOf (λ (q : ℕ × P). far (q .0) (q .1)) (walk (λ (q : ℕ × P). far (q .0) (q .1)) none (grid (length costs) ps)) ≡ at (offer costs x) (best costs x)
-  unfolding best
-  two-stages-value costs e =
-      ap (valueOf (λ (q : ℕ × P). far (q .0) (q .1))) (compose far ps (length costs))
-      ∙ chosen-value far ps (firstLeast (columnCost far ps) (length costs))
-      ∙ at-same (columnCost far ps) (offer costs x) (length costs)
-      (λ i l. far-cost i ∙ offer-encoded costs (columnCost c ps) x e i l (columnCost c ps i) refl)
+    pub two-stages : walk (over far) none (grid (length costs) ps) ≡ chosen (columnBest c ps) (best costs x)
+    unfolding best
+    two-stages =
+        compose far ps (length costs)
+        ∙ ap (chosen (columnBest far ps)) (same-walk (columnCost far ps) (offer costs x) (length costs) offered .0)
+        ∙ far-chosen (best costs x)
+
+    -- and the number of the grid's answer is the number of the line pass, so that a further axis takes it as its cost
+    pub two-stages-value : valueOf (over far) (walk (over far) none (grid (length costs) ps)) ≡ valueOf (offer costs x) (best costs x)
+    unfolding best
+    two-stages-value =
+        ap (valueOf (over far)) (compose far ps (length costs))
+        ∙ chosen-value far ps (firstLeast (columnCost far ps) (length costs))
+        ∙ same-walk (columnCost far ps) (offer costs x) (length costs) offered .1

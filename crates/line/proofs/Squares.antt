@@ -4,7 +4,8 @@ use mathlib.Core.Path.{_≡_, ap, _∙_}
 use mathlib.Core.List.{List}
 use mathlib.Core.Logic.{⊎-elim}
 use Prim.Native.Nat.{ℕ, _+_, _*_, _-_, _/_, _≤_, _<_}
-use native.Mathlib.Nat.{mul-add, add-mul, one-mul, mul-one, mul-comm, mul-left-comm, mul-le-mul-right, le-div-iff-mul-le, div-lt-iff-lt-mul, mul-le-mul}
+use native.Mathlib.Nat.{mul-add, add-mul, one-mul, mul-one, mul-comm, mul-left-comm, mul-le-mul-right, mul-le-mul}
+use native.Mathlib.Nat.{le-div-iff-mul-le, div-lt-iff-lt-mul}
 use native.Mathlib.Omega.{arith}
 use lib.ListN.{getD}
 use Rattle.plane.specs.Plane.{apart}
@@ -83,15 +84,31 @@ module _ (costs : List ℕ) where
   unfolding takeoverAt
   before i u x h g l =
       let p = balance x i u (omega arith) in
-      let m : x * (2 * (u - i)) ≤ height costs u - height costs i = le-div-iff-mul-le {k = 2 * (u - i)} {x = x} {y = height costs u - height costs i} (omega arith) .0 (omega arith) in
+      let rise = height costs u - height costs i in
+      let m : x * (2 * (u - i)) ≤ rise = le-div-iff-mul-le {k = 2 * (u - i)} {x = x} {y = rise} (omega arith) .0 (omega arith) in
       omega arith
 
   pub after : (i u x : ℕ) → i < u → takeoverAt costs i u ≤ x → valueAt costs x u < valueAt costs x i
   unfolding takeoverAt
   after i u x h l =
       let p = balance x i u (omega arith) in
-      let m : height costs u - height costs i < x * (2 * (u - i)) = div-lt-iff-lt-mul {k = 2 * (u - i)} {x = height costs u - height costs i} {y = x} (omega arith) .0 (omega arith) in
+      let rise = height costs u - height costs i in
+      let m : rise < x * (2 * (u - i)) = div-lt-iff-lt-mul {k = 2 * (u - i)} {x = rise} {y = x} (omega arith) .0 (omega arith) in
       omega arith
+
+-- how far apart two places are, by which is the left one
+pub apart-left : (x j : ℕ) → j ≤ x → apart x j + j ≡ x
+unfolding apart
+apart-left x j l = omega arith
+
+pub apart-right : (x j : ℕ) → x ≤ j → apart x j + x ≡ j
+unfolding apart
+apart-right x j l = omega arith
+
+-- they are not apart where they are one
+pub apart-zero : (x j : ℕ) → apart x j ≡ 0 → j ≡ x
+unfolding apart
+apart-zero x j e = omega arith
 
 -- the square of a number below 65,536 is below 2^32
 pub square-fits : (d : ℕ) → d < 65536 → d * d ≤ 4294836225

@@ -1,4 +1,5 @@
--- The laws of a first-least walk: its answer is a site, no site is strictly better, each site before it is strictly worse; and these determine it.
+-- The laws of a first-least walk: its answer is a site, no site is strictly better, each site before it is strictly worse;
+-- and these determine it.
 -- Assumes nothing.
 use mathlib.Core.Path.{_≡_, refl, ap}
 use mathlib.Core.Bool.{true, false, cond}
@@ -8,8 +9,9 @@ use Prim.Native.Nat.{ℕ, zero, suc, _≤_, _<_}
 use native.Mathlib.Nat.{not-suc-le-zero}
 use native.Mathlib.Omega.{arith}
 use borrow.Author.Tests.{lt-ltb, le-ltb}
-use Rattle.line.specs.steps.FirstLeast.{at, firstLeast, First, Answers}
+use Rattle.line.specs.steps.FirstLeast.{firstLeast, First, Answers}
 use Rattle.line.specs.Walk.{lower}
+use Rattle.line.specs.Grid.{valueOf}
 use Rattle.plane.proofs.Search.{which, below-suc}
 
 -- no place holds a number and none at once
@@ -44,12 +46,14 @@ module _ (f : ℕ → Option ℕ) where
   takes n v e p = record {
     inside = omega arith;
     here = e;
-    least = λ j w l. below-suc (λ (k : ℕ). (x : ℕ) → f k ≡ some x → v ≤ x) n (λ k l x q. (let g = p k x l q in omega arith)) (λ x q. (let g = same (f n) v x e q in omega arith)) j l w;
+    least = λ j w l.
+        below-suc (λ (k : ℕ). (x : ℕ) → f k ≡ some x → v ≤ x) n (λ k l x q. (let g = p k x l q in omega arith))
+        (λ x q. (let g = same (f n) v x e q in omega arith)) j l w;
     first = p;
   }
 
-  step : (n : ℕ) (b a : Option ℕ) → f n ≡ a → Answers f n b → Answers f (suc n) (cond (lower a (at f b)) (some n) b)
-  unfolding lower at
+  step : (n : ℕ) (b a : Option ℕ) → f n ≡ a → Answers f n b → Answers f (suc n) (cond (lower a (valueOf f b)) (some n) b)
+  unfolding lower valueOf
   step n none none e h = below-suc (λ (k : ℕ). f k ≡ none) n h e
   step n none (some w) e h = (w, takes n w e (λ j x l q. clash (f j) x (h j l) q))
   step n (some i) none e h = (h .0, stays n i (h .0) (h .1) (λ w q. clash (f n) w e q))

@@ -2,12 +2,12 @@
 // The answers, the costs and the stack are regions of one buffer, in this order: out, costs and stack say where each starts.
 ghost use mathlib.Core.Path.{_≡_};
 ghost use mathlib.Core.Bool.{true};
-ghost use Prim.Native.Nat.{_+_, _*_, _-_, _/_, _<_, _≤_};
-ghost use lib.ListN.{length, getD, replicate};
+ghost use Prim.Native.Nat.{ℕ, _+_, _*_, _-_, _/_, _<_, _≤_};
+ghost use lib.ListN.{length, getD};
 ghost use Rattle.line.specs.steps.Line.{mostCost, mostLength};
-ghost use Rattle.line.specs.steps.Part.{part};
-ghost use Rattle.line.specs.steps.Envelope.{Room, Tops, Stays, Dropped, Stack, siteAt, startAt, Stacked, Segments, Spread};
-ghost use Rattle.line.specs.steps.Run.{Regions, Ends, Lone, Done, Ran, RunDone, Passed};
+ghost use Rattle.line.specs.steps.Part.{Written};
+ghost use Rattle.line.specs.steps.Envelope.{Room, Tops, Stays, Dropped, Ready, Stacked, Segments, Spread};
+ghost use Rattle.line.specs.steps.Run.{Regions, Ends, Lone, Ran, Passed};
 
 // A place whose cost is above this has no site: 65,535².
 pub const MAX_COST: u32 = 4294836225;
@@ -68,10 +68,7 @@ fn push_site(
     count: usize,
     u: usize,
 ) -> usize
-    requires { ⌜ Room costs stack n (length (now work)) ⌝ }
-    requires { ⌜ u < n ⌝ }
-    requires { ⌜ getD (now work) (costs + u) 0 ≤ mostCost ⌝ }
-    requires { ⌜ Stack (part (now work) costs n) (siteAt (now work) stack) (startAt (now work) stack) u count ⌝ }
+    requires { ⌜ Ready (now work) costs stack n count u ⌝ }
     ensures { λ r. ⌜ Stacked (now (work .entry)) (now (work .exit)) costs stack n (u + 1) r ⌝ }
 {
     let k = drop_worse(work, costs, stack, count, u);
@@ -106,13 +103,14 @@ fn build(work: &mut [u32], costs: usize, stack: usize, n: usize) -> usize
     count
 }
 
-// A stretch of places that have one answer.
-pub fn fill(out: &mut [u32], v: u32)
-    ensures { λ _. ⌜ now (out .exit) ≡ replicate (length (now (out .entry))) v ⌝ }
+// A stretch of places that have one answer: the n places from a on.
+pub fn fill(work: &mut [u32], a: usize, n: usize, v: u32)
+    requires { ⌜ a + n ≤ length (now work) ⌝ }
+    ensures { λ _. ⌜ Written 0 (λ (_ : ℕ). v) a n (now (work .entry)) (now (work .exit)) ⌝ }
 {
     let mut x = 0usize;
-    while x < out.len() {
-        out[x] = v;
+    while x < n {
+        work[a + x] = v;
         x += 1;
     }
 }
@@ -129,9 +127,7 @@ fn answer(work: &mut [u32], out: usize, stack: usize, n: usize, count: usize, ba
         let entry = plane::wide(work[stack + top]);
         let from = entry % BASE;
         let v = (base + entry / BASE) as u32;
-        let a = out + from;
-        let e = out + end;
-        fill(&mut work[a..e], v);
+        fill(work, out + from, end - from, v);
         end = from;
         q = top;
     }
@@ -139,14 +135,12 @@ fn answer(work: &mut [u32], out: usize, stack: usize, n: usize, count: usize, ba
 
 // The line pass over a part of the line that starts at base.
 fn run(work: &mut [u32], out: usize, costs: usize, stack: usize, n: usize, base: usize)
-    requires { ⌜ Regions out costs stack n (length (now work)) ⌝ }
-    requires { ⌜ base ≤ mostLength ⌝ }
+    requires { ⌜ Regions out costs stack n (length (now work)) × (base ≤ mostLength) ⌝ }
     ensures { λ _. ⌜ Ran (now (work .entry)) (now (work .exit)) out costs stack n base ⌝ }
 {
     let count = build(work, costs, stack, n);
     if count == 0 {
-        let e = out + n;
-        fill(&mut work[out..e], NO_PLACE);
+        fill(work, out, n, NO_PLACE);
         return;
     }
     answer(work, out, stack, n, count, base);
@@ -190,23 +184,9 @@ fn lone(work: &[u32], costs: usize, n: usize, x: usize) -> bool
     false
 }
 
-// The run that holds x, from the place before it; its end.
-fn off_run(work: &mut [u32], out: usize, costs: usize, stack: usize, n: usize, x: usize) -> usize
-    requires { ⌜ Regions out costs stack n (length (now work)) ⌝ }
-    requires { ⌜ x < n ⌝ }
-    requires { ⌜ (getD (now work) (costs + x) 0 ≡ 0 → ⊥) ⌝ }
-    requires { ⌜ Done (part (now work) costs n) (now work) out x ⌝ }
-    ensures { λ r. ⌜ RunDone (now (work .entry)) (now (work .exit)) out costs stack n x r ⌝ }
-{
-    let e = run_end(work, costs, n, x);
-    let a = place_before(x);
-    run(work, out + a, costs + a, stack, e - a, a);
-    e
-}
-
 // For each place of a line the first site with the least cost + (x - i)²; NO_PLACE where the line has no site.
 // A place of cost 0 is its own answer, and the answer of a place behind it that has a cost;
-// sites beyond it do not count on this side of it. So the line is done run by run.
+// sites beyond it do not count on this side of it. So the line is done run by run: a run starts at the place before x.
 pub fn line(work: &mut [u32], out: usize, costs: usize, stack: usize, n: usize)
     requires { ⌜ Regions out costs stack n (length (now work)) ⌝ }
     ensures { λ _. ⌜ Passed (now (work .entry)) (now (work .exit)) out costs stack n ⌝ }
@@ -220,7 +200,10 @@ pub fn line(work: &mut [u32], out: usize, costs: usize, stack: usize, n: usize)
             work[out + x] = (x - 1) as u32;
             x += 1;
         } else {
-            x = off_run(work, out, costs, stack, n, x);
+            let e = run_end(work, costs, n, x);
+            let a = place_before(x);
+            run(work, out + a, costs + a, stack, e - a, a);
+            x = e;
         }
     }
 }

@@ -23,16 +23,19 @@ zero+ = fin false 0 (pos 0)
 abbrev zero- : Float
 zero- = fin true 0 (pos 0)
 
--- n / 8
+-- n, and n / 8
+abbrev whole : ℕ → Float
+whole n = ofInt binary64 (pos n)
+
 abbrev eighths : ℕ → Float
-eighths n = div binary64 (ofInt binary64 (pos n)) (ofInt binary64 (pos 8))
+eighths n = div binary64 (whole n) (whole 8)
 
 cases : List Bool
 cases =
     -- numpy.median: of an even count the average of the two middle values, as of 1 2 3 4 it is 2.5
     bits (medianOf (eighths 4 ∷ eighths 1 ∷ eighths 3 ∷ eighths 2 ∷ [])) 0x3fd4_0000_0000_0000
     -- numpy's example 10 7 4 3 2 1: 3.5
-    ∷ eq (medianOf (ofInt binary64 (pos 10) ∷ ofInt binary64 (pos 7) ∷ ofInt binary64 (pos 4) ∷ ofInt binary64 (pos 3) ∷ ofInt binary64 (pos 2) ∷ ofInt binary64 (pos 1) ∷ [])) (fin false 7 (negsuc 0))
+    ∷ eq (medianOf (whole 10 ∷ whole 7 ∷ whole 4 ∷ whole 3 ∷ whole 2 ∷ whole 1 ∷ [])) (fin false 7 (negsuc 0))
     -- two values
     ∷ eq (medianOf (eighths 8 ∷ eighths 0 ∷ [])) (eighths 4)
     ∷ eq (lowerMiddle (eighths 8 ∷ eighths 0 ∷ [])) zero+
@@ -51,5 +54,6 @@ cases =
     ∷ []
 
 cases-hold : T (all cases)
-unfolding cases all bits insert sorted placed lowerMiddle upperMiddle medianOf atMost nearer leastAbove plusZero halfOf lt le eq add div ofInt ofBits toBits
+unfolding cases all bits insert sorted placed lowerMiddle upperMiddle medianOf atMost nearer leastAbove
+    plusZero halfOf lt le eq add div ofInt ofBits toBits
 cases-hold = tt

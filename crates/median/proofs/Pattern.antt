@@ -1,16 +1,18 @@
--- The bit patterns of the numbers that are at least 0 have the numbers' order. `key x` is the pattern of x with a zero's sign cleared: `<` and `<=` of such
--- floats are `<` and `≤` of their keys, and a number is its key's float.
+-- The bit patterns of the numbers that are at least 0 have the numbers' order. `key x` is the pattern of x with a zero's sign
+-- cleared: `<` and `<=` of such floats are `<` and `≤` of their keys, and a number is its key's float.
 -- Assumes nothing.
 use mathlib.Core.Path.{_≡_, refl, sym, ap, _∙_, subst}
 use mathlib.Core.Bool.{Bool, true, false, not}
-use mathlib.Core.Logic.{_⊎_, inl, inr}
+use mathlib.Core.Logic.{_⊎_, inl, inr, ⊎-elim}
 use Prim.Native.Nat.{ℕ, zero, suc, _+_, _-_, _*_, _/_, _%_, _^_, _≤_, _<_}
-use native.Mathlib.Nat.{le-trans, le-of-lt, lt-of-le-of-lt, le-div-iff-mul-le, div-lt-iff-lt-mul, mod-eq-of-lt, mod-le, div-mul-le-self, mul-div-cancel, mul-assoc, mul-comm, mul-pos, zero-add, eq-or-lt-of-le, le-of-eq, suc-mul, mul-le-mul-right}
+use native.Mathlib.Nat.{le-trans, le-of-lt, lt-of-le-of-lt, le-div-iff-mul-le, div-lt-iff-lt-mul, mod-eq-of-lt, mod-le, div-mul-le-self}
+use native.Mathlib.Nat.{mul-div-cancel, mul-assoc, mul-comm, mul-pos, zero-add, eq-or-lt-of-le, le-of-eq, suc-mul, mul-le-mul-right}
 use native.Mathlib.Omega.{arith}
 use lib.IntN.{ℤ, pos}
 use lib.Dec.{T, ltb, leb, eqb, eqb→eq}
 use lib.Pow.{pow-pos, pow-add}
-use lib.Ieee.{Float, nan, inf, fin, Format, binary64, up, down, low, prec, hid, ones, top, size, odd, ofFields, ofBits, toBits, lt, le, eq, fits, nanBits}
+use lib.Ieee.{Float, nan, inf, fin, Format, binary64, up, down, low, prec, hid, ones, top, size, odd, ofFields, ofBits, toBits, lt, le}
+use lib.Ieee.{eq, fits, nanBits}
 use lib.Ieee.Bits.{ofBits-toBits, ofBits-fits, toBits-ofBits, nanBits-is, nanBits-above, is-true}
 use lib.Ieee.Digits.{size-lt, size-reaches, size-le}
 use lib.Ieee.Fits.{two, up-pos, down-pos, kept-lt, and-l, and-r}
@@ -18,7 +20,8 @@ use borrow.Author.Tests.{ne-eqb, lt-ltb, le-ltb, le-leb, lt-leb, ltb-true, ltb-f
 use Rattle.colour.specs.Number.{zero64, one64}
 use Rattle.colour.specs.Colour.{colourOk}
 use Rattle.colour.proofs.Zero.{plus0, Alike}
-use Rattle.colour.proofs.Order.{unitsOf, nonneg, lt-units, le-units, down-divides, down-le, plus0-units, plus0-fits, plus0-plain, Plain, plain}
+use Rattle.colour.proofs.Order.{unitsOf, nonneg, lt-units, le-units, down-divides, down-le, plus0-units, plus0-fits, plus0-plain, Plain}
+use Rattle.colour.proofs.Order.{plain}
 
 -- ---- the pattern of n units of the smallest value
 pattern : Format → ℕ → ℕ
@@ -51,17 +54,13 @@ leading f b h =
 
 pattern-mono : (f : Format) (a b : ℕ) → a ≤ b → pattern f a ≤ pattern f b
 unfolding pattern
-pattern-mono f a b h = go (eq-or-lt-of-le d)
-  where
-    d : size a - prec f ≤ size b - prec f
-    d = let s = size-mono a b h in omega arith
-
-    go : (size a - prec f ≡ size b - prec f) ⊎ (size a - prec f < size b - prec f) → (size a - prec f) * hid f + a / 2 ^ (size a - prec f) ≤ (size b - prec f) * hid f + b / 2 ^ (size b - prec f)
-    go (inl e) = same-drop f a b (size a - prec f) (size b - prec f) e h
-    go (inr l) = more-drop (size a - prec f) (size b - prec f) (hid f) (a / 2 ^ (size a - prec f)) (b / 2 ^ (size b - prec f)) l (subst (λ (x : ℕ). a / 2 ^ (size a - prec f) < x) (twice f) (kept-lt (prec f) a)) (leading f b (positive (size a - prec f) (size b - prec f) l))
-      where
-        positive : (k j : ℕ) → k < j → 0 < j
-        positive k j i = omega arith
+pattern-mono f a b h =
+    let s = size-mono a b h in
+    let k = size a - prec f in
+    let j = size b - prec f in
+    let small : a / 2 ^ k < hid f + hid f = rw (twice f) at (kept-lt (prec f) a) in
+    let step : k ≤ j = omega arith in
+    ⊎-elim (λ e. same-drop f a b k j e h) (λ l. more-drop k j (hid f) _ _ l small (leading f b (omega arith))) (eq-or-lt-of-le step)
 
 -- ---- the key of a number that is at least 0
 unfoldable pub key : Float → ℕ
@@ -69,13 +68,14 @@ key x = toBits binary64 (plus0 x)
 
 -- in whole units there is nothing to round
 whole : (a d q l : ℕ) → 0 < d → d * q ≡ l → a * l / d ≡ a * q
-whole a d q l D e = ap (λ (k : ℕ). a * k / d) (sym e ∙ mul-comm d q) ∙ ap (λ (k : ℕ). k / d) (sym (mul-assoc a q d)) ∙ mul-div-cancel (a * q) D
+whole a d q l D e =
+    ap (λ (k : ℕ). a * k / d) (sym e ∙ mul-comm d q) ∙ ap (λ (k : ℕ). k / d) (sym (mul-assoc a q d)) ∙ mul-div-cancel (a * q) D
 
 plain-key : (x : Float) → Plain x → T (fits binary64 x) → toBits binary64 x ≡ pattern binary64 (unitsOf binary64 x)
 unfolding toBits pattern
 plain-key _ (plain m e) t =
-    ap (λ (n : ℕ). 0 + (size n - 53) * hid binary64 + n / 2 ^ (size n - 53))
-    (whole (m * up e) (down e) (2 ^ low binary64 / down e) (2 ^ low binary64) (down-pos e) (down-divides e (low binary64) (down-le binary64 false m e t)))
+    let exact = down-divides e (low binary64) (down-le binary64 false m e t) in
+    ap (λ (n : ℕ). 0 + (size n - 53) * hid binary64 + n / 2 ^ (size n - 53)) (whole (m * up e) (down e) _ _ (down-pos e) exact)
     ∙ ap (λ (k : ℕ). k + unitsOf binary64 (fin false m e) / 2 ^ (size (unitsOf binary64 (fin false m e)) - 53)) (zero-add _)
 
 key-pattern : (x : Float) → T (fits binary64 x) → T (nonneg x) → key x ≡ pattern binary64 (unitsOf binary64 x)
@@ -144,9 +144,11 @@ fields-plain (suc x) t h = rw (ne-eqb (suc x) 2047 (λ e. omega arith)) (odd-pla
 
 bits-plain : (v : ℕ) → v ≤ oneBits → Plain (ofBits binary64 v)
 unfolding ofBits
-bits-plain v h =
+bits-plain v small =
     let m : v % top binary64 ≡ v = mod-eq-of-lt (omega arith) in
-    rw (lt-leb (top binary64) v (omega arith), m) (fields-plain (v / hid binary64) (v % hid binary64) (div-lt-iff-lt-mul {k = hid binary64} {x = v} {y = 2047} (pow-pos 52) .1 (omega arith)))
+    let h = hid binary64 in
+    let n = div-lt-iff-lt-mul {k = h} {x = v} {y = 2047} (pow-pos 52) .1 (omega arith) in
+    rw (lt-leb (top binary64) v (omega arith), m) (fields-plain (v / h) (v % h) n)
 
 plain-plus0 : (x : Float) → Plain x → plus0 x ≡ x
 unfolding plus0
@@ -160,7 +162,8 @@ pub bits-good : (v : ℕ) → v ≤ oneBits → Good (ofBits binary64 v)
 bits-good v h = record { held = ofBits-fits binary64 v; from-zero = plain-nonneg (ofBits binary64 v) (bits-plain v h) }
 
 pub bits-number : (v : ℕ) → v ≤ oneBits → nanBits binary64 v ≡ false
-bits-number v h = nanBits-above binary64 v ∙ le-ltb (ones binary64 * hid binary64) (v % top binary64) (le-trans (mod-le v (top binary64)) (omega arith))
+bits-number v h =
+    nanBits-above binary64 v ∙ le-ltb (ones binary64 * hid binary64) (v % top binary64) (le-trans (mod-le v (top binary64)) (omega arith))
 
 -- a pattern is the key of its float
 pub key-bits : (v : ℕ) → v ≤ oneBits → key (ofBits binary64 v) ≡ v
@@ -174,9 +177,6 @@ pub plus0-good : (x : Float) → Good x → Good (plus0 x)
 plus0-good x g = record { held = plus0-fits binary64 x (g .held); from-zero = plain-nonneg (plus0 x) (plus0-plain x (g .from-zero)) }
 
 -- ---- the numbers from 0 to 1
-suc-pos : (n : ℕ) → 0 < suc n
-suc-pos n = omega arith
-
 pub key-one : key one64 ≡ oneBits
 unfolding key plus0 toBits
 key-one = refl
@@ -192,7 +192,7 @@ not-below m e t =
     let b = suc m * up e * down (pos 0) in
     let z : a ≡ b = eqb→eq a b (and-l (eqb a b) (eqb a 0) t) in
     let n : a ≡ 0 = eqb→eq a 0 (and-r (eqb a b) (eqb a 0) t) in
-    let p : 0 < b = mul-pos (mul-pos (suc-pos m) (up-pos e)) (down-pos (pos 0)) in
+    let p : 0 < b = mul-pos (mul-pos (omega arith) (up-pos e)) (down-pos (pos 0)) in
     omega arith
 
 pub between-nonneg : (x : Float) (n : ℕ) (d : ℤ) → T (le zero64 x) → T (le x (fin false n d)) → T (nonneg x)
@@ -204,13 +204,15 @@ between-nonneg (fin false m e) n d t u = tt
 between-nonneg (fin true zero e) n d t u = tt
 between-nonneg (fin true (suc m) e) n d t u = absurd (not-below m e t)
 
-module _ (x : Float) (a : T (fits binary64 x)) (k : colourOk x ≡ true) where
-  parts : (T (le zero64 x)) × (T (le x one64))
-  unfolding colourOk
-  parts = let t = subst T (sym k) tt in (and-l (le zero64 x) (le x one64) t, and-r (le zero64 x) (le x one64) t)
+pub between-one : (x : Float) → colourOk x ≡ true → (T (le zero64 x)) × (T (le x one64))
+unfolding colourOk
+between-one x e = let t = subst T (sym e) tt in (and-l (le zero64 x) (le x one64) t, and-r (le zero64 x) (le x one64) t)
 
+module _ (x : Float) (a : T (fits binary64 x)) (k : colourOk x ≡ true) where
   pub ok-good : Good x
-  ok-good = record { held = a; from-zero = between-nonneg x 1 (pos 0) (parts .0) (parts .1) }
+  ok-good = let p = between-one x k in record { held = a; from-zero = between-nonneg x 1 (pos 0) (p .0) (p .1) }
 
   pub ok-key : key x ≤ oneBits
-  ok-key = leb-true (key x) oneBits (ap (leb (key x)) (sym key-one) ∙ sym (le-key x one64 ok-good one-good) ∙ is-true (le x one64) (parts .1))
+  ok-key =
+      leb-true (key x) oneBits
+      (ap (leb (key x)) (sym key-one) ∙ sym (le-key x one64 ok-good one-good) ∙ is-true (le x one64) (between-one x k .1))

@@ -1,4 +1,5 @@
--- The order of numbers from 0 to 1 is that of their keys, so the value at place k is at or below t exactly when more than k of the numbers are.
+-- The order of numbers from 0 to 1 is that of their keys, so the value at place k is at or below t exactly when more than k of the
+-- numbers are.
 -- Assumes nothing.
 use mathlib.Core.Path.{_≡_, refl, sym, ap, _∙_, subst}
 use mathlib.Core.Bool.{Bool, true, false, _&&_, cond}
@@ -16,63 +17,65 @@ use Rattle.colour.proofs.Zero.{plus0, plus0-plus0, Alike, plus-zero-same, plus-
 use Rattle.colour.proofs.Range.{colours-at}
 use Rattle.median.specs.Median.{insert, sorted, placed}
 use Rattle.median.specs.steps.Select.{atMost, nearer, leastAbove}
-use Rattle.median.proofs.Pattern.{key, Good, lt-key, le-key, oneBits, bits-good, key-bits, ok-good, ok-key, one-good, key-one, plus0-good, key-alike, alike-key}
-use Rattle.median.proofs.Rank.{insertN, sortN, countN, sort-rank, leastN, next-place}
+use Rattle.median.proofs.Pattern.{key, Good, lt-key, le-key, oneBits, bits-good, key-bits, ok-good, ok-key, one-good, key-one}
+use Rattle.median.proofs.Pattern.{plus0-good, key-alike, alike-key}
+use Rattle.median.proofs.Rank.{insertN, sortN, countN, sort-length, sort-rank, leastN, next-place}
+
+-- P holds of every number of a list
+All : (Float → Type 0) → List Float → Type 0
+All P [] = Unit {0}
+All P (x ∷ l) = P x × All P l
+
+module _ (P : Float → Type 0) where
+  all-from : (l : List Float) → ((i : ℕ) → i < length l → P (getD l i nan)) → All P l
+  unfolding All
+  all-from [] h = tt
+  all-from (x ∷ l) h = (h 0 (omega arith), all-from l (λ i k. h (suc i) (omega arith)))
+
+  all-at : (l : List Float) → All P l → (i : ℕ) → i < length l → P (getD l i nan)
+  unfolding All
+  all-at [] g i h = absurd (not-suc-le-zero h)
+  all-at (x ∷ l) g zero h = g .0
+  all-at (x ∷ l) g (suc i) h = all-at l (g .1) i (le-of-suc-le-suc h)
+
+  -- an insertion keeps it
+  insert-all : (x : Float) (l : List Float) → P x → All P l → All P (insert x l)
+  unfolding All insert
+  insert-all x [] g h = (g, tt)
+  insert-all x (y ∷ l) g h = go (lt x y) (insert-all x l g (h .1))
+    where
+      go : (b : Bool) → All P (insert x l) → All P (cond b (x ∷ y ∷ l) (y ∷ insert x l))
+      go true r = (g, h)
+      go false r = (h .0, r)
+
+  sorted-all : (l : List Float) → All P l → All P (sorted l)
+  unfolding All sorted
+  sorted-all [] g = tt
+  sorted-all (x ∷ l) g = insert-all x (sorted l) (g .0) (sorted-all l (g .1))
 
 -- every number is a value of the format that is at least 0
-Goods : List Float → Type 0
-Goods [] = Unit {0}
-Goods (x ∷ l) = Good x × Goods l
-
-suc-pos : (n : ℕ) → 0 < suc n
-suc-pos n = omega arith
-
-suc-less : (i n : ℕ) → i < n → suc i < suc n
-suc-less i n h = omega arith
-
-goods-from : (l : List Float) → ((i : ℕ) → i < length l → Good (getD l i nan)) → Goods l
-unfolding Goods
-goods-from [] h = tt
-goods-from (x ∷ l) h = (h 0 (suc-pos (length l)), goods-from l (λ i k. h (suc i) (suc-less i (length l) k)))
-
-goods-at : (l : List Float) → Goods l → (i : ℕ) → i < length l → Good (getD l i nan)
-unfolding Goods
-goods-at [] g i h = absurd (not-suc-le-zero h)
-goods-at (x ∷ l) g zero h = g .0
-goods-at (x ∷ l) g (suc i) h = goods-at l (g .1) i (le-of-suc-le-suc h)
+abbrev Goods : List Float → Type 0
+Goods = All Good
 
 -- ---- an insertion among floats is one among their keys
-insert-goods : (x : Float) (l : List Float) → Good x → Goods l → Goods (insert x l)
-unfolding Goods insert
-insert-goods x [] g h = (g, tt)
-insert-goods x (y ∷ l) g h = go (lt x y) (insert-goods x l g (h .1))
-  where
-    go : (b : Bool) → Goods (insert x l) → Goods (cond b (x ∷ y ∷ l) (y ∷ insert x l))
-    go true r = (g, h)
-    go false r = (h .0, r)
-
-sorted-goods : (l : List Float) → Goods l → Goods (sorted l)
-unfolding Goods sorted
-sorted-goods [] g = tt
-sorted-goods (x ∷ l) g = insert-goods x (sorted l) (g .0) (sorted-goods l (g .1))
-
 insert-keys : (x : Float) (l : List Float) → Good x → Goods l → map key (insert x l) ≡ insertN (key x) (map key l)
-unfolding Goods insert insertN
+unfolding All insert insertN
 insert-keys x [] g h = refl
 insert-keys x (y ∷ l) g h = go (lt x y) (lt-key x y g (h .0)) (insert-keys x l g (h .1))
   where
     go : (b : Bool) → b ≡ ltb (key x) (key y) → map key (insert x l) ≡ insertN (key x) (map key l)
-        → map key (cond b (x ∷ y ∷ l) (y ∷ insert x l)) ≡ cond (ltb (key x) (key y)) (key x ∷ key y ∷ map key l) (key y ∷ insertN (key x) (map key l))
+        → map key (cond b (x ∷ y ∷ l) (y ∷ insert x l))
+        ≡ cond (ltb (key x) (key y)) (key x ∷ key y ∷ map key l) (key y ∷ insertN (key x) (map key l))
     go true e r = rw (sym e) refl
     go false e r = rw (sym e) (ap (λ (s : List ℕ). key y ∷ s) r)
 
 sorted-keys : (l : List Float) → Goods l → map key (sorted l) ≡ sortN (map key l)
-unfolding Goods sorted sortN
+unfolding All sorted sortN
 sorted-keys [] g = refl
-sorted-keys (x ∷ l) g = insert-keys x (sorted l) (g .0) (sorted-goods l (g .1)) ∙ ap (insertN (key x)) (sorted-keys l (g .1))
+sorted-keys (x ∷ l) g = insert-keys x (sorted l) (g .0) (sorted-all Good l (g .1)) ∙ ap (insertN (key x)) (sorted-keys l (g .1))
 
 count-keys : (t : Float) (l : List Float) → Good t → Goods l → atMost t l ≡ countN (key t) (map key l)
-unfolding Goods atMost countN
+unfolding All atMost countN
 count-keys t [] g h = refl
 count-keys t (x ∷ l) g h = rw (le-key x t (h .0) g, count-keys t l g (h .1))
 
@@ -86,50 +89,16 @@ cond-good true x y g h = g
 cond-good false x y g h = h
 
 least-good : (t : Float) (l : List Float) → Good t → Goods l → Good (leastAbove t l)
-unfolding Goods leastAbove nearer
+unfolding All leastAbove nearer
 least-good t [] g h = one-good
 least-good t (x ∷ l) g h = cond-good (lt t x && lt x (leastAbove t l)) x (leastAbove t l) (h .0) (least-good t l g (h .1))
 
 least-keys : (t : Float) (l : List Float) → Good t → Goods l → key (leastAbove t l) ≡ leastN oneBits (key t) (map key l)
-unfolding Goods leastAbove nearer leastN
+unfolding All leastAbove nearer leastN
 least-keys t [] g h = key-one
 least-keys t (x ∷ l) g h =
     key-cond (lt t x && lt x (leastAbove t l)) x (leastAbove t l)
     ∙ rw (lt-key t x g (h .0), lt-key x (leastAbove t l) (h .0) (least-good t l g (h .1)), least-keys t l g (h .1))
-
--- ---- an insertion keeps length and range
-insert-length : (x : Float) (l : List Float) → length (insert x l) ≡ suc (length l)
-unfolding insert
-insert-length x [] = refl
-insert-length x (y ∷ l) = go (lt x y) (insert-length x l)
-  where
-    go : (b : Bool) → length (insert x l) ≡ suc (length l) → length (cond b (x ∷ y ∷ l) (y ∷ insert x l)) ≡ suc (suc (length l))
-    go true r = refl
-    go false r = ap suc r
-
-pub sorted-length : (l : List Float) → length (sorted l) ≡ length l
-unfolding sorted
-sorted-length [] = refl
-sorted-length (x ∷ l) = insert-length x (sorted l) ∙ ap suc (sorted-length l)
-
-swap : (a b c : Bool) → a && (b && c) ≡ b && (a && c)
-swap true b c = refl
-swap false true c = refl
-swap false false c = refl
-
-insert-ok : (x : Float) (l : List Float) → coloursOk (insert x l) ≡ colourOk x && coloursOk l
-unfolding insert coloursOk
-insert-ok x [] = refl
-insert-ok x (y ∷ l) = go (lt x y) (insert-ok x l)
-  where
-    go : (b : Bool) → coloursOk (insert x l) ≡ colourOk x && coloursOk l → coloursOk (cond b (x ∷ y ∷ l) (y ∷ insert x l)) ≡ colourOk x && (colourOk y && coloursOk l)
-    go true r = refl
-    go false r = ap (λ (b : Bool). colourOk y && b) r ∙ swap (colourOk y) (colourOk x) (coloursOk l)
-
-pub sorted-ok : (l : List Float) → coloursOk (sorted l) ≡ coloursOk l
-unfolding sorted coloursOk
-sorted-ok [] = refl
-sorted-ok (x ∷ l) = insert-ok x (sorted l) ∙ ap (λ (b : Bool). colourOk x && b) (sorted-ok l)
 
 -- ---- the value at place k
 getD-map : (f : Float → ℕ) (l : List Float) (k : ℕ) → k < length l → getD (map f l) k 0 ≡ f (getD l k nan)
@@ -139,19 +108,23 @@ getD-map f (x ∷ l) (suc k) h = getD-map f l k (le-of-suc-le-suc h)
 
 module _ (l : List Float) (held : Binary64 l) (ok : coloursOk l ≡ true) where
   goods : Goods l
-  goods = goods-from l (λ i h. ok-good (getD l i nan) (held i h) (colours-at l ok i h))
+  goods = all-from Good l (λ i h. ok-good (getD l i nan) (held i h) (colours-at l ok i h))
 
   module _ (k : ℕ) (h : k < length l) where
     inside : k < length (sorted l)
-    inside = subst (λ (n : ℕ). k < n) (sym (sorted-length l)) h
+    inside =
+        let e = ap length (sorted-keys l goods) in
+        omega (arith, length-map (sorted l) key, sort-length (map key l), length-map l key)
 
     pub placed-good : Good (placed l k)
     unfolding placed
-    placed-good = goods-at (sorted l) (sorted-goods l goods) k inside
+    placed-good = all-at Good (sorted l) (sorted-all Good l goods) k inside
 
     pub placed-ok : colourOk (placed l k) ≡ true
     unfolding placed
-    placed-ok = colours-at (sorted l) (sorted-ok l ∙ ok) k inside
+    placed-ok =
+        let P : Float → Type 0 = λ x. colourOk x ≡ true in
+        all-at P (sorted l) (sorted-all P l (all-from P l (colours-at l ok))) k inside
 
     pub placed-key : key (placed l k) ≡ getD (sortN (map key l)) k 0
     unfolding placed
@@ -197,7 +170,7 @@ module _ (l : List Float) (held : Binary64 l) (ok : coloursOk l ≡ true) where
         let e : key lo ≡ getD (sortN (map key l)) k 0 = alike-key lo (placed l k) lo-alike ∙ placed-key k before in
         let n : length (map key l) ≡ length l = length-map l key in
         placed-key (suc k) h
-        ∙ next-place oneBits (map key l) k (subst (λ (i : ℕ). suc k < i) (sym n) h) (subst (λ (i : ℕ). i ≤ oneBits) (placed-key (suc k) h) (placed-bound (suc k) h))
+        ∙ next-place oneBits (map key l) k (omega arith) (omega (arith, placed-key (suc k) h, placed-bound (suc k) h))
         ∙ rw (count-keys lo l lo-good goods, least-keys lo l lo-good goods, e)
 
     pub next-same : suc k < atMost lo l → lo ≡ plusZero (placed l (suc k))
@@ -210,4 +183,4 @@ module _ (l : List Float) (held : Binary64 l) (ok : coloursOk l ≡ true) where
     pub next-above : atMost lo l ≤ suc k → plusZero (leastAbove lo l) ≡ plusZero (placed l (suc k))
     next-above i =
         let e : key (placed l (suc k)) ≡ key (leastAbove lo l) = next-key ∙ rw (le-ltb (suc k) (atMost lo l) i) in
-        plus-zero-same (leastAbove lo l) (placed l (suc k)) (key-alike (leastAbove lo l) (placed l (suc k)) (least-good lo l lo-good goods .held) (placed-good (suc k) h .held) (sym e))
+        plus-zero-same _ _ (key-alike _ _ (least-good lo l lo-good goods .held) (placed-good (suc k) h .held) (sym e))

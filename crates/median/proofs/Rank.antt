@@ -1,14 +1,15 @@
 -- Natural numbers in order: the number at place k is at most t exactly when more than k of the numbers are.
 -- Assumes nothing.
-use mathlib.Core.Path.{_≡_, refl, sym, ap, _∙_, subst}
+use mathlib.Core.Path.{_≡_, refl, sym, ap, _∙_}
 use mathlib.Core.Bool.{Bool, true, false, cond, _&&_}
 use mathlib.Core.Logic.{_⊎_, inl, inr, ⊎-elim}
 use mathlib.Core.List.{List, [], _∷_}
 use Prim.Native.Nat.{ℕ, zero, suc, _+_, _≤_, _<_}
-use native.Mathlib.Nat.{le-refl, le-trans, le-antisymm, lt-of-not-le, le-of-lt, le-of-suc-le-suc, not-suc-le-zero, add-left-comm, zero-add}
+use native.Mathlib.Nat.{le-refl, le-trans, le-antisymm, le-of-lt, le-of-suc-le-suc, not-suc-le-zero, zero-add}
 use native.Mathlib.Omega.{arith}
 use lib.Dec.{ltb, leb, leb·suc-suc}
 use lib.ListN.{length, getD}
+use Rattle.plane.proofs.Search.{which}
 use borrow.Author.Tests.{lt-ltb, le-ltb, le-leb, lt-leb, ltb-true, ltb-false, leb-true, leb-false}
 
 -- insertion sort
@@ -36,7 +37,8 @@ InOrder [] = Unit {0}
 InOrder (x ∷ l) = AtLeast x l × InOrder l
 
 -- ---- an insertion keeps order, length and counts
-insert-cases : (P : List ℕ → Type 0) (x y : ℕ) (l : List ℕ) → (x ≤ y → P (x ∷ y ∷ l)) → (y ≤ x → P (y ∷ insertN x l)) → P (insertN x (y ∷ l))
+insert-cases : (P : List ℕ → Type 0) (x y : ℕ) (l : List ℕ)
+    → (x ≤ y → P (x ∷ y ∷ l)) → (y ≤ x → P (y ∷ insertN x l)) → P (insertN x (y ∷ l))
 unfolding insertN
 insert-cases P x y l p q = go (ltb x y) refl
   where
@@ -70,9 +72,8 @@ insert-count : (t x : ℕ) (l : List ℕ) → countN t (insertN x l) ≡ cond (l
 unfolding countN
 insert-count t x [] = unfold insertN in refl
 insert-count t x (y ∷ l) =
-    insert-cases (λ (r : List ℕ). countN t r ≡ cond (leb x t) 1 0 + (cond (leb y t) 1 0 + countN t l)) x y l
-    (λ i. refl)
-    (λ i. ap (λ (k : ℕ). cond (leb y t) 1 0 + k) (insert-count t x l) ∙ add-left-comm (cond (leb y t) 1 0) (cond (leb x t) 1 0) (countN t l))
+    insert-cases (λ (r : List ℕ). countN t r ≡ cond (leb x t) 1 0 + (cond (leb y t) 1 0 + countN t l)) x y l (λ i. refl)
+    (λ i. omega (arith, insert-count t x l))
 
 sort-order : (l : List ℕ) → InOrder (sortN l)
 unfolding sortN InOrder
@@ -126,17 +127,7 @@ rank t (x ∷ s) (suc k) o h = go (leb x t) refl (rank t s k (o .1) l)
 
 -- the number at place k in order is at most t exactly when more than k of the numbers are
 pub sort-rank : (t : ℕ) (l : List ℕ) (k : ℕ) → k < length l → ltb k (countN t l) ≡ leb (getD (sortN l) k 0) t
-sort-rank t l k h = ap (ltb k) (sym (sort-count t l)) ∙ rank t (sortN l) k (sort-order l) (subst (λ (n : ℕ). k < n) (sym (sort-length l)) h)
-
--- numbers with the same counts have the same number at each place
-pub same-places : (l l′ : List ℕ) → length l ≡ length l′ → ((t : ℕ) → countN t l ≡ countN t l′) → (k : ℕ) → k < length l → getD (sortN l) k 0 ≡ getD (sortN l′) k 0
-same-places l l′ e c k h =
-    let h′ : k < length l′ = omega arith in
-    let a = getD (sortN l) k 0 in
-    let b = getD (sortN l′) k 0 in
-    le-antisymm
-    (leb-true a b (sym (sort-rank b l k h) ∙ ap (ltb k) (c b) ∙ sort-rank b l′ k h′ ∙ le-leb b b (le-refl b)))
-    (leb-true b a (sym (sort-rank a l′ k h′) ∙ ap (ltb k) (sym (c a)) ∙ sort-rank a l k h ∙ le-leb a a (le-refl a)))
+sort-rank t l k h = ap (ltb k) (sym (sort-count t l)) ∙ rank t (sortN l) k (sort-order l) (omega (arith, sort-length l))
 
 -- ---- the number at the next place
 -- the least number above a; b where none lies between
@@ -155,7 +146,8 @@ count-mono s t (x ∷ l) h = go (leb x s) refl (count-mono s t l h)
 
 module _ (b a : ℕ) where
   -- the three ways in which the least number above a comes about
-  least-cases : (P : ℕ → Type 0) (x : ℕ) (l : List ℕ) → (a < x → x < leastN b a l → P x) → (x ≤ a → P (leastN b a l)) → (a < x → leastN b a l ≤ x → P (leastN b a l)) → P (leastN b a (x ∷ l))
+  least-cases : (P : ℕ → Type 0) (x : ℕ) (l : List ℕ) → (a < x → x < leastN b a l → P x) → (x ≤ a → P (leastN b a l))
+      → (a < x → leastN b a l ≤ x → P (leastN b a l)) → P (leastN b a (x ∷ l))
   unfolding leastN
   least-cases P x l p q r = go (ltb a x) refl (ltb x (leastN b a l)) refl
     where
@@ -182,7 +174,10 @@ module _ (b a : ℕ) where
   more-count (x ∷ l) =
       least-cases (λ (r : ℕ). (r ≡ b) ⊎ ((a < r) × (cond (leb x a) 1 0 + countN a l < cond (leb x r) 1 0 + countN r l))) x l
       (λ i j. inr (i, rw (lt-leb x a i, le-leb x x (le-refl x)) (let m = count-mono a x l (le-of-lt i) in omega arith)))
-      (λ i. ⊎-elim (λ e. inl e) (λ m. inr (m .0, rw (le-leb x a i, le-leb x (leastN b a l) (omega (arith, m .0))) (omega (arith, m .1)))) (more-count l))
+      (λ i.
+      ⊎-elim (λ e. inl e)
+      (λ m. inr (m .0, rw (le-leb x a i, le-leb x (leastN b a l) (omega (arith, m .0))) (omega (arith, m .1))))
+      (more-count l))
       (λ i j. ⊎-elim (λ e. inl e) (λ m. inr (m .0, rw (lt-leb x a i) (omega (arith, m .1)))) (more-count l))
 
 -- the number at the next place is the same again, where enough numbers are at most that, else the least number above it
@@ -201,13 +196,13 @@ next-place b l k h u =
         → ltb (suc k) (countN (leastN b x l) l) ≡ leb y (leastN b x l)
         → (t : Bool) → ltb (suc k) (countN x l) ≡ t → y ≡ cond t x (leastN b x l)
     go x y cx cy up rx u rr true e = le-antisymm (leb-true _ _ (sym rx ∙ e)) up
-    go x y cx cy up rx u rr false e = le-antisymm (⊎-elim (λ z. at-b z) (λ m. above m) (more-count b x l)) under
-      where
-        at-b : leastN b x l ≡ b → y ≤ leastN b x l
-        at-b z = omega arith
-
-        above : (x < leastN b x l) × (countN x l < countN (leastN b x l) l) → y ≤ leastN b x l
-        above m = let w : suc k < countN (leastN b x l) l = omega (arith, m .1) in leb-true y (leastN b x l) (sym rr ∙ lt-ltb _ _ w)
-
-        under : leastN b x l ≤ y
-        under = le-of-suc-le-suc (lt-of-not-le (λ (g : suc y ≤ leastN b x l). absurd (let z = gap-count b x y l up g in let w : countN x l ≤ suc k = ltb-false (suc k) (countN x l) e in omega arith)))
+    go x y cx cy up rx u rr false e =
+        let few : countN x l ≤ suc k = ltb-false (suc k) (countN x l) e in
+        le-antisymm
+        (⊎-elim (λ z. omega arith)
+        (λ m. leb-true y (leastN b x l) (sym rr ∙ lt-ltb (suc k) _ (omega (arith, m .1))))
+        (more-count b x l))
+        (⊎-elim
+        (λ (g : y < leastN b x l). absurd (omega (arith, gap-count b x y l up g)))
+        (λ (g : leastN b x l ≤ y). g)
+        (which y (leastN b x l)))

@@ -4,22 +4,20 @@ use mathlib.Core.Path.{_≡_, refl, sym, ap, _∙_, subst}
 use mathlib.Core.Bool.{true, false}
 use mathlib.Core.List.{List}
 use mathlib.Core.Option.{Option, none, some}
-use mathlib.Core.Logic.{_⊎_, inl, inr, ⊎-elim}
+use mathlib.Core.Logic.{_⊎_, ⊎-elim}
 use Prim.Native.Nat.{ℕ, suc, _+_, _*_, _-_, _≤_, _<_}
 use native.Mathlib.Omega.{arith}
-use lib.IntN.{pos}
-use lib.ListN.{getD}
 use borrow.Author.Tests.{lt-ltb, le-ltb}
 use Rattle.plane.specs.Plane.{onAt, apart}
 use Rattle.plane.proofs.Search.{which, either, not-both}
-use Rattle.plane.proofs.Plane.{plane-at}
 use Rattle.line.specs.steps.FirstLeast.{firstLeast, First, Answers}
 use Rattle.line.specs.steps.Columns.{attach, chosen}
 use Rattle.line.specs.Grid.{valueOf, upto, plus}
-use Rattle.line.proofs.Squares.{square-le, square-lt}
+use Rattle.line.proofs.Squares.{apart-zero, square-le, square-lt}
 use Rattle.line.proofs.Walk.{clash, same, walk-answers}
 use Rattle.line.proofs.Grid.{columnBest, columnCost, walk-line, compose}
-use Rattle.nearest.specs.Nearest.{rowCost, nearest, rowOf, columnOf, rowsPlane, columnsPlane, away, distanceTo, distance, distancePlane, towards}
+use Rattle.nearest.specs.Nearest.{rowCost, nearest, away, distanceTo, distance}
+use Rattle.nearest.specs.steps.Towards.{towards}
 
 -- (j, i) is the nearest on-pixel of (y, x)
 pub record IsNearest (mask : List ℕ) (h w y x i j : ℕ) : Type 0 where
@@ -75,29 +73,33 @@ module _ (mask : List ℕ) (h w y x : ℕ) where
   empty i (some k) a e j l = clash (far i k) (a .0) e (a .1 .here)
 
   -- the number of a column's walk is no larger than that of any on-pixel in it
-  bound : (i j : ℕ) → j < h → onAt mask w j i ≡ true → (b : Option ℕ) → Answers (far i) h b → (v : ℕ) × (valueOf (far i) b ≡ some v) × (v ≤ away y x j i)
+  bound-from : (i j : ℕ) → j < h → onAt mask w j i ≡ true → (b : Option ℕ) → Answers (far i) h b
+      → (v : ℕ) × (valueOf (far i) b ≡ some v) × (v ≤ away y x j i)
   unfolding valueOf
-  bound i j l t none a = not-both (onAt mask w j i) t (far-off i j (a j l))
-  bound i j l t (some k) a = (a .0, a .1 .here, a .1 .least j (away y x j i) l (on-far i j t))
+  bound-from i j l t none a = not-both (onAt mask w j i) t (far-off i j (a j l))
+  bound-from i j l t (some k) a = (a .0, a .1 .here, a .1 .least j (away y x j i) l (on-far i j t))
 
-  module _ (i v : ℕ) (a : First (columnCost far (upto h)) w i v) where
-    -- the chosen column's own answer
-    chosen-good : (b : Option ℕ) → Answers (far i) h b → valueOf (far i) b ≡ some v → Good (attach i b)
-    unfolding Good attach valueOf
-    chosen-good none c e = clash none v refl e
-    chosen-good (some j) c e =
-        let u = c .0 in
-        let d = far-on i j u (c .1 .here) in
-        let d-is = d .1 in
-        let v-is : u ≡ v = same (far i j) u v (c .1 .here) e in
-        record {
-          row-inside = c .1 .inside;
-          column-inside = a .inside;
-          is-on = d .0;
-          least = λ k l g m t. (let z = bound l k g t (columnBest far (upto h) l) (column-answers l) in let n = a .least l (z .0) m (z .1) in let q = z .2 in omega arith);
-          first-column = λ k l g m t. (let z = bound l k g t (columnBest far (upto h) l) (column-answers l) in let n = a .first l (z .0) m (z .1) in let q = z .2 in omega arith);
-          first-row = λ k g t. (let n = c .1 .first k (away y x k i) g (on-far i k t) in omega arith);
-        }
+  bound : (i j : ℕ) → j < h → onAt mask w j i ≡ true → (v : ℕ) × (columnCost far (upto h) i ≡ some v) × (v ≤ away y x j i)
+  bound i j l t = bound-from i j l t (columnBest far (upto h) i) (column-answers i)
+
+  -- the chosen column's own answer
+  chosen-good : (i v : ℕ) → First (columnCost far (upto h)) w i v → (b : Option ℕ) → Answers (far i) h b → valueOf (far i) b ≡ some v
+      → Good (attach i b)
+  unfolding Good attach valueOf
+  chosen-good i v a none c e = clash none v refl e
+  chosen-good i v a (some j) c e =
+      let u = c .0 in
+      let d = far-on i j u (c .1 .here) in
+      let d-is = d .1 in
+      let v-is : u ≡ v = same (far i j) u v (c .1 .here) e in
+      record {
+        row-inside = c .1 .inside;
+        column-inside = a .inside;
+        is-on = d .0;
+        least = λ k l g m t. (let z = bound l k g t in let n = a .least l (z .0) m (z .1) in let q = z .2 in omega arith);
+        first-column = λ k l g m t. (let z = bound l k g t in let n = a .first l (z .0) m (z .1) in let q = z .2 in omega arith);
+        first-row = λ k g t. (let n = c .1 .first k (away y x k i) g (on-far i k t) in omega arith);
+      }
 
   answer-good : (b : Option ℕ) → Answers (columnCost far (upto h)) w b → Good (chosen (columnBest far (upto h)) b)
   unfolding chosen
@@ -118,23 +120,29 @@ module _ (mask : List ℕ) (h w y x : ℕ) where
   unfolding Good
   nearest-none e = subst Good e good
 
+  -- two answers are one
+  column-le : {i j k l : ℕ} → IsNearest mask h w y x i j → IsNearest mask h w y x k l → i ≤ k
+  column-le {i} {j} {k} {l} p q =
+      let m = q .least j i (p .row-inside) (p .column-inside) (p .is-on) in
+      ⊎-elim (λ (g : k < i). (let z = p .first-column l k (q .row-inside) g (q .is-on) in absurd (omega arith))) (λ g. g) (which k i)
+
+  row-le : {i j l : ℕ} → IsNearest mask h w y x i j → IsNearest mask h w y x i l → j ≤ l
+  row-le {i} {j} {l} p q =
+      let m = q .least j i (p .row-inside) (p .column-inside) (p .is-on) in
+      ⊎-elim (λ (g : l < j). (let z = p .first-row l g (q .is-on) in absurd (omega arith))) (λ g. g) (which l j)
+
   one : (i j k l : ℕ) → IsNearest mask h w y x i j → IsNearest mask h w y x k l → (i ≡ k) × (j ≡ l)
   one i j k l p q =
-      let pq = p .least l k (q .row-inside) (q .column-inside) (q .is-on) in
-      let qp = q .least j i (p .row-inside) (p .column-inside) (p .is-on) in
-      let left : i ≤ k = ⊎-elim (λ (g : k < i). (let z = p .first-column l k (q .row-inside) g (q .is-on) in absurd (omega arith))) (λ (g : i ≤ k). g) (which k i) in
-      let right : k ≤ i = ⊎-elim (λ (g : i < k). (let z = q .first-column j i (p .row-inside) g (p .is-on) in absurd (omega arith))) (λ (g : k ≤ i). g) (which i k) in
-      let e : i ≡ k = omega arith in
-      let there : IsNearest mask h w y x i l = subst (λ (n : ℕ). IsNearest mask h w y x n l) (sym e) q in
-      let level : away y x j i ≡ away y x l i = omega (arith, p .least l i (there .row-inside) (there .column-inside) (there .is-on), there .least j i (p .row-inside) (p .column-inside) (p .is-on)) in
-      let up : j ≤ l = ⊎-elim (λ (g : l < j). (let z = p .first-row l g (there .is-on) in absurd (omega arith))) (λ (g : j ≤ l). g) (which l j) in
-      let down : l ≤ j = ⊎-elim (λ (g : j < l). (let z = there .first-row j g (p .is-on) in absurd (omega arith))) (λ (g : l ≤ j). g) (which j l) in
-      (e, omega arith)
+      let e : k ≡ i = omega (arith, column-le p q, column-le q p) in
+      let there : IsNearest mask h w y x i l = rw e at q in
+      (omega arith, omega (arith, row-le p there, row-le there p))
 
   is-from : (i j : ℕ) → IsNearest mask h w y x i j → (r : Option (ℕ × ℕ)) → Good r → r ≡ some (i, j)
   unfolding Good
   is-from i j p none g = not-both (onAt mask w j i) (p .is-on) (g j i (p .row-inside) (p .column-inside))
-  is-from i j p (some q) g = let e = one (q .0) (q .1) i j g p in ap (λ (n : ℕ). some (n, q .1)) (e .0) ∙ ap (λ (n : ℕ). some (i, n)) (e .1)
+  is-from i j p (some q) g =
+      let e = one (q .0) (q .1) i j g p in
+      ap (λ (n : ℕ). some (n, q .1)) (e .0) ∙ ap (λ (n : ℕ). some (i, n)) (e .1)
 
   -- and nothing else is the answer
   pub nearest-is : (i j : ℕ) → IsNearest mask h w y x i j → nearest mask h w y x ≡ some (i, j)
@@ -157,75 +165,47 @@ module _ (mask : List ℕ) (h w y x : ℕ) where
   pub nearest-found : (k l : ℕ) → k < h → l < w → onAt mask w k l ≡ true → (i : ℕ) × (j : ℕ) × (nearest mask h w y x ≡ some (i, j))
   nearest-found k l a b t = found-from k l a b t (nearest mask h w y x) good
 
--- the answer depends on which pixels are on, and on nothing else
-carried : (m n : List ℕ) (h w y x i j : ℕ) → ((k l : ℕ) → k < h → l < w → onAt m w k l ≡ onAt n w k l) → IsNearest m h w y x i j → IsNearest n h w y x i j
-carried m n h w y x i j e p =
-    let r = p .row-inside in
-    let c = p .column-inside in
-    record {
-      row-inside = r;
-      column-inside = c;
-      is-on = sym (e j i r c) ∙ p .is-on;
-      least = λ k l a b t. p .least k l a b (e k l a b ∙ t);
-      first-column = λ k l a b t. p .first-column k l a b (e k l a (omega arith) ∙ t);
-      first-row = λ k a t. p .first-row k a (e k i (omega arith) c ∙ t);
-    }
-
-pub nearest-same : (m n : List ℕ) (h w y x : ℕ) → ((k l : ℕ) → k < h → l < w → onAt m w k l ≡ onAt n w k l) → nearest m h w y x ≡ nearest n h w y x
-nearest-same m n h w y x e = from (nearest m h w y x) refl
-  where
-    from : (r : Option (ℕ × ℕ)) → nearest m h w y x ≡ r → nearest m h w y x ≡ nearest n h w y x
-    from none q = q ∙ sym (nothing-on n h w y x (λ k l a b. sym (e k l a b) ∙ nearest-none m h w y x q k l a b))
-    from (some p) q = q ∙ sym (nearest-is n h w y x (p .0) (p .1) (carried m n h w y x (p .0) (p .1) e (nearest-some m h w y x (p .0) (p .1) q)))
-
 -- ---- one step from the answer
 
-pub towards-inside : (n j y : ℕ) → j < n → y < n → towards j y < n
+-- a step towards y, by which of the two is less
+towards-by : (P : ℕ → Type 0) (j y : ℕ) → (j < y → P (j + 1)) → (y < j → P (j - 1)) → (j ≡ y → P j) → P (towards j y)
 unfolding towards
-towards-inside n j y a b =
+towards-by P j y a b c =
     ⊎-elim
-    (λ (l : j < y). rw (lt-ltb j y l) (omega arith))
-    (λ (l : y ≤ j). rw (le-ltb j y l) (⊎-elim (λ (m : y < j). rw (lt-ltb y j m) (omega arith)) (λ (m : j ≤ y). rw (le-ltb y j m) a) (which y j)))
+    (λ (l : j < y). rw (lt-ltb j y l) (a l))
+    (λ (l : y ≤ j).
+    rw (le-ltb j y l)
+    (⊎-elim (λ (m : y < j). rw (lt-ltb y j m) (b m)) (λ (m : j ≤ y). rw (le-ltb y j m) (c (omega arith))) (which y j)))
     (which j y)
+
+pub towards-inside : (n j y : ℕ) → j < n → y < n → towards j y < n
+towards-inside n j y a b = towards-by (λ (t : ℕ). t < n) j y (λ l. omega arith) (λ l. omega arith) (λ e. a)
 
 -- it is at most one row away
 pub towards-near : (j y : ℕ) → apart (towards j y) j ≤ 1
-unfolding towards apart
-towards-near j y =
-    ⊎-elim
-    (λ (l : j < y). rw (lt-ltb j y l) (omega arith))
-    (λ (l : y ≤ j). rw (le-ltb j y l) (⊎-elim (λ (m : y < j). rw (lt-ltb y j m) (omega arith)) (λ (m : j ≤ y). rw (le-ltb y j m) (omega arith)) (which y j)))
-    (which j y)
+unfolding apart
+towards-near j y = towards-by (λ (t : ℕ). apart t j ≤ 1) j y (λ l. omega arith) (λ l. omega arith) (λ e. omega arith)
 
 -- and nearer by one, where they differ
-pub towards-apart : (j y : ℕ) → apart y (towards j y) ≡ apart y j - 1
-unfolding towards apart
-towards-apart j y =
-    ⊎-elim
-    (λ (l : j < y). rw (lt-ltb j y l) (omega arith))
-    (λ (l : y ≤ j). rw (le-ltb j y l) (⊎-elim (λ (m : y < j). rw (lt-ltb y j m) (omega arith)) (λ (m : j ≤ y). rw (le-ltb y j m) (omega arith)) (which y j)))
-    (which j y)
-
-differ : (y j : ℕ) → (j ≡ y → ⊥) → 0 < apart y j
+towards-apart : (j y : ℕ) → apart y (towards j y) ≡ apart y j - 1
 unfolding apart
-differ y j n = ⊎-elim (λ (l : j < y). omega arith) (λ (l : y ≤ j). ⊎-elim (λ (m : y < j). omega arith) (λ (m : j ≤ y). absurd (n (omega arith))) (which y j)) (which j y)
-
-alike : (y j : ℕ) → (j ≡ y) ⊎ (j ≡ y → ⊥)
-alike y j = ⊎-elim {C = (j ≡ y) ⊎ (j ≡ y → ⊥)} (λ (l : j < y). inr (λ e. omega arith)) (λ (l : y ≤ j). ⊎-elim {C = (j ≡ y) ⊎ (j ≡ y → ⊥)} (λ (m : y < j). inr (λ e. omega arith)) (λ (m : j ≤ y). inl (omega arith)) (which y j)) (which j y)
+towards-apart j y = towards-by (λ (t : ℕ). apart y t ≡ apart y j - 1) j y (λ l. omega arith) (λ l. omega arith) (λ e. omega arith)
 
 -- one step from (j, i) towards (y, x) is strictly nearer to (y, x), unless they are the same
 pub step-nearer : (y x j i : ℕ) → ((j ≡ y) × (i ≡ x) → ⊥) → away y x (towards j y) (towards i x) < away y x j i
 unfolding away
 step-nearer y x j i n =
-    let a = towards-apart j y in
-    let b = towards-apart i x in
     let p = square-le {a = apart y j - 1} {b = apart y j} (omega arith) in
     let q = square-le {a = apart x i - 1} {b = apart x i} (omega arith) in
-    rw (a, b)
+    rw (towards-apart j y, towards-apart i x)
     (⊎-elim
-    (λ (e : j ≡ y). (let d = differ x i (λ f. n (e, f)) in let s = square-lt {a = apart x i - 1} {b = apart x i} (omega arith) in omega arith))
-    (λ (e : j ≡ y → ⊥). (let d = differ y j e in let s = square-lt {a = apart y j - 1} {b = apart y j} (omega arith) in omega arith))
-    (alike y j))
+    (λ (l : 0 < apart y j). (let s = square-lt {a = apart y j - 1} {b = apart y j} (omega arith) in omega arith))
+    (λ (l : apart y j ≤ 0).
+    ⊎-elim
+    (λ (m : 0 < apart x i). (let s = square-lt {a = apart x i - 1} {b = apart x i} (omega arith) in omega arith))
+    (λ (m : apart x i ≤ 0). absurd (n (apart-zero y j (omega arith), apart-zero x i (omega arith))))
+    (which 0 (apart x i)))
+    (which 0 (apart y j)))
 
 module _ (mask : List ℕ) (h w y x : ℕ) (row : y < h) (column : x < w) where
   -- so that pixel is off
@@ -233,33 +213,19 @@ module _ (mask : List ℕ) (h w y x : ℕ) (row : y < h) (column : x < w) where
   step-off i j e n =
       let p = nearest-some mask h w y x i j e in
       let s = step-nearer y x j i n in
-      ⊎-elim {C = onAt mask w (towards j y) (towards i x) ≡ false}
+      let j' = towards-inside h j y (p .row-inside) row in
+      let i' = towards-inside w i x (p .column-inside) column in
+      ⊎-elim
       (λ (t : onAt mask w (towards j y) (towards i x) ≡ true).
-      (let l = p .least (towards j y) (towards i x) (towards-inside h j y (p .row-inside) row) (towards-inside w i x (p .column-inside) column) t in absurd (omega arith)))
-      (λ (t : onAt mask w (towards j y) (towards i x) ≡ false). t)
+      (let l = p .least (towards j y) (towards i x) j' i' t in absurd (omega arith)))
+      (λ t. t)
       (either (onAt mask w (towards j y) (towards i x)))
 
 -- ---- distances
 
-pub apart-self : (y : ℕ) → apart y y ≡ 0
+apart-low : (a b n : ℕ) → a < n → b < n → apart a b ≤ n
 unfolding apart
-apart-self y = omega arith
-
-pub away-self : (y x : ℕ) → away y x y x ≡ 0
-unfolding away
-away-self y x = rw (apart-self y, apart-self x)
-
-square-zero : (a : ℕ) → a * a ≡ 0 → a ≡ 0
-square-zero a e = ⊎-elim (λ (l : 0 < a). (let s = square-lt l in absurd (omega arith))) (λ (l : a ≤ 0). omega arith) (which 0 a)
-
-apart-zero : (y j : ℕ) → apart y j ≡ 0 → j ≡ y
-unfolding apart
-apart-zero y j e = omega arith
-
--- no distance: the same pixel
-pub away-zero : (y x j i : ℕ) → away y x j i ≡ 0 → (j ≡ y) × (i ≡ x)
-unfolding away
-away-zero y x j i e = (apart-zero y j (square-zero (apart y j) (omega arith)), apart-zero x i (square-zero (apart x i) (omega arith)))
+apart-low a b n l m = omega arith
 
 module _ (mask : List ℕ) (h w y x : ℕ) where
   -- the distance is that to the answer
@@ -280,47 +246,20 @@ module _ (mask : List ℕ) (h w y x : ℕ) where
       let m = p .least k l a b t in
       omega arith
 
-  -- an on-pixel is its own nearest
-  pub own-nearest : y < h → x < w → onAt mask w y x ≡ true → nearest mask h w y x ≡ some (x, y)
-  own-nearest a b t =
-      let z = away-self y x in
-      nearest-is mask h w y x x y (record {
-        row-inside = a;
-        column-inside = b;
-        is-on = t;
-        least = λ k l f g q. omega arith;
-        first-column = λ k l f g q.
-            ⊎-elim (λ (m : 0 < away y x k l). omega arith) (λ (m : away y x k l ≤ 0). (let s = away-zero y x k l (omega arith) in let s1 = s .1 in absurd (omega arith))) (which 0 (away y x k l));
-        first-row = λ k f q.
-            ⊎-elim (λ (m : 0 < away y x k x). omega arith) (λ (m : away y x k x ≤ 0). (let s = away-zero y x k x (omega arith) in let s0 = s .0 in absurd (omega arith))) (which 0 (away y x k x));
-      })
+  -- it is at most the sum of the squares of the sides
+  most-from : y < h → x < w → (r : Option (ℕ × ℕ)) → nearest mask h w y x ≡ r → distance mask h w y x ≤ h * h + w * w
+  unfolding away
+  most-from a b none e =
+      let d = distance-none e in
+      let p = square-le {a = suc y} {b = h} a in
+      let q = square-le {a = x} {b = w} (omega arith) in
+      omega arith
+  most-from a b (some q) e =
+      let d = distance-some (q .0) (q .1) e in
+      let n = nearest-some mask h w y x (q .0) (q .1) e in
+      let s = square-le (apart-low y (q .1) h a (n .row-inside)) in
+      let t = square-le (apart-low x (q .0) w b (n .column-inside)) in
+      omega arith
 
-  -- the distance is 0 on the on-pixels
-  pub distance-on : y < h → x < w → onAt mask w y x ≡ true → distance mask h w y x ≡ 0
-  distance-on a b t = distance-some x y (own-nearest a b t) ∙ away-self y x
-
-  zero-from : (r : Option (ℕ × ℕ)) → nearest mask h w y x ≡ r → distance mask h w y x ≡ 0 → (y < h) × (x < w) × (onAt mask w y x ≡ true)
-  zero-from none e z = let d = distance-none e in let s = square-lt {a = 0} {b = suc y} (omega arith) in absurd (omega arith)
-  zero-from (some q) e z =
-      let p = nearest-some mask h w y x (q .0) (q .1) e in
-      let s = away-zero y x (q .1) (q .0) (sym (distance-some (q .0) (q .1) e) ∙ z) in
-      let j = s .0 in
-      let i = s .1 in
-      (omega (arith, p .row-inside), omega (arith, p .column-inside), subst (λ (n : ℕ). onAt mask w n x ≡ true) j (subst (λ (n : ℕ). onAt mask w (q .1) n ≡ true) i (p .is-on)))
-
-  -- and nowhere else
-  pub distance-zero : distance mask h w y x ≡ 0 → (y < h) × (x < w) × (onAt mask w y x ≡ true)
-  distance-zero z = zero-from (nearest mask h w y x) refl z
-
-  -- what the planes hold at (y, x)
-  pub rows-at : y < h → x < w → getD (rowsPlane mask h w) (y * w + x) (pos 0) ≡ rowOf (nearest mask h w y x)
-  unfolding rowsPlane
-  rows-at a b = plane-at h w (λ (k l : ℕ). rowOf (nearest mask h w k l)) y x (pos 0) a b
-
-  pub columns-at : y < h → x < w → getD (columnsPlane mask h w) (y * w + x) (pos 0) ≡ columnOf (nearest mask h w y x)
-  unfolding columnsPlane
-  columns-at a b = plane-at h w (λ (k l : ℕ). columnOf (nearest mask h w k l)) y x (pos 0) a b
-
-  pub distance-at : y < h → x < w → getD (distancePlane mask h w) (y * w + x) 0 ≡ distance mask h w y x
-  unfolding distancePlane
-  distance-at a b = plane-at h w (distance mask h w) y x 0 a b
+  pub distance-most : y < h → x < w → distance mask h w y x ≤ h * h + w * w
+  distance-most a b = most-from a b (nearest mask h w y x) refl

@@ -10,7 +10,7 @@ use lib.IntN.{ℤ, pos, negsuc}
 use Rattle.plane.specs.Plane.{onAt, apart, planeOf}
 use Rattle.line.specs.Grid.{walk, upto, grid, plus}
 
--- dy² of the pixel at column i and row j, seen from row y; nothing where that pixel is off
+-- dy² of the pixel at column i and row j, seen from row y; nothing where that pixel is off (R10)
 unfoldable pub rowCost : List ℕ → ℕ → ℕ → ℕ → ℕ → Option ℕ
 rowCost mask w y i j = cond (onAt mask w j i) (some (apart y j * apart y j)) none
 
@@ -36,7 +36,7 @@ rowsPlane mask h w = planeOf h w (λ (y x : ℕ). rowOf (nearest mask h w y x))
 unfoldable pub columnsPlane : List ℕ → ℕ → ℕ → List ℤ
 columnsPlane mask h w = planeOf h w (λ (y x : ℕ). columnOf (nearest mask h w y x))
 
--- dy² + dx² from (y, x) to (j, i)
+-- dy² + dx² from (y, x) to (j, i) (R10)
 unfoldable pub away : ℕ → ℕ → ℕ → ℕ → ℕ
 away y x j i = apart y j * apart y j + apart x i * apart x i
 
@@ -45,13 +45,9 @@ unfoldable pub distanceTo : ℕ → ℕ → Option (ℕ × ℕ) → ℕ
 distanceTo y x none = suc y * suc y + x * x
 distanceTo y x (some q) = away y x (q .1) (q .0)
 
--- the squared distance from (y, x) to its nearest on-pixel
+-- the squared distance from (y, x) to its nearest on-pixel (R13)
 unfoldable pub distance : List ℕ → ℕ → ℕ → ℕ → ℕ → ℕ
 distance mask h w y x = distanceTo y x (nearest mask h w y x)
 
 unfoldable pub distancePlane : List ℕ → ℕ → ℕ → List ℕ
 distancePlane mask h w = planeOf h w (distance mask h w)
-
--- a row, or a column, one step nearer to another; itself where they are the same
-unfoldable pub towards : ℕ → ℕ → ℕ
-towards j y = cond (ltb j y) (j + 1) (cond (ltb y j) (j - 1) j)

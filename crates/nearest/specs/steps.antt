@@ -1,3 +1,4 @@
 pub mod Stages
 pub mod Indices
 pub mod Room
+pub mod Towards

@@ -5,14 +5,16 @@
 ghost use mathlib.Core.Path.{_≡_};
 ghost use mathlib.Core.Bool.{cond};
 ghost use Prim.Native.Nat.{ℕ, _+_, _*_, _<_, _≤_};
-ghost use lib.ListN.{length, getD, take};
-ghost use Rattle.plane.specs.Plane.{on, table, indexOf};
+ghost use lib.IntN.{pos};
+ghost use lib.ListN.{length, take};
+ghost use Rattle.plane.specs.Plane.{on, indexOf};
 ghost use Rattle.line.specs.steps.Line.{mostLength};
-ghost use Rattle.line.specs.steps.Part.{part, Written};
+ghost use Rattle.line.specs.steps.Part.{Written};
 ghost use Rattle.nearest.specs.Nearest.{rowOf, columnOf, rowsPlane, columnsPlane, distancePlane};
-ghost use Rattle.nearest.specs.steps.Room.{Room, IndexRoom, DistanceRoom, BelowRoom, CopyRoom, NearRoom, CostRoom};
-ghost use Rattle.nearest.specs.steps.Room.{RowRoom, PixelRoom, IndexLineRoom, DistanceLineRoom};
-ghost use Rattle.nearest.specs.steps.Stages.{noRow, nearer, squareCost, Swept, RowDone, pixelAt, distanceAt};
+ghost use Rattle.nearest.specs.steps.Room.{Room, IndexRoom, DistanceRoom, NearRoom, CostRoom, RowRoom};
+ghost use Rattle.nearest.specs.steps.Room.{ChosenRoom, PixelRoom, DistanceAtRoom, DistanceLineRoom};
+ghost use Rattle.nearest.specs.steps.Stages.{noRow, belowIn, nearer, nearerIn, squareCost, costIn, Swept, RowDone};
+ghost use Rattle.nearest.specs.steps.Stages.{elements, from, pixelAt, pixelIn, distanceAt, distanceIn};
 ghost use Rattle.nearest.specs.steps.Indices.{indicesPlane};
 
 // Stands for the row of a column that has no on-pixel.
@@ -32,65 +34,46 @@ fn own_row(b: u8, y: u32, below: u32) -> u32
 }
 
 // For each column the first on-row at or below row y, from that of the row below, which stands behind it.
-fn below_line(mask: &[u8], y: u32, work: &mut [u32], row: usize)
-    requires { ⌜ BelowRoom (now mask) (now work) row ⌝ }
-    ensures { λ _. ⌜ Written
-        (λ (x : ℕ). cond (on (getD (now (mask .entry)) x 0)) y (getD (now (work .entry)) (row + length (now (mask .entry)) + x) 0))
-        row (length (now (mask .entry))) (now (work .entry)) (now (work .exit)) ⌝ }
+fn below_line(mask: &[u8], y: u32, work: &mut [u32], row: usize, w: usize)
+    requires { ⌜ (row + w ≤ length (now mask)) × (row + w + w ≤ length (now work)) ⌝ }
+    ensures { λ _. ⌜ Written 0 (belowIn (now (mask .entry)) y (now (work .entry)) row w) row w (now (work .entry)) (now (work .exit)) ⌝ }
 {
-    let next = row + mask.len();
-    let mut x = 0usize;
-    while x < mask.len() {
-        work[row + x] = own_row(mask[x], y, work[next + x]);
-        x += 1;
-    }
-}
-
-// One line as another.
-fn copy_line(work: &mut [u32], from: usize, to: usize, w: usize)
-    requires { ⌜ CopyRoom (now work) from to w ⌝ }
-    ensures { λ _. ⌜ Written (λ (x : ℕ). getD (now (work .entry)) (from + x) 0) to w (now (work .entry)) (now (work .exit)) ⌝ }
-{
+    let next = row + w;
     let mut x = 0usize;
     while x < w {
-        work[to + x] = work[from + x];
+        work[row + x] = own_row(mask[row + x], y, work[next + x]);
         x += 1;
     }
 }
 
-// The first sweep, from the last row up: each pixel's first on-row at or below it; and the line from which the second sweep starts.
+// The first sweep, from the last row up: each pixel's first on-row at or below it. The line behind the plane says that none is
+// below the last row, and is the line from which the second sweep starts.
 fn below(mask: &[u8], h: usize, w: usize, work: &mut [u32])
     requires { ⌜ IndexRoom h w (now mask) (now work) ⌝ }
     ensures { λ _. ⌜ Swept (now (mask .entry)) h w 0 (now (work .exit)) ⌝ }
 {
-    let n = h * w;
-    let end = n + w;
-    line::fill(&mut work[n..end], NO_ROW);
+    line::fill(work, h * w, w, NO_ROW);
     let mut y = h;
     while 0 < y {
         let j = y - 1;
-        let a = j * w;
-        let e = a + w;
-        below_line(&mask[a..e], j as u32, work, a);
+        below_line(mask, j as u32, work, j * w, w);
         y = j;
     }
-    copy_line(work, 0, n, w);
 }
 
 // Of a, the first on-row at or below row y, and b, the nearest of the row above: the nearer to y; b where they are equally near.
+// No row is above row 0.
 fn nearer_row(y: u32, a: u32, b: u32) -> u32
     requires { ⌜ (y < mostLength) × (a ≤ noRow) × (b ≤ noRow) ⌝ }
     ensures { λ r. ⌜ r ≡ nearer y a b ⌝ }
 {
-    if a + b < 2 * y { a } else { b }
+    if (y == 0) | (a + b < 2 * y) { a } else { b }
 }
 
 // For each column the nearest on-row of row y; near has it for the row above, and row the first on-row at or below.
 fn nearer_line(y: u32, work: &mut [u32], row: usize, near: usize, w: usize)
     requires { ⌜ NearRoom (now work) y row near w ⌝ }
-    ensures { λ _. ⌜ Written
-        (λ (x : ℕ). nearer y (getD (now (work .entry)) (row + x) 0) (getD (now (work .entry)) (near + x) 0))
-        near w (now (work .entry)) (now (work .exit)) ⌝ }
+    ensures { λ _. ⌜ Written 0 (nearerIn y (now (work .entry)) row near) near w (now (work .entry)) (now (work .exit)) ⌝ }
 {
     let mut x = 0usize;
     while x < w {
@@ -113,9 +96,7 @@ fn cost(y: u32, r: u32) -> u32
 // What each column costs, seen from row y.
 fn costs_line(y: u32, work: &mut [u32], near: usize, costs: usize, w: usize)
     requires { ⌜ CostRoom (now work) y near costs w ⌝ }
-    ensures { λ _. ⌜ Written
-        (λ (x : ℕ). squareCost y (getD (now (work .entry)) (near + x) 0))
-        costs w (now (work .entry)) (now (work .exit)) ⌝ }
+    ensures { λ _. ⌜ Written 0 (costIn y (now (work .entry)) near) costs w (now (work .entry)) (now (work .exit)) ⌝ }
 {
     let mut x = 0usize;
     while x < w {
@@ -140,33 +121,34 @@ fn row_pass(y: usize, n: usize, w: usize, work: &mut [u32])
 
 // The row of column i; -1 where there is no such column.
 fn row_at(near: &[u32], i: usize) -> i32
-    requires { ⌜ (i < length (now near) → getD (now near) i 0 < mostLength) ⌝ }
-    ensures { λ r. ⌜ r ≡ rowOf (pixelAt (now (near .entry)) i) ⌝ }
+    requires { ⌜ (i < length (now near) → elements (now near) i < mostLength) ⌝ }
+    ensures { λ r. ⌜ r ≡ rowOf (pixelAt (length (now (near .entry))) (elements (now (near .entry))) i) ⌝ }
 {
     if i < near.len() { near[i] as i32 } else { -1 }
 }
 
 // Column i; 0 where there is no such column.
-fn column_at(near: &[u32], i: usize) -> i32
-    requires { ⌜ length (now near) ≤ mostLength ⌝ }
-    ensures { λ r. ⌜ r ≡ columnOf (pixelAt (now (near .entry)) i) ⌝ }
+fn column_at(w: usize, i: usize) -> i32
+    requires { ⌜ w ≤ mostLength ⌝ }
+    ensures { λ r. ⌜ ((near : ℕ → ℕ) → r ≡ columnOf (pixelAt w near i)) ⌝ }
 {
-    if i < near.len() { i as i32 } else { 0 }
+    if i < w { i as i32 } else { 0 }
 }
 
 // Row and column of the chosen column's on-pixel of each place.
-fn pixels_line(near: &[u32], places: &[u32], rows: &mut [i32], cols: &mut [i32])
-    requires { ⌜ PixelRoom (now near) (now places) (length (now rows)) (length (now cols)) ⌝ }
-    ensures { λ _. ⌜ now (rows .exit) ≡ table
-        (λ (x : ℕ). rowOf (pixelAt (now (near .entry)) (getD (now (places .entry)) x 0))) 0 (length (now (rows .entry))) ⌝ }
-    ensures { λ _. ⌜ now (cols .exit) ≡ table
-        (λ (x : ℕ). columnOf (pixelAt (now (near .entry)) (getD (now (places .entry)) x 0))) 0 (length (now (cols .entry))) ⌝ }
+fn pixels_line(work: &[u32], row: usize, near: usize, w: usize, rows: &mut [i32], cols: &mut [i32])
+    requires { ⌜ PixelRoom (now work) row near w × (row + w ≤ length (now rows)) × (row + w ≤ length (now cols)) ⌝ }
+    ensures { λ _. ⌜ Written (pos 0)
+        (λ (x : ℕ). rowOf (pixelIn (now (work .entry)) row near w x)) row w (now (rows .entry)) (now (rows .exit)) ⌝ }
+    ensures { λ _. ⌜ Written (pos 0)
+        (λ (x : ℕ). columnOf (pixelIn (now (work .entry)) row near w x)) row w (now (cols .entry)) (now (cols .exit)) ⌝ }
 {
+    let end = near + w;
     let mut x = 0usize;
-    while x < rows.len() {
-        let i = plane::wide(places[x]);
-        rows[x] = row_at(near, i);
-        cols[x] = column_at(near, i);
+    while x < w {
+        let i = plane::wide(work[row + x]);
+        rows[row + x] = row_at(&work[near..end], i);
+        cols[row + x] = column_at(w, i);
         x += 1;
     }
 }
@@ -186,22 +168,18 @@ pub fn nearest_planes(
     ensures { λ _. ⌜ now (cols .exit) ≡ columnsPlane (now (mask .entry)) h w ⌝ }
 {
     below(mask, h, w, work);
-    let n = h * w;
-    let end = n + w;
     let mut y = 0usize;
     while y < h {
-        let a = y * w;
-        let e = a + w;
-        row_pass(y, n, w, work);
-        pixels_line(&work[n..end], &work[a..e], &mut rows[a..e], &mut cols[a..e]);
+        row_pass(y, h * w, w, work);
+        pixels_line(work, y * w, h * w, w, rows, cols);
         y += 1;
     }
 }
 
 // The index of column i's on-pixel; 0 where there is no such column.
 fn index_at(work: &[u32], near: usize, w: usize, i: usize) -> u32
-    requires { ⌜ (near + w ≤ length (now work)) × (w ≤ mostLength) × (i < w → getD (now work) (near + i) 0 < mostLength) ⌝ }
-    ensures { λ r. ⌜ r ≡ indexOf w (pixelAt (part (now (work .entry)) near w) i) ⌝ }
+    requires { ⌜ ChosenRoom (now work) near w i ⌝ }
+    ensures { λ r. ⌜ r ≡ indexOf w (pixelAt w (from (now (work .entry)) near) i) ⌝ }
 {
     if i < w {
         return (plane::wide(work[near + i]) * w + i) as u32;
@@ -211,10 +189,9 @@ fn index_at(work: &[u32], near: usize, w: usize, i: usize) -> u32
 
 // The index of the chosen column's on-pixel, in place of each place.
 fn index_line(work: &mut [u32], row: usize, near: usize, w: usize)
-    requires { ⌜ IndexLineRoom (now work) row near w ⌝ }
-    ensures { λ _. ⌜ Written
-        (λ (x : ℕ). indexOf w (pixelAt (part (now (work .entry)) near w) (getD (now (work .entry)) (row + x) 0)))
-        row w (now (work .entry)) (now (work .exit)) ⌝ }
+    requires { ⌜ PixelRoom (now work) row near w ⌝ }
+    ensures { λ _. ⌜ Written 0
+        (λ (x : ℕ). indexOf w (pixelIn (now (work .entry)) row near w x)) row w (now (work .entry)) (now (work .exit)) ⌝ }
 {
     let mut x = 0usize;
     while x < w {
@@ -230,20 +207,18 @@ pub fn nearest_indices(mask: &[u8], h: usize, w: usize, work: &mut [u32])
     ensures { λ _. ⌜ take (h * w) (now (work .exit)) ≡ indicesPlane (now (mask .entry)) h w ⌝ }
 {
     below(mask, h, w, work);
-    let n = h * w;
     let mut y = 0usize;
     while y < h {
-        row_pass(y, n, w, work);
-        index_line(work, y * w, n, w);
+        row_pass(y, h * w, w, work);
+        index_line(work, y * w, h * w, w);
         y += 1;
     }
 }
 
 // The squared distance of (y, x) to column i's on-pixel, which costs[i] lies from row y; with no such column, to row -1 and column 0.
 fn distance_at(costs: &[u32], y: usize, x: usize, i: usize) -> u32
-    requires { ⌜ (x < mostLength) × (y < mostLength) × (length (now costs) ≤ mostLength) ⌝ }
-    requires { ⌜ distanceAt (now costs) y x i ≤ 4294967295 ⌝ }
-    ensures { λ r. ⌜ r ≡ distanceAt (now (costs .entry)) y x i ⌝ }
+    requires { ⌜ DistanceAtRoom (now costs) y x i ⌝ }
+    ensures { λ r. ⌜ r ≡ distanceAt (length (now (costs .entry))) (elements (now (costs .entry))) y x i ⌝ }
 {
     if i < costs.len() {
         let d = plane::apart(x, i);
@@ -254,14 +229,14 @@ fn distance_at(costs: &[u32], y: usize, x: usize, i: usize) -> u32
 }
 
 // The squared distance of each place of row y to its chosen column's on-pixel.
-fn distances_line(costs: &[u32], places: &[u32], y: usize, out: &mut [u32])
-    requires { ⌜ DistanceLineRoom (now costs) (now places) y (length (now out)) ⌝ }
-    ensures { λ _. ⌜ now (out .exit) ≡ table
-        (λ (x : ℕ). distanceAt (now (costs .entry)) y x (getD (now (places .entry)) x 0)) 0 (length (now (out .entry))) ⌝ }
+fn distances_line(work: &[u32], row: usize, costs: usize, w: usize, y: usize, out: &mut [u32])
+    requires { ⌜ DistanceLineRoom (now work) row costs w y (length (now out)) ⌝ }
+    ensures { λ _. ⌜ Written 0 (distanceIn (now (work .entry)) row costs w y) row w (now (out .entry)) (now (out .exit)) ⌝ }
 {
+    let end = costs + w;
     let mut x = 0usize;
-    while x < out.len() {
-        out[x] = distance_at(costs, y, x, plane::wide(places[x]));
+    while x < w {
+        out[row + x] = distance_at(&work[costs..end], y, x, plane::wide(work[row + x]));
         x += 1;
     }
 }
@@ -272,15 +247,10 @@ pub fn nearest_distances(mask: &[u8], h: usize, w: usize, work: &mut [u32], out:
     ensures { λ _. ⌜ now (out .exit) ≡ distancePlane (now (mask .entry)) h w ⌝ }
 {
     below(mask, h, w, work);
-    let n = h * w;
-    let costs = n + w;
-    let end = costs + w;
     let mut y = 0usize;
     while y < h {
-        let a = y * w;
-        let e = a + w;
-        row_pass(y, n, w, work);
-        distances_line(&work[costs..end], &work[a..e], y, &mut out[a..e]);
+        row_pass(y, h * w, w, work);
+        distances_line(work, y * w, h * w + w, w, y, out);
         y += 1;
     }
 }

@@ -16,7 +16,8 @@ use Rattle.plane.proofs.Search.{either, not-both, some-found, and-no}
 use Rattle.plane.proofs.Refusal.{and-true}
 use Rattle.plane.specs.Mask.{isOn, maskOf}
 use Rattle.labels.proofs.Steps.{row-is, column-is}
-use Rattle.nearest.specs.Nearest.{nearest, towards}
+use Rattle.nearest.specs.Nearest.{nearest}
+use Rattle.nearest.specs.steps.Towards.{towards}
 use Rattle.nearest.proofs.Laws.{IsNearest, nearest-some, nearest-found, towards-inside, towards-near, step-off}
 use Rattle.outline.specs.Growth.{nearGround, isEdge, isShallow, isDeep, isReach, bodyFrom}
 use Rattle.plane.proofs.Mask.{mask-on, mask-holds, index-on, row-on}

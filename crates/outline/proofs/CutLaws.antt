@@ -9,7 +9,7 @@ use lib.Dec.{leb}
 use lib.ListN.{length, getD}
 use lib.Ieee.{Float}
 use borrow.Author.Tests.{eqb-true, leb-true}
-use Rattle.plane.specs.Plane.{Sides}
+use Rattle.plane.specs.steps.Sides.{Sides}
 use Rattle.plane.specs.Search.{someBelow}
 use Rattle.plane.proofs.Search.{either, some-same}
 use Rattle.plane.specs.Refusal.{roomFor}

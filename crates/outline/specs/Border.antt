@@ -10,11 +10,11 @@ use Rattle.plane.specs.Plane.{table}
 use Rattle.colour.specs.declared.Rgb.{Rgb}
 use Rattle.median.specs.Median.{medianOf}
 
--- the pixels of row y
+-- the pixels of row y (R15)
 unfoldable pub rowPixels : ℕ → ℕ → List ℕ
 rowPixels w y = table (λ (x : ℕ). y * w + x) 0 w
 
--- the pixels of column x in rows 1 to h - 2
+-- the pixels of column x in rows 1 to h - 2 (R15)
 unfoldable pub innerColumn : ℕ → ℕ → ℕ → List ℕ
 innerColumn h w x = table (λ (y : ℕ). y * w + x) 1 (h - 2)
 
@@ -22,7 +22,7 @@ innerColumn h w x = table (λ (y : ℕ). y * w + x) 1 (h - 2)
 unfoldable pub borderList : ℕ → ℕ → List ℕ
 borderList h w = rowPixels w 0 ++ rowPixels w (h - 1) ++ innerColumn h w 0 ++ innerColumn h w (w - 1)
 
--- whether a number is in a list
+-- whether a number is in a list (R16)
 unfoldable pub listed : ℕ → List ℕ → Bool
 listed i [] = false
 listed i (j ∷ l) = eqb i j || listed i l
@@ -31,11 +31,11 @@ listed i (j ∷ l) = eqb i j || listed i l
 unfoldable pub onBorder : ℕ → ℕ → ℕ → Bool
 onBorder h w i = listed i (borderList h w)
 
--- channel c of pixel i stands at 3 * i + c
+-- channel c of pixel i stands at 3 * i + c (R2)
 unfoldable pub channelAt : List Float → ℕ → ℕ → Float
 channelAt colours c i = getD colours (3 * i + c) nan
 
--- the colour of pixel i
+-- the colour of pixel i (R2)
 unfoldable pub colourAt : List Float → ℕ → Rgb
 colourAt colours i = record { r = channelAt colours 0 i; g = channelAt colours 1 i; b = channelAt colours 2 i }
 

@@ -1,4 +1,4 @@
--- What a call of the cut is lent, and the number by which it is declined.
+-- What a call of the cut is lent, and its refusal.
 -- Assumes nothing.
 use Prim.Native.Nat.{ℕ}
 use mathlib.Core.List.{List}
@@ -9,7 +9,7 @@ use Rattle.colour.specs.declared.Settings.{Settings}
 use Rattle.colour.specs.Number.{Binary64}
 use Rattle.outline.specs.Refusal.{cutRefusal}
 
--- the buffers that are lent to a call beside picture and settings: two outputs and four work buffers
+-- the buffers that are lent to a call beside picture and settings: two outputs and four work buffers (R46)
 pub record Buffers : Type 0 where
   pub mask : List ℕ
   pub weights : List Float
@@ -18,13 +18,13 @@ pub record Buffers : Type 0 where
   pub deep : List ℕ
   pub marks : List ℕ
 
--- the number of the call, 0 where it is accepted
+-- the refusal of the call, 0 where it is accepted (R57)
 abbrev pub refusalIn : List Float → List ℕ → ℕ → ℕ → Settings → Buffers → ℕ
 refusalIn colours alpha h w s b =
     cutRefusal colours alpha h w s (length (b .mask)) (length (b .weights))
     (length (b .nearest)) (length (b .shallow)) (length (b .deep)) (length (b .marks))
 
--- what is lent to a call is held as binary64 numbers: the colours and the tolerance
+-- what is lent to a call is held as binary64 numbers: the colours and the tolerance (R2, R30)
 pub record HeldIn (colours : List Float) (s : Settings) : Type 0 where
   pub picture : Binary64 colours
   pub tolerance : T (fits binary64 (s .«key_bg_tolerance»))

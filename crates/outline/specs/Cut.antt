@@ -30,7 +30,7 @@ isSought alpha n s = s .«key_bg» && not (someOff (alphaMask alpha n s) n)
 unfoldable pub isKeyed : List Float → List ℕ → ℕ → ℕ → Rgb → Settings → Bool
 isKeyed colours alpha h w reference s = isSought alpha (h * w) s && isFound colours h w reference (s .«key_bg_tolerance»)
 
--- the ground after growth
+-- the ground after growth (R32)
 unfoldable pub grownGround : List Float → ℕ → ℕ → Rgb → Settings → List ℕ
 grownGround colours h w reference s =
     growthOf colours reference h w (passesOf s) (groundOf colours h w reference (s .«key_bg_tolerance»))
@@ -57,7 +57,7 @@ margin = 1
 unfoldable pub cropOf : List ℕ → ℕ → ℕ → ℕ → Bool → Box
 cropOf mask h w added cropping = cond (cropping && someOff mask (h * w)) (boxOf mask h w added) (wholeOf h w)
 
--- a cut, as it is filed: its sides, mask, weights, keyed flag and crop box
+-- a cut, as it is filed: its sides, mask, weights, keyed flag and crop box (R30 to R36)
 pub record Cut : Type 0 where
   pub height : ℕ
   pub width : ℕ
@@ -66,7 +66,7 @@ pub record Cut : Type 0 where
   pub keyed : Bool
   pub box : Box
 
--- the cut of a picture
+-- the cut of a picture (R30 to R36)
 unfoldable pub cutOf : List Float → List ℕ → ℕ → ℕ → Rgb → Settings → Cut
 cutOf colours alpha h w reference s =
     record {

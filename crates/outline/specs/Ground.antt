@@ -18,7 +18,7 @@ use Rattle.outline.specs.Border.{borderList, onBorder, colourAt}
 unfoldable pub isClose : List Float → Rgb → Float → ℕ → Bool
 isClose colours reference tolerance i = closeTo tolerance reference (colourAt colours i)
 
--- the close pixels as a mask
+-- the close pixels as a mask (R19)
 unfoldable pub closePlane : List Float → ℕ → ℕ → Rgb → Float → List ℕ
 closePlane colours h w reference tolerance = table (λ (i : ℕ). bit (isClose colours reference tolerance i)) 0 (h * w)
 
@@ -29,15 +29,15 @@ isGround close h w i =
     isOn close i
     && someBelow (h * w) (λ (j : ℕ). onBorder h w j && isOn close j && eqb (firstPixel close h w j) (firstPixel close h w i))
 
--- the ground as a mask
+-- the ground as a mask (R20)
 unfoldable pub groundFrom : List ℕ → ℕ → ℕ → List ℕ
 groundFrom close h w = table (λ (i : ℕ). bit (isGround close h w i)) 0 (h * w)
 
--- the ground of a picture for a reference colour, found or not
+-- the ground of a picture for a reference colour, found or not (R20)
 unfoldable pub groundOf : List Float → ℕ → ℕ → Rgb → Float → List ℕ
 groundOf colours h w reference tolerance = groundFrom (closePlane colours h w reference tolerance) h w
 
--- how many entries of a list of pixels are on
+-- how many entries of a list of pixels are on (R21)
 unfoldable pub countOn : List ℕ → List ℕ → ℕ
 countOn mask [] = 0
 countOn mask (i ∷ l) = cond (isOn mask i) 1 0 + countOn mask l
@@ -46,7 +46,7 @@ countOn mask (i ∷ l) = cond (isOn mask i) 1 0 + countOn mask l
 unfoldable pub foundFrom : List ℕ → ℕ → ℕ → Bool
 foundFrom close h w = leb (9 * length (borderList h w)) (10 * countOn close (borderList h w)) && someOff (groundFrom close h w) (h * w)
 
--- the same of a picture for a reference colour
+-- the same of a picture for a reference colour (R21)
 unfoldable pub isFound : List Float → ℕ → ℕ → Rgb → Float → Bool
 isFound colours h w reference tolerance = foundFrom (closePlane colours h w reference tolerance) h w
 

@@ -16,7 +16,7 @@ use Rattle.colour.specs.Colour.{differenceOf}
 use Rattle.colour.specs.Join.{joinsOf}
 use Rattle.outline.specs.Border.{colourAt}
 
--- whether some background pixel is within k of pixel i
+-- whether some background pixel is within k of pixel i (R4)
 unfoldable pub nearGround : List ℕ → ℕ → ℕ → ℕ → ℕ → Bool
 nearGround back h w k i = inSquare back h w k (i / w) (i % w)
 
@@ -28,7 +28,7 @@ isEdge back h w i = not (isOn back i) && nearGround back h w 1 i
 unfoldable pub isShallow : List ℕ → ℕ → ℕ → ℕ → Bool
 isShallow back h w i = not (isOn back i) && not (nearGround back h w 1 i)
 
--- how far deep pixels are from the background, and the squared distance up to which one gives the body colour
+-- how far deep pixels are from the background, and the squared distance up to which one gives the body colour (R25, R26)
 abbrev pub deepReach : ℕ
 deepReach = 4
 
@@ -39,7 +39,7 @@ bodyReach = 36
 unfoldable pub isDeep : List ℕ → ℕ → ℕ → ℕ → Bool
 isDeep back h w i = not (nearGround back h w deepReach i)
 
--- whether there is an answer, near enough to (y, x)
+-- whether there is an answer, near enough to (y, x) (R26)
 unfoldable pub isReach : ℕ → ℕ → Option (ℕ × ℕ) → Bool
 isReach y x none = false
 isReach y x (some q) = leb (distanceTo y x (some q)) bodyReach
@@ -51,13 +51,13 @@ bodyFrom deep shallow h w i =
     (indexOf w (nearest deep h w (i / w) (i % w)))
     (indexOf w (nearest shallow h w (i / w) (i % w)))
 
--- whether pixel i joins the background: it is edge, and less than half as far from the reference as its body colour is
+-- whether pixel i joins the background: it is edge, and less than half as far from the reference as its body colour is (R27)
 unfoldable pub joinsFrom : List Float → Rgb → List ℕ → List ℕ → List ℕ → ℕ → ℕ → ℕ → Bool
 joinsFrom colours reference back deep shallow h w i =
     isEdge back h w i
     && joinsOf (differenceOf (colourAt colours (bodyFrom deep shallow h w i)) reference) (differenceOf (colourAt colours i) reference)
 
--- the same where deep and shallow are those of the background; without a shallow pixel nothing joins
+-- the same where deep and shallow are those of the background; without a shallow pixel nothing joins (R28)
 unfoldable pub isJoining : List Float → Rgb → List ℕ → ℕ → ℕ → ℕ → Bool
 isJoining colours reference back h w i =
     someBelow (h * w) (isShallow back h w)

@@ -31,7 +31,7 @@ pub record SameSettings (s t : Settings) : Type 0 where
 abbrev pub AgreeAt : List Float → List Float → ℕ → Type 0
 AgreeAt one two i = sameColour (colourAt one i) (colourAt two i) ≡ true
 
--- how far from the ground a cut of p passes looks: p + 4 rows and columns
+-- how far from the ground a cut of p passes looks: p + 4 rows and columns (R66)
 abbrev pub reachOf : Settings → ℕ
 reachOf s = passesOf s + 4
 
@@ -42,7 +42,7 @@ pub record Agree (one two : List Float) (h w : ℕ) (s : Settings) : Type 0 wher
   pub around : (i : ℕ) → i < h * w
       → nearGround (groundOf one h w (referenceOf one h w) (s .«key_bg_tolerance»)) h w (reachOf s) i ≡ true → AgreeAt one two i
 
--- two calls' buffers are of one length each, whatever they hold
+-- two calls' buffers are of one length each, whatever they hold (R66)
 pub record SameLengths (b c : Buffers) : Type 0 where
   pub mask : length (b .mask) ≡ length (c .mask)
   pub weights : length (b .weights) ≡ length (c .weights)
@@ -52,7 +52,7 @@ pub record SameLengths (b c : Buffers) : Type 0 where
   pub marks : length (b .marks) ≡ length (c .marks)
 
 -- two calls of the cut: on pictures of one size, h rows and w columns, with one alpha, with equal settings, and with each buffer as long
--- in one call as in the other
+-- in one call as in the other (R66)
 pub record TwoCalls (one two : List Float) (alpha : List ℕ) (h w : ℕ) (s t : Settings) (b c : Buffers) : Type 0 where
   pub sizes : length one ≡ length two
   pub settings : SameSettings s t
@@ -65,7 +65,7 @@ pub record TwoCalls (one two : List Float) (alpha : List ℕ) (h w : ℕ) (s t :
   pub agree : refusalIn one alpha h w s b ≡ 0 → Agree one two h w s
 
 -- both calls are declined with the same number, or both are accepted and make the same cut. That what is lent is held as binary64 numbers
--- is no premise of the theorem for calls: every call ensures it
+-- is no premise of the theorem for calls: every call ensures it (R66)
 pub record TwoPictures (one two : List Float) (alpha : List ℕ) (h w : ℕ) (s t : Settings) (b c : Buffers) : Type 0 where
   pub refusals-alike : refusalIn one alpha h w s b ≡ refusalIn two alpha h w t c
   pub cuts-alike : refusalIn one alpha h w s b ≡ 0 → HeldIn one s → HeldIn two t

@@ -14,12 +14,12 @@ use Rattle.colour.specs.declared.Settings.{Settings}
 use Rattle.colour.specs.Colour.{coloursOk, rgbOk}
 use Rattle.outline.specs.Cut.{alphaMask}
 
--- the four work buffers of growth and cut, by how many numbers each holds at least
+-- the four work buffers of growth and cut, by how many numbers each holds at least (R46)
 unfoldable pub workTests : ℕ → ℕ → ℕ → ℕ → ℕ → List Test
 workTests least nearest shallow deep marks =
     (3, leb least nearest) ∷ (3, leb least shallow) ∷ (3, leb least deep) ∷ (3, leb least marks) ∷ []
 
--- what a picture is declined for: a colour that is not from 0 to 1, a tolerance that is no finite number
+-- what a picture is declined for: a colour that is not from 0 to 1, a tolerance that is no finite number (R47, R48)
 unfoldable pub pictureTests : List Float → Float → List Test
 pictureTests colours tolerance = (4, coloursOk colours) ∷ (5, finite tolerance) ∷ []
 

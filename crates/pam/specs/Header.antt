@@ -7,15 +7,15 @@ use lib.Dec.{eqb, leb}
 use lib.ListN.{length, getD}
 use Rattle.text.specs.Decimal.{digitsUpto, numberUpto}
 
--- "P7\nWIDTH "
+-- "P7\nWIDTH " (R38)
 abbrev pub widthText : List ℕ
 widthText = 80 ∷ 55 ∷ 10 ∷ 87 ∷ 73 ∷ 68 ∷ 84 ∷ 72 ∷ 32 ∷ []
 
--- "\nHEIGHT "
+-- "\nHEIGHT " (R38)
 abbrev pub heightText : List ℕ
 heightText = 10 ∷ 72 ∷ 69 ∷ 73 ∷ 71 ∷ 72 ∷ 84 ∷ 32 ∷ []
 
--- "\nDEPTH 4\nMAXVAL 255\nTUPLTYPE RGB_ALPHA\nENDHDR\n"
+-- "\nDEPTH 4\nMAXVAL 255\nTUPLTYPE RGB_ALPHA\nENDHDR\n" (R38)
 abbrev pub tailText : List ℕ
 tailText =
     10 ∷ 68 ∷ 69 ∷ 80 ∷ 84 ∷ 72 ∷ 32 ∷ 52
@@ -24,25 +24,25 @@ tailText =
     ∷ 10 ∷ 69 ∷ 78 ∷ 68 ∷ 72 ∷ 68 ∷ 82
     ∷ 10 ∷ []
 
--- whether a text stands at a place of the input
+-- whether a text stands at a place of the input (R38)
 unfoldable pub startsAt : List ℕ → ℕ → List ℕ → Bool
 startsAt input at [] = true
 startsAt input at (b ∷ text) = eqb (getD input at 0) b && startsAt input (suc at) text
 
--- the most digits of a number
+-- the most digits of a number (R38)
 abbrev pub mostDigits : ℕ
 mostDigits = 5
 
--- how many digits stand from a place on, counted up to the most
+-- how many digits stand from a place on, counted up to the most (R38)
 abbrev pub digitsAt : List ℕ → ℕ → ℕ
 digitsAt input at = digitsUpto mostDigits input at
 
 -- a number stands at a place: at least one digit, the first not '0'. After the digits counted a newline is asked for, so a
--- sixth digit is declined
+-- sixth digit is declined (R38)
 unfoldable pub isNumber : List ℕ → ℕ → Bool
 isNumber input at = leb 1 (digitsAt input at) && not (eqb (getD input at 0) 48)
 
--- where the width, the text after it, the height, the text after it and the pixels stand: the three texts have 9, 8 and 46 bytes
+-- where the width, the text after it, the height, the text after it and the pixels stand: the three texts have 9, 8 and 46 bytes (R38)
 abbrev pub widthAt : ℕ
 widthAt = length widthText
 
@@ -58,7 +58,7 @@ tailAt input = heightAt input + digitsAt input (heightAt input)
 unfoldable pub bodyAt : List ℕ → ℕ
 bodyAt input = tailAt input + length tailText
 
--- the width and the height that the header gives
+-- the width and the height that the header gives (R38)
 unfoldable pub widthOf : List ℕ → ℕ
 widthOf input = numberUpto mostDigits input widthAt
 

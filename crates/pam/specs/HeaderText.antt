@@ -15,6 +15,6 @@ pub record Numeral (l : List ℕ) : Type 0 where
   pub few : length l ≤ mostDigits
   pub first : getD l 0 0 ≡ 48 → ⊥
 
--- the header with these digits of width and height
+-- the header with these digits of width and height (R38)
 unfoldable pub headerText : List ℕ → List ℕ → List ℕ
 headerText w h = widthText ++ w ++ heightText ++ h ++ tailText

@@ -10,23 +10,23 @@ use Rattle.plane.specs.Refusal.{Test}
 use Rattle.colour.specs.Weight.{weightOf}
 use Rattle.pam.specs.Header.{headerOk, widthOf, heightOf, bodyAt}
 
--- the most pixels of a picture
+-- the most pixels of a picture (R39)
 abbrev pub mostPixels : ℕ
 mostPixels = 2304
 
--- one byte more than any accepted file has: at most 73 of header, and four for each pixel
+-- one byte more than any accepted file has: at most 73 of header, and four for each pixel (R38, R39)
 abbrev pub mostInput : ℕ
 mostInput = 73 + 4 * mostPixels + 1
 
--- the number of pixels
+-- the number of pixels (R39)
 unfoldable pub pixelsOf : List ℕ → ℕ
 pixelsOf input = heightOf input * widthOf input
 
--- byte k of the pixels, which stand from body on: red, green, blue and alpha of pixel i are bytes 4 * i to 4 * i + 3
+-- byte k of the pixels, which stand from body on: red, green, blue and alpha of pixel i are bytes 4 * i to 4 * i + 3 (R39)
 unfoldable pub sampleAt : List ℕ → ℕ → ℕ → ℕ
 sampleAt input body k = getD input (body + k) 0
 
--- three colours a pixel: number k is channel k % 3 of pixel k / 3; byte v is colour v / 255
+-- three colours a pixel: number k is channel k % 3 of pixel k / 3; byte v is colour v / 255 (R40)
 unfoldable pub coloursFrom : List ℕ → ℕ → ℕ → List Float
 coloursFrom input body n = table (λ (k : ℕ). weightOf (sampleAt input body (4 * (k / 3) + k % 3))) 0 (3 * n)
 

@@ -14,7 +14,8 @@ use mir.Syntax.{w64}
 use mir.Val.{Fits}
 use mir.Facts.{fits-le, fits-lit}
 use borrow.Author.Count.{below-more}
-use Rattle.plane.specs.Plane.{longestSide, apart, on, bit, table, rowsUpto, planeOf}
+use Rattle.plane.specs.Plane.{apart, on, bit, table, rowsUpto, planeOf}
+use Rattle.plane.specs.steps.Sides.{longestSide}
 use Rattle.plane.proofs.Search.{which}
 
 -- ---- indices

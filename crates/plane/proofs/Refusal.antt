@@ -8,7 +8,8 @@ use native.Mathlib.Nat.{mul-le-mul}
 use native.Mathlib.Omega.{arith}
 use lib.Dec.{leb}
 use borrow.Author.Tests.{leb-true, le-leb, eq-eqb, ne-eqb}
-use Rattle.plane.specs.Plane.{mostSide, Sides}
+use Rattle.plane.specs.Plane.{mostSide}
+use Rattle.plane.specs.steps.Sides.{Sides}
 use Rattle.plane.specs.Refusal.{Test, refusalOf, after, sidesOk, roomFor}
 use Rattle.plane.proofs.Search.{not-both}
 use Rattle.plane.proofs.Plane.{area-most}

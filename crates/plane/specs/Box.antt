@@ -8,14 +8,14 @@ use Rattle.plane.specs.Plane.{onAt}
 use Rattle.plane.specs.Search.{someBelow, firstBelow, lastBelow}
 use Rattle.plane.specs.declared.Box.{Box}
 
--- whether row y, or column x, of a mask has an on-pixel
+-- whether row y, or column x, of a mask has an on-pixel (R35)
 unfoldable pub rowHas : List ℕ → ℕ → ℕ → Bool
 rowHas mask w y = someBelow w (λ (x : ℕ). onAt mask w y x)
 
 unfoldable pub columnHas : List ℕ → ℕ → ℕ → ℕ → Bool
 columnHas mask h w x = someBelow h (λ (y : ℕ). onAt mask w y x)
 
--- the lesser of two numbers
+-- the lesser of two numbers (R35)
 unfoldable pub lesserOf : ℕ → ℕ → ℕ
 lesserOf a b = cond (leb a b) a b
 

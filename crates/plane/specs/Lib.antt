@@ -3,3 +3,4 @@ pub mod Plane
 pub mod Mask
 pub mod Box
 pub mod Refusal
+pub mod steps

@@ -15,10 +15,6 @@ isOn mask i = on (getD mask i 0)
 unfoldable pub maskOf : ℕ → (ℕ → Bool) → List ℕ
 maskOf n p = table (λ (i : ℕ). bit (p i)) 0 n
 
--- the mask with on and off exchanged
-unfoldable pub complementOf : List ℕ → List ℕ
-complementOf mask = maskOf (length mask) (λ (i : ℕ). not (isOn mask i))
-
--- whether one of the first n pixels is off
+-- whether one of the first n pixels is off (R32, R36)
 unfoldable pub someOff : List ℕ → ℕ → Bool
 someOff mask n = someBelow n (λ (i : ℕ). not (isOn mask i))

@@ -11,17 +11,6 @@ use lib.ListN.{getD}
 abbrev pub mostSide : ℕ
 mostSide = 4096
 
--- the largest side for which the inner functions are proved
-abbrev pub longestSide : ℕ
-longestSide = 65536
-
--- sides of a plane that is not empty and not larger than that
-pub record Sides (h w : ℕ) : Type 0 where
-  pub some-rows : 1 ≤ h
-  pub some-columns : 1 ≤ w
-  pub tall : h ≤ longestSide
-  pub wide : w ≤ longestSide
-
 -- a byte of a mask (R3): 0 is off, any other on
 unfoldable pub on : ℕ → Bool
 on b = not (eqb b 0)
@@ -30,11 +19,11 @@ on b = not (eqb b 0)
 unfoldable pub bit : Bool → ℕ
 bit t = cond t 1 0
 
--- whether pixel (y, x) of a mask with w columns is on
+-- whether pixel (y, x) of a mask with w columns is on (R3)
 unfoldable pub onAt : List ℕ → ℕ → ℕ → ℕ → Bool
 onAt mask w y x = on (getD mask (y * w + x) 0)
 
--- how far apart two rows or two columns are
+-- how far apart two rows or two columns are (R4)
 unfoldable pub apart : ℕ → ℕ → ℕ
 apart a b = (a - b) + (b - a)
 
@@ -42,17 +31,17 @@ apart a b = (a - b) + (b - a)
 unfoldable pub within : ℕ → ℕ → ℕ → ℕ → ℕ → Bool
 within k y x j i = leb (apart y j) k && leb (apart x i) k
 
--- f at k, k + 1 and so on, n elements
+-- f at k, k + 1 and so on, n elements (R1)
 unfoldable pub table : {A : Type 0} → (ℕ → A) → ℕ → ℕ → List A
 table f k zero = []
 table f k (suc n) = f k ∷ table f (suc k) n
 
--- n rows, one after the other
+-- n rows, one after the other (R1)
 unfoldable pub rowsUpto : {A : Type 0} → ℕ → (ℕ → List A) → List A
 rowsUpto zero g = []
 rowsUpto (suc n) g = rowsUpto n g ++ g n
 
--- the plane whose element at row y and column x is f y x
+-- the plane whose element at row y and column x is f y x (R1)
 unfoldable pub planeOf : {A : Type 0} → ℕ → ℕ → (ℕ → ℕ → A) → List A
 planeOf h w f = rowsUpto h (λ (y : ℕ). table (f y) 0 w)
 

@@ -6,7 +6,7 @@ use mathlib.Core.List.{List, [], _∷_}
 use lib.Dec.{eqb, leb}
 use Rattle.plane.specs.Plane.{mostSide}
 
--- a test that a call must pass, with the number by which the call is declined where it does not
+-- a test that a call must pass, with the number by which the call is declined where it does not (R54 to R59)
 abbrev pub Test : Type 0
 Test = ℕ × Bool
 

@@ -3,9 +3,11 @@
 ghost use mathlib.Core.Path.{_≡_};
 ghost use mathlib.Core.Bool.{not};
 ghost use lib.ListN.{length};
-ghost use Rattle.plane.specs.Plane.{Sides, bit, apart};
+ghost use Rattle.plane.specs.Plane.{bit, apart};
+ghost use Rattle.plane.specs.steps.Sides.{Sides};
 ghost use Rattle.plane.specs.Search.{someBelow};
-ghost use Rattle.plane.specs.Mask.{isOn, complementOf, someOff};
+ghost use Rattle.plane.specs.Mask.{isOn, someOff};
+ghost use Rattle.plane.specs.steps.Complement.{complementOf};
 ghost use Rattle.plane.specs.Refusal.{sidesOk, roomFor};
 
 // The largest side that the public calls accept (mostSide in specs/Plane.antt).

@@ -7,7 +7,8 @@ use Rattle.plane.specs.Plane.{on, bit, onAt, apart, within, table, rowsUpto, pl
 use Rattle.squares.specs.Squares.{larger, reach, inSquare, squaresPlane}
 
 -- R76: 1 by 5, on at column 0, with k 1 and with iterations 0; none on
-line-cases : (squaresPlane (1 ∷ 0 ∷ 0 ∷ 0 ∷ 0 ∷ []) 1 5 1 ≡ (1 ∷ 1 ∷ 0 ∷ 0 ∷ 0 ∷ [])) × (squaresPlane (1 ∷ 0 ∷ 0 ∷ 0 ∷ 0 ∷ []) 1 5 0 ≡ (1 ∷ 1 ∷ 1 ∷ 1 ∷ 1 ∷ []))
+line-cases : (squaresPlane (1 ∷ 0 ∷ 0 ∷ 0 ∷ 0 ∷ []) 1 5 1 ≡ (1 ∷ 1 ∷ 0 ∷ 0 ∷ 0 ∷ []))
+    × (squaresPlane (1 ∷ 0 ∷ 0 ∷ 0 ∷ 0 ∷ []) 1 5 0 ≡ (1 ∷ 1 ∷ 1 ∷ 1 ∷ 1 ∷ []))
     × (squaresPlane (0 ∷ 0 ∷ 0 ∷ 0 ∷ 0 ∷ []) 1 5 0 ≡ (0 ∷ 0 ∷ 0 ∷ 0 ∷ 0 ∷ []))
 unfolding larger reach inSquare squaresPlane someBelow on bit onAt apart within table rowsUpto planeOf
 line-cases = (refl, refl, refl)

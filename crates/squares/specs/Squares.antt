@@ -7,7 +7,7 @@ use lib.Dec.{eqb, leb}
 use Rattle.plane.specs.Search.{someBelow}
 use Rattle.plane.specs.Plane.{bit, onAt, within, planeOf}
 
--- the larger side
+-- the larger side (R9)
 unfoldable pub larger : ℕ → ℕ → ℕ
 larger h w = cond (leb h w) w h
 
@@ -19,6 +19,6 @@ reach h w iterations = cond (eqb iterations 0) (larger h w) iterations
 unfoldable pub inSquare : List ℕ → ℕ → ℕ → ℕ → ℕ → ℕ → Bool
 inSquare mask h w k y x = someBelow h (λ (j : ℕ). someBelow w (λ (i : ℕ). onAt mask w j i && within k y x j i))
 
--- the mask after the dilation: 1 for on, 0 for off
+-- the mask after the dilation: 1 for on, 0 for off (R8)
 unfoldable pub squaresPlane : List ℕ → ℕ → ℕ → ℕ → List ℕ
 squaresPlane mask h w iterations = planeOf h w (λ (y x : ℕ). bit (inSquare mask h w (reach h w iterations) y x))

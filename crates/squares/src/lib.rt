@@ -1,13 +1,15 @@
-// Squares: the dilation of a mask by a square (binary_dilation8). Along each row the reach of the on-pixels grows step by step;
+// Squares: the dilation of a mask by a square (binary_dilation8). Along each row the reach of the on-pixels grows by doubling;
 // then, strip by strip of columns, a window slides down, with the number of on-pixels in each column as a running count.
 ghost use mathlib.Core.Path.{_≡_};
 ghost use mathlib.Core.List.{_++_};
 ghost use Prim.Native.Nat.{_+_, _*_, _-_, _<_, _≤_};
 ghost use lib.ListN.{length, drop};
+ghost use Rattle.plane.specs.Plane.{table};
+ghost use Rattle.plane.specs.steps.Sides.{longestSide};
 ghost use Rattle.squares.specs.Squares.{squaresPlane};
-ghost use Rattle.squares.specs.steps.Window.{joinedLine, joinedOne, aheadLine, behindLine, dilatedRow, dilatedRows};
-ghost use Rattle.squares.specs.steps.Window.{dilatedColumns, addedLine, takenLine, testedLine, radiusOf, Alike, Rows, Planes};
-ghost use Rattle.squares.specs.steps.Window.{Addable, Takable, Bits, Strip, Start, Columns, Entered, Swept, Lent};
+ghost use Rattle.squares.specs.steps.Window.{radiusOf, aheadLine, behindLine, dilatedRow, dilatedRows, dilatedColumns};
+ghost use Rattle.squares.specs.steps.Window.{movedLine, testedLine, Joinable, Rows, Planes, Bits, Addable, Movable, Moved};
+ghost use Rattle.squares.specs.steps.Window.{Start, Swept, Lent};
 
 // How many columns a strip has at most.
 const STRIP: usize = 8192;
@@ -26,71 +28,57 @@ fn radius(h: usize, w: usize, iterations: u64) -> usize
     side
 }
 
-// Each pixel of out is on where that of a or that of b is.
-fn join(a: &[u8], b: &[u8], out: &mut [u8])
-    requires { ⌜ Alike (now a) (now b) (now out) ⌝ }
-    ensures { λ _. ⌜ now (out .exit) ≡ joinedLine (now (a .entry)) (now (b .entry)) ⌝ }
-{
-    let mut i = 0usize;
-    while i < out.len() {
-        out[i] = plane::byte((a[i] != 0) | (b[i] != 0));
-        i += 1;
-    }
-}
-
-// The same with one pixel in the place of b.
-fn join_one(a: &[u8], b: u8, out: &mut [u8])
-    requires { ⌜ length (now out) ≡ length (now a) ⌝ }
-    ensures { λ _. ⌜ now (out .exit) ≡ joinedOne (now (a .entry)) b ⌝ }
-{
-    let mut i = 0usize;
-    while i < out.len() {
-        out[i] = plane::byte((a[i] != 0) | (b != 0));
-        i += 1;
-    }
-}
-
-// How many of w places have one t places on.
-fn less(w: usize, t: usize) -> usize
-    ensures { λ r. ⌜ r ≡ w - t ⌝ }
-{
-    if t < w { w - t } else { 0 }
-}
-
-// Each pixel of a line joined with the one t places on, or the last.
+// Each pixel of a line joined with the one t places on, where there is one.
 fn ahead(line: &[u8], t: usize, out: &mut [u8])
-    requires { ⌜ 0 < length (now line) ⌝ }
-    requires { ⌜ length (now out) ≡ length (now line) ⌝ }
+    requires { ⌜ Joinable (now line) t (now out) ⌝ }
     ensures { λ _. ⌜ now (out .exit) ≡ aheadLine (now (line .entry)) t ⌝ }
 {
-    let w = line.len();
-    let d = less(w, t);
-    join(&line[0..d], &line[w - d..w], &mut out[0..d]);
-    join_one(&line[d..w], line[w - 1], &mut out[d..w]);
+    let d = line.len() - t;
+    let mut x = 0usize;
+    while x < d {
+        out[x] = plane::byte((line[x] != 0) | (line[x + t] != 0));
+        x += 1;
+    }
+    while x < line.len() {
+        out[x] = plane::byte(line[x] != 0);
+        x += 1;
+    }
 }
 
 // With the one t places back, or the first.
 fn behind(line: &[u8], t: usize, out: &mut [u8])
-    requires { ⌜ 0 < length (now line) ⌝ }
-    requires { ⌜ length (now out) ≡ length (now line) ⌝ }
+    requires { ⌜ Joinable (now line) t (now out) ⌝ }
     ensures { λ _. ⌜ now (out .exit) ≡ behindLine (now (line .entry)) t ⌝ }
 {
-    let w = line.len();
-    let d = less(w, t);
-    join_one(&line[0..w - d], line[0], &mut out[0..w - d]);
-    join(&line[w - d..w], &line[0..d], &mut out[w - d..w]);
+    let mut x = 0usize;
+    while x < t {
+        out[x] = plane::byte((line[x] != 0) | (line[0] != 0));
+        x += 1;
+    }
+    while x < line.len() {
+        out[x] = plane::byte((line[x] != 0) | (line[x - t] != 0));
+        x += 1;
+    }
 }
 
-// By how much the reach r grows next, on its way to k.
-fn growth(r: usize, k: usize) -> usize
-    requires { ⌜ (r < k) × (k ≤ 65536) ⌝ }
-    ensures { λ t. ⌜ (0 < t) × (t ≤ r + r + 1) × (r + t ≤ k) ⌝ }
+// Each pixel of a line set to b.
+fn fill(b: u8, out: &mut [u8])
+    ensures { λ _. ⌜ now (out .exit) ≡ table (λ _. b) 0 (length (now (out .entry))) ⌝ }
 {
-    let most = r + r + 1;
-    if most < k - r {
-        return most;
+    let mut x = 0usize;
+    while x < out.len() {
+        out[x] = b;
+        x += 1;
     }
-    k - r
+}
+
+// By how much a reach of m pixels grows next, on its way to k + 1.
+fn growth(m: usize, k: usize) -> usize
+    requires { ⌜ (m ≤ k + 1) × (k ≤ 65536) ⌝ }
+    ensures { λ t. ⌜ (t ≤ m) × (m + t ≤ k + 1) × (0 < m → m ≤ k → 0 < t) ⌝ }
+{
+    let left = k + 1 - m;
+    if m < left { m } else { left }
 }
 
 // The line pass: each pixel of a row is on where the row has an on-pixel at most k away; spare is work space.
@@ -99,17 +87,21 @@ fn dilate_line(row: &[u8], k: usize, spare: &mut [u8], out: &mut [u8])
     ensures { λ _. ⌜ now (out .exit) ≡ dilatedRow (now (row .entry)) k ⌝ }
 {
     if row.len() <= k {
-        join_one(row, plane::byte(plane::any(row)), out);
+        fill(plane::byte(plane::any(row)), out);
         return;
     }
-    join(row, row, out);
-    let mut r = 0usize;
-    while r < k {
-        let t = growth(r, k);
+    let t = growth(1, k);
+    ahead(row, t, spare);
+    let mut m = 1 + t;
+    while m <= k {
+        let t = growth(m, k);
+        ahead(spare, t, out);
+        m += t;
+        let t = growth(m, k);
         ahead(out, t, spare);
-        behind(spare, t, out);
-        r += t;
+        m += t;
     }
+    behind(spare, k, out);
 }
 
 // The line pass along each row; the first row of out is work space.
@@ -119,36 +111,23 @@ fn dilate_rows(mask: &[u8], h: usize, w: usize, k: usize, out: &mut [u8], work: 
 {
     let mut y = 0usize;
     while y < h {
-        dilate_line(
-            &mask[y * w..y * w + w],
-            k,
-            &mut out[0..w],
-            &mut work[y * w..y * w + w],
-        );
+        let s = y * w;
+        let e = s + w;
+        dilate_line(&mask[s..e], k, &mut out[0..w], &mut work[s..e]);
         y += 1;
     }
 }
 
-// A count for each column of a strip: a row enters the window,
-fn add_line(line: &[u8], counts: &mut [u32])
-    requires { ⌜ Addable (now counts) (now line) ⌝ }
-    ensures { λ _. ⌜ now (counts .exit) ≡ addedLine (now (counts .entry)) (now (line .entry)) ⌝ }
+// A count for each column of a strip: the pixels of a row enter the window, or leave it,
+fn move_line(line: &[u8], enters: bool, counts: &mut [u32])
+    requires { ⌜ Addable (now counts) (now line) enters ⌝ }
+    ensures { λ _. ⌜ now (counts .exit) ≡ movedLine (now (counts .entry)) (now (line .entry)) enters ⌝ }
 {
     let mut x = 0usize;
     while x < line.len() {
-        counts[x] = counts[x] + line[x] as u32;
-        x += 1;
-    }
-}
-
-// a row leaves it,
-fn take_line(line: &[u8], counts: &mut [u32])
-    requires { ⌜ Takable (now counts) (now line) ⌝ }
-    ensures { λ _. ⌜ now (counts .exit) ≡ takenLine (now (counts .entry)) (now (line .entry)) ⌝ }
-{
-    let mut x = 0usize;
-    while x < line.len() {
-        counts[x] = counts[x] - line[x] as u32;
+        let b = line[x] as u32;
+        let n = counts[x];
+        counts[x] = if enters { n + b } else { n - b };
         x += 1;
     }
 }
@@ -165,82 +144,40 @@ fn test_line(counts: &[u32], out: &mut [u8])
     }
 }
 
-// The counts of the first row's window, in the columns from column c on.
-fn first_rows(plane: &[u8], h: usize, w: usize, k: usize, c: usize, counts: &mut [u32])
-    requires { ⌜ Start (now plane) h w k c (now counts) ⌝ }
-    ensures { λ _. ⌜ Columns (now (plane .entry)) h w k c 0 (now (counts .exit)) ⌝ }
+// The rows from a to b enter the window, or leave it, in the columns from column c on.
+fn move_rows(plane: &[u8], w: usize, c: usize, a: usize, b: usize, enters: bool, counts: &mut [u32])
+    requires { ⌜ Movable (now plane) w c a b enters (now counts) ⌝ }
+    ensures { λ _. ⌜ Moved (now (plane .entry)) w c a b enters (now (counts .entry)) (now (counts .exit)) ⌝ }
 {
     let n = counts.len();
-    let end = if k < h { k + 1 } else { h };
-    let mut j = 0usize;
-    while j < end {
-        add_line(&plane[j * w + c..j * w + c + n], counts);
+    let mut j = a;
+    while j < b {
+        let s = j * w + c;
+        move_line(&plane[s..s + n], enters, counts);
         j += 1;
     }
 }
 
-// From row y to the next: the row that enters,
-fn enter_row(plane: &[u8], h: usize, w: usize, k: usize, c: usize, y: usize, counts: &mut [u32])
-    requires { ⌜ Bits (now plane) h w k ⌝ }
-    requires { ⌜ y < h ⌝ }
-    requires { ⌜ Columns (now plane) h w k c y (now counts) ⌝ }
-    ensures { λ _. ⌜ Entered (now (plane .entry)) h w k c y (now (counts .exit)) ⌝ }
-{
-    let n = counts.len();
-    let j = y + k + 1;
-    if j < h {
-        add_line(&plane[j * w + c..j * w + c + n], counts);
-    }
-}
-
-// and the row that leaves.
-fn leave_row(plane: &[u8], h: usize, w: usize, k: usize, c: usize, y: usize, counts: &mut [u32])
-    requires { ⌜ Bits (now plane) h w k ⌝ }
-    requires { ⌜ y < h ⌝ }
-    requires { ⌜ Entered (now plane) h w k c y (now counts) ⌝ }
-    ensures { λ _. ⌜ Columns (now (plane .entry)) h w k c (y + 1) (now (counts .exit)) ⌝ }
-{
-    let n = counts.len();
-    if k <= y {
-        let j = y - k;
-        take_line(&plane[j * w + c..j * w + c + n], counts);
-    }
-}
-
-// Row by row down a strip.
+// Row by row down the columns from column c on: the window of row y has the rows from a to b, and its counts are tested.
 fn sweep(plane: &[u8], h: usize, w: usize, k: usize, c: usize, counts: &mut [u32], out: &mut [u8])
-    requires { ⌜ Bits (now plane) h w k ⌝ }
-    requires { ⌜ Columns (now plane) h w k c 0 (now counts) ⌝ }
-    requires { ⌜ length (now out) ≡ h * w ⌝ }
-    ensures { λ _. ⌜ Swept (now (plane .entry)) h w k c (length (now (counts .entry))) h (now (out .entry)) (now (out .exit)) ⌝ }
+    requires { ⌜ Start (now plane) h w k c (now counts) (now out) ⌝ }
+    ensures { λ _. ⌜ Swept (now (plane .entry)) h w k c (c + length (now (counts .entry))) h (now (out .exit)) ⌝ }
 {
     let n = counts.len();
+    let mut a = 0usize;
+    let mut b = 0usize;
     let mut y = 0usize;
     while y < h {
-        test_line(counts, &mut out[y * w + c..y * w + c + n]);
-        enter_row(plane, h, w, k, c, y, counts);
-        leave_row(plane, h, w, k, c, y, counts);
+        let end = if y + k < h { y + k + 1 } else { h };
+        move_rows(plane, w, c, b, end, true, counts);
+        b = end;
+        let start = if k < y { y - k } else { 0 };
+        move_rows(plane, w, c, a, start, false, counts);
+        a = start;
+        let s = y * w + c;
+        test_line(counts, &mut out[s..s + n]);
         y += 1;
     }
-}
-
-// The columns from column c on, with a count of 0 for each.
-fn columns(plane: &[u8], h: usize, w: usize, k: usize, c: usize, counts: &mut [u32], out: &mut [u8])
-    requires { ⌜ Start (now plane) h w k c (now counts) ⌝ }
-    requires { ⌜ length (now out) ≡ h * w ⌝ }
-    ensures { λ _. ⌜ Swept (now (plane .entry)) h w k c (length (now (counts .entry))) h (now (out .entry)) (now (out .exit)) ⌝ }
-{
-    first_rows(plane, h, w, k, c, counts);
-    sweep(plane, h, w, k, c, counts, out);
-}
-
-// The strip of n columns from column c on.
-fn strip(plane: &[u8], h: usize, w: usize, k: usize, c: usize, n: usize, out: &mut [u8])
-    requires { ⌜ Strip (now plane) (now out) h w k c n ⌝ }
-    ensures { λ _. ⌜ Swept (now (plane .entry)) h w k c n h (now (out .entry)) (now (out .exit)) ⌝ }
-{
-    let mut counts = [0u32; STRIP];
-    columns(plane, h, w, k, c, &mut counts[0..n], out);
 }
 
 // How many columns the next strip has, of those that are left.
@@ -254,16 +191,18 @@ fn width(left: usize) -> usize
     left
 }
 
-// The pass down the columns: each pixel is on where its column has an on-pixel at most k away.
+// The pass down the columns, strip by strip: each pixel is on where its column has an on-pixel at most k away.
 fn dilate_columns(plane: &[u8], h: usize, w: usize, k: usize, out: &mut [u8])
-    requires { ⌜ Bits (now plane) h w k ⌝ }
+    requires { ⌜ Bits (now plane) h w ⌝ }
+    requires { ⌜ k ≤ longestSide ⌝ }
     requires { ⌜ length (now out) ≡ h * w ⌝ }
     ensures { λ _. ⌜ now (out .exit) ≡ dilatedColumns (now (plane .entry)) h w k ⌝ }
 {
     let mut c = 0usize;
     while c < w {
         let n = width(w - c);
-        strip(plane, h, w, k, c, n, out);
+        let mut counts = [0u32; STRIP];
+        sweep(plane, h, w, k, c, &mut counts[0..n], out);
         c += n;
     }
 }

@@ -4,7 +4,7 @@ ghost use mathlib.Core.Bool.{cond};
 ghost use Prim.Native.Nat.{_+_, _*_, _<_, _≤_, _/_, _%_};
 ghost use lib.Dec.{leb};
 ghost use lib.ListN.{length};
-ghost use Rattle.plane.specs.Plane.{Sides};
+ghost use Rattle.plane.specs.steps.Sides.{Sides};
 ghost use Rattle.nearest.specs.Nearest.{away};
 ghost use Rattle.outline.specs.Growth.{bodyReach};
 ghost use Rattle.window.specs.steps.Window.{nearPixel, upOn, downOn, Inside, Gap, Searched, Made};

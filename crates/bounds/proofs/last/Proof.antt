@@ -1,64 +1,41 @@
--- `bounds::last` meets its contract. The loop's invariant: no pixel from i on is on.
+-- `bounds::last` meets its contract. The loop's invariant: the last on-pixel is that of the first i pixels.
 -- Assumes nothing.
-use mathlib.Core.Path.{_≡_, sym, _∙_}
-use mathlib.Core.Bool.{false}
-use Prim.Native.Nat.{ℕ, _-_, _≤_, _<_}
+use mathlib.Core.Path.{_≡_, refl, sym, _∙_}
+use Prim.Native.Nat.{_-_, _≤_}
 use native.Mathlib.Omega.{arith}
 use lib.ListN.{length}
 use borrow.Author.Needs.{needs}
 use borrow.Author.Tests.{not-true}
+use Rattle.plane.specs.Search.{lastBelow}
 use Rattle.plane.specs.Mask.{isOn}
 use Rattle.plane.proofs.Search.{none-found}
-use Rattle.plane.proofs.Bounds.{last-is, last-none, none-from}
-use Rattle.bounds.proofs.Rows.{byte-on, byte-off}
+use Rattle.plane.proofs.Bounds.{last-none}
+use Rattle.bounds.proofs.Rows.{byte-on, byte-off, last-step}
 use Rattle.bounds.proofs.last.Statement.{statement}
 use Rattle.bounds.proofs.last.Tie as tie
 
 abbrev Inv-loop : tie.InvT-loop
-Inv-loop line i₀ i = (i ≤ length line) × ((k : ℕ) → i ≤ k → k < length line → isOn line k ≡ false)
+Inv-loop line i₀ i = (i ≤ length line) × (lastBelow (length line) (isOn line) ≡ lastBelow i (isOn line))
 
 abbrev μ-loop : tie.MeasureT-loop
 μ-loop line i₀ i = i
 
-any-requires : tie.Need-any-requires Inv-loop μ-loop
-any-requires c κs = search needs
-
 returns : tie.Need-returns Inv-loop μ-loop
-returns c =
-    let line = c .before .before .before .args .line .now in
-    let none = none-found (isOn line) (length line) (sym (c .before .any .ensures) ∙ not-true _ (c .if1 .taken)) in
-    sym (last-none (isOn line) (length line) none)
-
-loop-holds : tie.Need-loop-holds Inv-loop μ-loop
-loop-holds c = (omega arith, λ k l m. absurd (omega arith))
-
-sub-i : tie.Need-sub-i Inv-loop μ-loop
-sub-i c = omega arith
-
-shared-slice-read-if2 : tie.Need-shared-slice-read-if2 Inv-loop μ-loop
-shared-slice-read-if2 c = omega arith
+returns c = sym (last-none _ _ (none-found _ _ (sym (c .before .any .ensures) ∙ not-true _ (c .if1 .taken))))
 
 returns-2 : tie.Need-returns-2 Inv-loop μ-loop
 returns-2 c =
     let l = c .before .before .before .loop in
-    let line = c .before .before .before .before .before .before .before .args .line .now in
-    sym (last-is (isOn line) (length line) (l .i - 1)
-    (record { inside = omega arith; holds = byte-on line (l .i - 1) (c .if2 .taken); after = λ k g m. l .inv .1 k (omega arith) m }))
-
-loop-less : tie.Need-loop-less Inv-loop μ-loop
-loop-less c = omega arith
+    sym (l .inv .1 ∙ last-step _ (l .i) (l .i - 1) _ (omega arith) (sym (byte-on _ _ (c .if2 .taken))))
 
 loop-again : tie.Need-loop-again Inv-loop μ-loop
 loop-again c =
     let l = c .before .before .before .loop in
-    let line = c .before .before .before .before .before .before .before .args .line .now in
-    (omega arith, none-from (isOn line) (length line) (l .i) (omega arith) (l .inv .1) (byte-off line (l .i - 1) (c .if2 .left)))
+    (omega arith, l .inv .1 ∙ last-step _ (l .i) (l .i - 1) _ (omega arith) (sym (byte-off _ _ (c .if2 .left))))
 
 returns-3 : tie.Need-returns-3 Inv-loop μ-loop
-returns-3 c =
-    let l = c .before .loop in
-    let line = c .before .before .before .before .before .args .line .now in
-    sym (last-none (isOn line) (length line) (λ k g. l .inv .1 k (omega arith) g))
+unfolding lastBelow
+returns-3 c = let e : c .before .loop .i ≡ 0 = omega arith in sym (c .before .loop .inv .1 ∙ rw e)
 
 pub last-spec : {M : Type 1} → statement M
 last-spec =
@@ -66,12 +43,12 @@ last-spec =
     (tie.spec
     Inv-loop
     μ-loop
-    any-requires
+    (search needs)
     returns
-    loop-holds
-    sub-i
-    shared-slice-read-if2
+    (λ c. (omega arith, refl))
+    (λ c. omega arith)
+    (λ c. omega arith)
     returns-2
-    loop-less
+    (λ c. omega arith)
     loop-again
     returns-3)

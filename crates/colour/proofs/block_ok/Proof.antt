@@ -1,4 +1,5 @@
--- `colour::block_ok` meets its contract. The invariant is of what is left: the answer for all is what is known so far and the answer for the rest.
+-- `colour::block_ok` meets its contract. The invariant is of what is left: the answer for all is what is known so far and the
+-- answer for the rest.
 -- Assumes nothing.
 use mathlib.Core.Path.{_≡_, refl, sym, ap, _∙_}
 use mathlib.Core.Bool.{Bool, _&&_, and-assoc, and-true}
@@ -15,7 +16,8 @@ use Rattle.colour.proofs.block_ok.Statement.{statement}
 use Rattle.colour.proofs.block_ok.Tie as tie
 
 abbrev Inv-loop : tie.InvT-loop
-Inv-loop colours ok₀ i₀ i-end ok i = (i-end ≡ length colours) × (i ≤ length colours) × (coloursOk colours ≡ ok && coloursOk (drop i colours))
+Inv-loop colours ok₀ i₀ i-end ok i =
+    (i-end ≡ length colours) × (i ≤ length colours) × (coloursOk colours ≡ ok && coloursOk (drop i colours))
 
 abbrev μ-loop : tie.MeasureT-loop
 μ-loop colours ok₀ i₀ i-end ok i = length colours - i
@@ -24,24 +26,6 @@ abbrev μ-loop : tie.MeasureT-loop
 rest : (l : List Float) (i : ℕ) → i < length l → coloursOk (drop i l) ≡ colourOk (getD l i nan) && coloursOk (drop (i + 1) l)
 unfolding coloursOk
 rest l i h = rw (add-one i, drop-cons l i nan h)
-
-loop-holds : tie.Need-loop-holds Inv-loop μ-loop
-loop-holds c = (refl, search needs, refl)
-
-mul-colour-ok : tie.Need-mul-colour-ok Inv-loop μ-loop
-mul-colour-ok c = omega arith
-
-shared-slice-read-colour-ok : tie.Need-shared-slice-read-colour-ok Inv-loop μ-loop
-shared-slice-read-colour-ok c = omega arith
-
-colour-ok-requires : tie.Need-colour-ok-requires Inv-loop μ-loop
-colour-ok-requires c κs = search needs
-
-add-i : tie.Need-add-i Inv-loop μ-loop
-add-i c = omega arith
-
-loop-less : tie.Need-loop-less Inv-loop μ-loop
-loop-less c = omega arith
 
 loop-again : tie.Need-loop-again Inv-loop μ-loop
 loop-again c =
@@ -66,11 +50,11 @@ block-ok-spec =
     (tie.spec
     Inv-loop
     μ-loop
-    loop-holds
-    mul-colour-ok
-    shared-slice-read-colour-ok
-    colour-ok-requires
-    add-i
-    loop-less
+    (λ c. (refl, search needs, refl))
+    (λ c. omega arith)
+    (λ c. omega arith)
+    (λ c κs. search needs)
+    (λ c. omega arith)
+    (λ c. omega arith)
     loop-again
     returns)

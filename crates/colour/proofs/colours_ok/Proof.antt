@@ -1,7 +1,7 @@
 -- `colour::colours_ok` meets its contract. The invariant is of what is left: the answer for all is that for the rest.
 -- Assumes nothing.
 use mathlib.Core.Path.{_≡_, refl, sym, ap, _∙_}
-use mathlib.Core.Bool.{Bool, true, false, not, _&&_}
+use mathlib.Core.Bool.{true, false, _&&_}
 use mathlib.Core.List.{List}
 use Prim.Native.Nat.{ℕ, _+_, _-_, _≤_}
 use native.Mathlib.Omega.{arith}
@@ -9,6 +9,7 @@ use lib.ListN.{length, take, drop, take-append-drop, length-drop}
 use lib.Seq.{take-all, drop-drop}
 use lib.Ieee.{Float}
 use borrow.Author.Needs.{needs}
+use borrow.Author.Tests.{not-true, not-false}
 use Rattle.colour.specs.Colour.{coloursOk}
 use Rattle.colour.proofs.Range.{colours-append}
 use Rattle.colour.proofs.colours_ok.Statement.{statement}
@@ -27,50 +28,16 @@ block l i n =
     ∙ colours-append (take n (drop i l)) (drop n (drop i l))
     ∙ ap (λ (r : List Float). coloursOk (take n (drop i l)) && coloursOk r) (drop-drop n i l)
 
-opposite : (b t : Bool) → not b ≡ t → b ≡ not t
-opposite true t e = ap not e
-opposite false t e = ap not e
-
-loop-holds : tie.Need-loop-holds Inv-loop μ-loop
-loop-holds c = (omega arith, refl)
-
-sub-loop : tie.Need-sub-loop Inv-loop μ-loop
-sub-loop c = omega arith
-
-add-block-ok : tie.Need-add-block-ok Inv-loop μ-loop
-add-block-ok c = omega arith
-
-mul-block-ok : tie.Need-mul-block-ok Inv-loop μ-loop
-mul-block-ok c = omega arith
-
-sub-block-ok : tie.Need-sub-block-ok Inv-loop μ-loop
-sub-block-ok c = omega arith
-
-part-block-ok-start : tie.Need-part-block-ok-start Inv-loop μ-loop
-part-block-ok-start c = omega arith
-
-part-block-ok-end : tie.Need-part-block-ok-end Inv-loop μ-loop
-part-block-ok-end c = omega arith
-
-block-ok-requires : tie.Need-block-ok-requires Inv-loop μ-loop
-block-ok-requires c κs = search needs
-
 returns : tie.Need-returns Inv-loop μ-loop
 returns c =
     let l = c .before .before .before .before in
     let v = l .before .before .args .colours .now in
     let bad : coloursOk (take (l .loop .i + 256 - l .loop .i) (drop (l .loop .i) v)) ≡ false =
-    sym (c .before .block-ok .ensures) ∙ opposite _ true (c .if1 .taken) in
+    sym (c .before .block-ok .ensures) ∙ not-true _ (c .if1 .taken) in
     record {
       answer = sym (l .loop .inv .1 ∙ block v (l .loop .i) (l .loop .i + 256 - l .loop .i) ∙ rw bad);
       held = λ i h. l .before .shared-slice-known .given i;
     }
-
-add-i : tie.Need-add-i Inv-loop μ-loop
-add-i c = omega arith
-
-loop-less : tie.Need-loop-less Inv-loop μ-loop
-loop-less c = omega arith
 
 loop-again : tie.Need-loop-again Inv-loop μ-loop
 loop-again c =
@@ -78,23 +45,8 @@ loop-again c =
     let v = l .before .before .args .colours .now in
     let n : l .loop .i + 256 - l .loop .i ≡ 256 = omega arith in
     let good : coloursOk (take (l .loop .i + 256 - l .loop .i) (drop (l .loop .i) v)) ≡ true =
-    sym (c .before .block-ok .ensures) ∙ opposite _ false (c .if1 .left) in
+    sym (c .before .block-ok .ensures) ∙ not-false _ (c .if1 .left) in
     (omega arith, l .loop .inv .1 ∙ block v (l .loop .i) 256 ∙ rw (rw n at good))
-
-mul-block-ok-2 : tie.Need-mul-block-ok-2 Inv-loop μ-loop
-mul-block-ok-2 c = omega arith
-
-sub-block-ok-2 : tie.Need-sub-block-ok-2 Inv-loop μ-loop
-sub-block-ok-2 c = omega arith
-
-part-block-ok-start-2 : tie.Need-part-block-ok-start-2 Inv-loop μ-loop
-part-block-ok-start-2 c = omega arith
-
-part-block-ok-end-2 : tie.Need-part-block-ok-end-2 Inv-loop μ-loop
-part-block-ok-end-2 c = omega arith
-
-block-ok-requires-2 : tie.Need-block-ok-requires-2 Inv-loop μ-loop
-block-ok-requires-2 c κs = search needs
 
 returns-2 : tie.Need-returns-2 Inv-loop μ-loop
 returns-2 c =
@@ -113,21 +65,21 @@ colours-ok-spec =
     (tie.spec
     Inv-loop
     μ-loop
-    loop-holds
-    sub-loop
-    add-block-ok
-    mul-block-ok
-    sub-block-ok
-    part-block-ok-start
-    part-block-ok-end
-    block-ok-requires
+    (λ c. (omega arith, refl))
+    (λ c. omega arith)
+    (λ c. omega arith)
+    (λ c. omega arith)
+    (λ c. omega arith)
+    (λ c. omega arith)
+    (λ c. omega arith)
+    (λ c κs. search needs)
     returns
-    add-i
-    loop-less
+    (λ c. omega arith)
+    (λ c. omega arith)
     loop-again
-    mul-block-ok-2
-    sub-block-ok-2
-    part-block-ok-start-2
-    part-block-ok-end-2
-    block-ok-requires-2
+    (λ c. omega arith)
+    (λ c. omega arith)
+    (λ c. omega arith)
+    (λ c. omega arith)
+    (λ c κs. search needs)
     returns-2)

@@ -1,4 +1,5 @@
--- `colour::count_of` meets its contract. The test and the result are of what the machine reads back from the number's bits, which is the number.
+-- `colour::count_of` meets its contract. The test and the result are of what the machine reads back from the number's bits, which
+-- is the number.
 -- Assumes nothing.
 use mathlib.Core.Path.{_≡_, refl, sym, subst}
 use mathlib.Core.Bool.{true, false}

@@ -1,4 +1,5 @@
--- `colour::passes` meets its contract. The argument is what the machine reads back from the field's bits, which is the field's number, since it fits.
+-- `colour::passes` meets its contract. The argument is what the machine reads back from the field's bits, which is the field's
+-- number, since it fits.
 -- Assumes nothing.
 use mathlib.Core.Path.{ap, _∙_}
 use mir.Syntax.{w64}
@@ -8,9 +9,6 @@ use Rattle.colour.specs.Settings.{atLeastZero, passesOf}
 use Rattle.colour.proofs.passes.Statement.{statement}
 use Rattle.colour.proofs.passes.Tie as tie
 
-count-of-requires : tie.Need-count-of-requires
-count-of-requires c κs = search needs
-
 returns : tie.Need-returns
 unfolding passesOf
 returns c =
@@ -18,4 +16,4 @@ returns c =
     c .count-of .ensures ∙ ap atLeastZero (toZ-ofZ {w = w64} {z = z} (record { sfits = c .before .struct-told .given .1 .1 .0 .1 }))
 
 pub passes-spec : {M : Type 1} → statement M
-passes-spec = tie.close (tie.spec count-of-requires returns)
+passes-spec = tie.close (tie.spec (λ c κs. search needs) returns)

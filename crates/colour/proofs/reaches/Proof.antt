@@ -8,12 +8,9 @@ use borrow.Author.Needs.{needs}
 use Rattle.colour.proofs.reaches.Statement.{statement}
 use Rattle.colour.proofs.reaches.Tie as tie
 
-cast-result : tie.Need-cast-result
-cast-result c = search needs
-
 returns : tie.Need-returns
 unfolding onOf
 returns c = rw (toZ-ofZ {w = w64} (c .fits .threshold), toZ-pos w64 {n = c .args .alpha} (omega arith))
 
 pub reaches-spec : {M : Type 1} → statement M
-reaches-spec = tie.close (tie.spec cast-result returns)
+reaches-spec = tie.close (tie.spec (search needs) returns)

@@ -7,7 +7,8 @@ use native.Mathlib.Omega.{arith}
 use lib.ListN.{length}
 use borrow.Author.Needs.{needs}
 use Rattle.plane.specs.Plane.{table}
-use Rattle.plane.specs.Mask.{isOn, maskOf, complementOf}
+use Rattle.plane.specs.Mask.{isOn, maskOf}
+use Rattle.plane.specs.steps.Complement.{complementOf}
 use Rattle.plane.proofs.Refusal.{three-lines}
 use Rattle.outline.specs.Ground.{groundOf}
 use Rattle.outline.specs.Growth.{growthOf}

@@ -6,7 +6,7 @@ use mathlib.Core.Bool.{true, not, cond}
 use mathlib.Core.List.{List}
 use lib.ListN.{length}
 use lib.Ieee.{Float}
-use Rattle.plane.specs.Plane.{Sides}
+use Rattle.plane.specs.steps.Sides.{Sides}
 use Rattle.plane.specs.Mask.{isOn, maskOf}
 use Rattle.plane.specs.Refusal.{roomFor}
 use Rattle.colour.specs.declared.Rgb.{Rgb}

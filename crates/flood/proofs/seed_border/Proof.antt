@@ -1,134 +1,106 @@
--- `flood::seed_border` meets its contract.
+-- `flood::seed_border` meets its contract. The loop's invariant: what is left of the border list is still to be visited.
 -- Assumes nothing.
-use mathlib.Core.Path.{_≡_, sym}
-use Prim.Native.Nat.{ℕ, _*_, _-_}
+use mathlib.Core.Path.{_≡_, refl, sym, _∙_}
+use mathlib.Core.Bool.{true}
+use mathlib.Core.List.{List}
+use Prim.Native.Nat.{ℕ, _+_, _-_, _≤_, _<_}
+use native.Mathlib.Numerals.{add-one}
 use native.Mathlib.Omega.{arith}
-use Rattle.plane.proofs.Plane.{area-most}
-use Rattle.flood.specs.steps.Flood.{State, state, seeded}
-use Rattle.flood.specs.steps.Lines.{linePixels}
-use Rattle.flood.proofs.Room.{Kept, first-room}
-use Rattle.flood.proofs.Border.{last-in, first-seeds, last-seeds, left-seeds, right-seeds, first-kept, last-kept, left-kept, seeds-are}
+use lib.ListN.{length, getD, drop, drop-of-length-le}
+use lib.Seq.{drop-cons}
 use borrow.Author.Needs.{needs}
+use Rattle.outline.specs.Border.{borderList}
+use Rattle.flood.specs.steps.Flood.{State, state, visitIf, seeded}
+use Rattle.flood.proofs.Border.{border-in}
+use Rattle.flood.proofs.Room.{Kept, first-room, if-kept, if-same}
 use Rattle.flood.proofs.seed_border.Statement.{statement}
 use Rattle.flood.proofs.seed_border.Tie as tie
 
--- the state at first
-abbrev state-0 : tie.Start → State
-state-0 o = state 0 (o .args .stack .now) (o .args .out .now)
+-- a pixel of a list is visited, and the rest is left
+rest : (l : List ℕ) (k : ℕ) (s t : State) → k < length l → t ≡ visitIf true (getD l k 0) s → seeded (drop k l) s ≡ seeded (drop (k + 1) l) t
+unfolding seeded visitIf
+rest l k s t h e = rw (drop-cons l k 0 h, add-one k, e)
 
-kept-0 : (o : tie.Start) → Kept (o .args .h * o .args .w) (state-0 o)
-kept-0 o = record {
-  room = first-room (o .args .stack .now) (o .args .out .now) (o .args .h) (o .args .w) (o .pre .0) (o .pre .1);
-  long = sym (o .pre .0 .output);
-}
+-- and nothing in the end
+none-left : (l : List ℕ) (k : ℕ) (s : State) → length l ≤ k → seeded (drop k l) s ≡ s
+unfolding seeded
+none-left l k s h = rw (drop-of-length-le l {i = k} h)
 
--- the places after each line, with the states there
-abbrev start : tie.After-seed → tie.Start
-start c = c .before .before .before .before .before .before
+abbrev Inv-loop : tie.InvT-loop
+Inv-loop h w stack₀ out₀ top₀ k₀ k-end stack out top k =
+    (k-end ≡ length (borderList h w)) × (k ≤ k-end) × (length stack ≡ length stack₀) × Kept (length out₀) (state top stack out)
+    × (seeded (borderList h w) (state 0 stack₀ out₀) ≡ seeded (drop k (borderList h w)) (state top stack out))
 
-abbrev line-1 : tie.After-seed2 → tie.After-seed
-line-1 c = c .before .before .before .before .before .before .before
+abbrev μ-loop : tie.MeasureT-loop
+μ-loop h w stack₀ out₀ top₀ k₀ k-end stack out top k = k-end - k
 
-abbrev line-2 : tie.After-seed3 → tie.After-seed2
-line-2 c = c .before .before .before .before .before .before .before
+-- the places: the start, seen from the loop, and the loop, seen from the visit
+abbrev start : tie.At-loop Inv-loop μ-loop → tie.Start Inv-loop μ-loop
+start c = c .before .before .before .before
 
-abbrev inner : tie.After-seed → ℕ
-inner c = c .before .before .before .between .result
+loop-holds : tie.Need-loop-holds Inv-loop μ-loop
+loop-holds c =
+    let o = c .before .before .before in
+    let room = first-room (o .args .stack .now) (o .args .out .now) (o .args .h) (o .args .w) (o .pre .0) (o .pre .1) in
+    (c .border-count .ensures, omega arith, refl, record { room = room; long = refl }, refl)
 
-inner-is : (c : tie.After-seed) → inner c ≡ start c .args .h - 2
-inner-is c = c .before .before .before .between .ensures
+-- the pixel to visit is in the plane
+pixel-in : (c : tie.After-border-pixel Inv-loop μ-loop) → c .border-pixel .result < length (start (c .before .before) .args .out .now)
+pixel-in c =
+    let l = c .before .before .loop in
+    let o = start (c .before .before) in
+    omega (arith, c .border-pixel .ensures, border-in (l .k) (o .pre .0 .sides) (omega (arith, l .inv .0)), o .pre .0 .output)
 
-abbrev state-1 : tie.After-seed → State
-state-1 c = state (c .seed .result) (c .seed .last .1 .1 .1 .1 .0) (c .seed .last .1 .1 .1 .1 .1 .0)
+visit-requires : tie.Need-visit-requires Inv-loop μ-loop
+visit-requires c κs =
+    let k = c .before .before .before .before .loop .inv .3 in
+    ((λ t. omega (arith, pixel-in (c .before .before), k .long)), k .room)
 
-abbrev state-2 : tie.After-seed2 → State
-state-2 c = state (c .seed2 .result) (c .seed2 .last .1 .1 .1 .1 .0) (c .seed2 .last .1 .1 .1 .1 .1 .0)
+-- the state after the visit
+module _ (c : tie.After-visit Inv-loop μ-loop) where
+  abbrev at-pixel : tie.After-border-pixel Inv-loop μ-loop
+  at-pixel = c .before .before .before
 
-abbrev state-3 : tie.After-seed3 → State
-state-3 c = state (c .seed3 .result) (c .seed3 .last .1 .1 .1 .1 .0) (c .seed3 .last .1 .1 .1 .1 .1 .0)
+  abbrev loop : tie.At-loop Inv-loop μ-loop
+  loop = at-pixel .before .before
 
-is-1 : (c : tie.After-seed) → state-1 c ≡ seeded (linePixels 0 1 (start c .args .w)) (state-0 (start c))
-is-1 c = c .seed .ensures
+  abbrev border : List ℕ
+  border = borderList (start loop .args .h) (start loop .args .w)
 
-is-2 : (c : tie.After-seed2) → let a = start (line-1 c) .args in state-2 c ≡ seeded (linePixels ((a .h - 1) * a .w) 1 (a .w)) (state-1 (line-1 c))
-is-2 c = c .seed2 .ensures
+  abbrev after : State
+  after = state (c .visit .result) (c .visit .last .1 .1 .1 .0) (c .visit .last .1 .1 .1 .1 .0)
 
-is-3 : (c : tie.After-seed3) → let a = start (line-1 (line-2 c)) .args in
-    state-3 c ≡ seeded (linePixels (a .w) (a .w) (inner (line-1 (line-2 c)))) (state-2 (line-2 c))
-is-3 c = c .seed3 .ensures
+  after-is : after ≡ visitIf true (getD border (loop .loop .k) 0) (state (loop .loop .top) (loop .loop .stack) (loop .loop .out))
+  after-is = c .visit .ensures ∙ if-same _ true (λ t. at-pixel .border-pixel .ensures)
 
-kept-1 : (c : tie.After-seed) → Kept (start c .args .h * start c .args .w) (state-1 c)
-kept-1 c = let o = start c in first-kept (o .pre .0 .sides) (state-0 o) (state-1 c) (kept-0 o) (is-1 c)
+  kept : Kept (length (start loop .args .out .now)) after
+  kept = rw after-is (if-kept (λ t. omega (arith, pixel-in at-pixel, at-pixel .border-pixel .ensures)) (loop .loop .inv .3))
 
-kept-2 : (c : tie.After-seed2) → let a = start (line-1 c) .args in Kept (a .h * a .w) (state-2 c)
-kept-2 c = last-kept (start (line-1 c) .pre .0 .sides) (state-1 (line-1 c)) (state-2 c) (kept-1 (line-1 c)) (is-2 c)
+loop-again : tie.Need-loop-again Inv-loop μ-loop
+loop-again c =
+    let b : tie.After-visit Inv-loop μ-loop = c .before .before .before .before in
+    let i = loop b .loop .inv in
+    (i .0, omega arith, b .visit .kept .1 .1 .1 .0 ∙ i .2, kept b, i .4 ∙ rest (border b) _ _ _ (omega (arith, i .0)) (after-is b))
 
-kept-3 : (c : tie.After-seed3) → let a = start (line-1 (line-2 c)) .args in Kept (a .h * a .w) (state-3 c)
-kept-3 c =
-    let b = line-2 c in
-    left-kept (start (line-1 b) .pre .0 .sides) _ (inner-is (line-1 b)) (state-2 b) (state-3 c) (kept-2 b) (is-3 c)
-
-between-requires : tie.Need-between-requires
-between-requires c κs = search needs
-
-seed-requires : tie.Need-seed-requires
-seed-requires c κs = let o : tie.Start = c .before .before .before .before .before in first-seeds (o .pre .0 .sides) (state-0 o) (kept-0 o)
-
-sub-seed : tie.Need-sub-seed
-sub-seed c = search needs
-
-mul-seed : tie.Need-mul-seed
-mul-seed c =
-    let g = c .before .before .before .before .before .before .before .before .before .before .pre .0 .sides in
-    omega (arith, last-in g 0 (omega (arith, g .some-columns)), area-most (g .tall) (g .wide))
-
-seed-requires-2 : tie.Need-seed-requires-2
-seed-requires-2 c κs = let b : tie.After-seed = c .before .before .before .before .before .before in last-seeds (start b .pre .0 .sides) (state-1 b) (kept-1 b)
-
-seed-requires-3 : tie.Need-seed-requires-3
-seed-requires-3 c κs =
-    let b : tie.After-seed2 = c .before .before .before .before .before .before in
-    left-seeds (start (line-1 b) .pre .0 .sides) _ (inner-is (line-1 b)) (state-2 b) (kept-2 b)
-
-sub-seed-2 : tie.Need-sub-seed-2
-sub-seed-2 c = search needs
-
-add-seed : tie.Need-add-seed
-add-seed c = search needs
-
-seed-requires-4 : tie.Need-seed-requires-4
-seed-requires-4 c κs =
-    let b : tie.After-seed3 = c .before .before .before .before .before .before in
-    let a = line-1 (line-2 b) in
-    right-seeds (start a .pre .0 .sides) _ (inner-is a) (state-3 b) (kept-3 b)
-
-same-length : tie.Need-same-length
-same-length c = search needs
-
-same-length-2 : tie.Need-same-length-2
-same-length-2 c = search needs
-
-returns : tie.Need-returns
+returns : tie.Need-returns Inv-loop μ-loop
 returns c =
-    let l : tie.After-seed3 = c .before .before .before .before .before .before .before .before .before .before .before in
-    let a = line-1 (line-2 l) in
-    let s = start a .args in
-    seeds-are (s .h) (s .w) _ (state-0 (start a)) (state-1 a) (state-2 (line-2 l)) (state-3 l) _ (inner-is a)
-    (is-1 a) (is-2 (line-2 l)) (is-3 l) (c .before .before .before .before .seed4 .ensures)
+    let a = start (c .before) .args in
+    let i = c .before .loop .inv in
+    sym (i .4 ∙ none-left (borderList (a .h) (a .w)) (c .before .loop .k) _ (omega (arith, i .0)))
 
 pub seed-border-spec : {M : Type 1} → statement M
 seed-border-spec =
     tie.close
     (tie.spec
-    between-requires
-    seed-requires
-    sub-seed
-    mul-seed
-    seed-requires-2
-    seed-requires-3
-    sub-seed-2
-    add-seed
-    seed-requires-4
-    same-length
-    same-length-2
+    Inv-loop
+    μ-loop
+    (search needs)
+    loop-holds
+    (search needs)
+    visit-requires
+    (search needs)
+    (search needs)
+    loop-again
+    (λ c. c .before .loop .inv .2)
+    (λ c. sym (c .before .loop .inv .3 .long))
     returns)

@@ -23,33 +23,12 @@ Inv-loop out₀ i₀ i-end out i = (i-end ≡ length out₀) × (i ≤ length ou
 abbrev μ-loop : tie.MeasureT-loop
 μ-loop out₀ i₀ i-end out i = length out₀ - i
 
-loop-holds : tie.Need-loop-holds Inv-loop μ-loop
-loop-holds c = (refl, omega arith, changed-none 0 _ _)
-
-slice-read-byte : tie.Need-slice-read-byte Inv-loop μ-loop
-slice-read-byte c = omega arith
-
-byte-requires : tie.Need-byte-requires Inv-loop μ-loop
-byte-requires c κs = search needs
-
-slice-write-out : tie.Need-slice-write-out Inv-loop μ-loop
-slice-write-out c = omega arith
-
-add-i : tie.Need-add-i Inv-loop μ-loop
-add-i c = omega arith
-
-loop-less : tie.Need-loop-less Inv-loop μ-loop
-loop-less c = omega arith
-
 loop-again : tie.Need-loop-again Inv-loop μ-loop
 loop-again c =
     let l = c .before .before .before .loop in
     let m = c .before .before .before .before .before .args .out .now in
     let e = c .byte .ensures ∙ ap (λ (n : ℕ). bit (eqb n 2)) (l .inv .2 .back (l .i) (omega arith)) in
     (refl, omega arith, changed-more 0 (mark m) m (l .out) (l .i) (c .byte .result) (l .inv .2) (omega arith) e)
-
-same-length : tie.Need-same-length Inv-loop μ-loop
-same-length c = c .before .loop .inv .2 .size
 
 returns : tie.Need-returns Inv-loop μ-loop
 unfolding marked
@@ -61,12 +40,12 @@ settle-spec =
     (tie.spec
     Inv-loop
     μ-loop
-    loop-holds
-    slice-read-byte
-    byte-requires
-    slice-write-out
-    add-i
-    loop-less
+    (λ c. (refl, omega arith, changed-none 0 _ _))
+    (λ c. omega arith)
+    (search needs)
+    (λ c. omega arith)
+    (λ c. omega arith)
+    (λ c. omega arith)
     loop-again
-    same-length
+    (λ c. c .before .loop .inv .2 .size)
     returns)

@@ -1,59 +1,59 @@
 -- `flood::visit` meets its contract.
 -- Assumes nothing.
+use mathlib.Core.Path.{_≡_}
+use mathlib.Core.Bool.{true}
+use Prim.Native.Nat.{_<_}
+use native.Mathlib.Omega.{arith}
 use borrow.Author.Needs.{needs}
-use borrow.Author.Tests.{eq-eqb, ne-eqb}
-use lib.ListN.{getD}
-use Rattle.flood.specs.steps.Flood.{state, pushed, visited}
+use borrow.Author.Tests.{eq-eqb, ne-eqb, not-true, not-false}
+use lib.ListN.{length, getD}
+use Rattle.flood.specs.steps.Flood.{state, pushed, visited, visitIf}
 use Rattle.flood.proofs.Room.{room-for}
 use Rattle.flood.proofs.visit.Statement.{statement}
 use Rattle.flood.proofs.visit.Tie as tie
 
-slice-read-if1 : tie.Need-slice-read-if1
-slice-read-if1 c = search needs
+-- past the first test there is a pixel q
+module _ (c : tie.Else1) where
+  there : c .before .args .has ≡ true
+  there = not-false _ (c .if1 .left)
+
+  inside : c .before .args .q < length (c .before .args .out .now)
+  inside = c .before .pre .0 there
 
 returns : tie.Need-returns
-unfolding visited
-returns c = let a = c .before .before .args in rw (ne-eqb (getD (a .out .now) (a .q) 0) 1 (c .if1 .taken))
+unfolding visitIf
+returns c = rw (not-true (c .before .args .has) (c .if1 .taken))
 
-slice-write-out : tie.Need-slice-write-out
-slice-write-out c = search needs
-
-cast-stack : tie.Need-cast-stack
-cast-stack c = search needs
-
-mul-stack : tie.Need-mul-stack
-mul-stack c = search needs
+returns-2 : tie.Need-returns-2
+unfolding visitIf visited
+returns-2 c =
+    let a = c .before .before .before .args in
+    rw (there (c .before .before), ne-eqb (getD (a .out .now) (a .q) 0) 1 (c .if2 .taken))
 
 slice-write-stack : tie.Need-slice-write-stack
 slice-write-stack c =
-    let a = c .before .before .args in
-    let pre = c .before .before .pre in
-    room-for (state (a .top) (a .stack .now) (a .out .now)) (a .q) (pre .1) (pre .0) (c .if1 .left)
+    let o = c .before .before .before in
+    let a = o .args in
+    room-for (state (a .top) (a .stack .now) (a .out .now)) (a .q) (o .pre .1) (inside (c .before .before)) (c .if2 .left)
 
-add-result : tie.Need-add-result
-add-result c = search needs
-
-same-length : tie.Need-same-length
-same-length c = search needs
-
-same-length-2 : tie.Need-same-length-2
-same-length-2 c = search needs
-
-returns-2 : tie.Need-returns-2
-unfolding visited pushed
-returns-2 c = let a = c .before .before .args in rw (eq-eqb (getD (a .out .now) (a .q) 0) 1 (c .if1 .left))
+returns-3 : tie.Need-returns-3
+unfolding visitIf visited pushed
+returns-3 c =
+    let a = c .before .before .before .args in
+    rw (there (c .before .before), eq-eqb (getD (a .out .now) (a .q) 0) 1 (c .if2 .left))
 
 pub visit-spec : {M : Type 1} → statement M
 visit-spec =
     tie.close
     (tie.spec
-    slice-read-if1
     returns
-    slice-write-out
-    cast-stack
-    mul-stack
+    (λ c. inside (c .before))
+    returns-2
+    (λ c. inside (c .before .before))
+    (λ c. omega (arith, inside (c .before .before), c .before .before .before .pre .1 .small))
+    (search needs)
     slice-write-stack
-    add-result
-    same-length
-    same-length-2
-    returns-2)
+    (search needs)
+    (search needs)
+    (search needs)
+    returns-3)

@@ -7,7 +7,8 @@ use mathlib.Core.List.{List, [], _∷_}
 use Prim.Native.Nat.{ℕ, _+_, _*_, _-_, _%_, _≤_, _<_}
 use lib.Dec.{eqb, ltb, leb}
 use lib.ListN.{length, getD, set}
-use Rattle.plane.specs.Plane.{longestSide, Sides, bit, table}
+use Rattle.plane.specs.Plane.{bit, table}
+use Rattle.plane.specs.steps.Sides.{longestSide, Sides}
 use Rattle.plane.specs.Search.{countBelow}
 
 -- the height of the stack, the stack, and the plane
@@ -42,6 +43,17 @@ spreadFrom w area p s =
     visitIf (ltb (p % w) (w - 1)) (p + 1)
     (visitIf (ltb 0 (p % w)) (p - 1) (visitIf (ltb (p + w) area) (p + w) (visitIf (leb w p) (p - w) s)))
 
+-- the pixel on top of the stack, and the state without it
+abbrev pub onTop : State → ℕ
+onTop s = getD (s .stack) (s .top - 1) 0
+
+abbrev pub popped : State → State
+popped s = state (s .top - 1) (s .stack) (s .plane)
+
+-- it is taken off, and its neighbours are visited
+abbrev pub spreadTop : ℕ → State → State
+spreadTop w s = spreadFrom w (length (s .plane)) (onTop s) (popped s)
+
 -- the pixels that are 2, as a mask
 unfoldable pub marked : List ℕ → List ℕ
 marked plane = table (λ (i : ℕ). bit (eqb (getD plane i 0) 2)) 0 (length plane)
@@ -56,21 +68,14 @@ pub record Room (s : State) : Type 0 where
   pub tall : length (s .plane) ≤ length (s .stack)
   pub fits : s .top + waiting (s .plane) ≤ length (s .plane)
 
--- what `seed` is given: pixels of the plane, and that room
-pub record Seeds (start stride n : ℕ) (s : State) : Type 0 where
-  pub room : Room s
-  pub few : n ≤ longestSide
-  pub inside : (k : ℕ) → k < n → start + k * stride < length (s .plane)
-
 -- what `spread` is given: a stack that is not empty, its top pixel in a plane whose rows are whole
-pub record Spreads (w area top : ℕ) (stack plane : List ℕ) : Type 0 where
-  pub room : Room (state top stack plane)
-  pub some : 0 < top
+pub record Spreads (w : ℕ) (s : State) : Type 0 where
+  pub room : Room s
+  pub some : 0 < s .top
   pub wide : 0 < w
   pub narrow : w ≤ longestSide
-  pub long : area ≡ length plane
-  pub inside : getD stack (top - 1) 0 < area
-  pub row : getD stack (top - 1) 0 % w < w - 1 → getD stack (top - 1) 0 + 1 < area
+  pub inside : onTop s < length (s .plane)
+  pub row : onTop s % w < w - 1 → onTop s + 1 < length (s .plane)
 
 -- a plane of 0 and 1
 pub record Closed (plane : List ℕ) (h w : ℕ) : Type 0 where

@@ -5,7 +5,8 @@ use mathlib.Core.Bool.{Bool, cond}
 use mathlib.Core.List.{List}
 use Prim.Native.Nat.{ℕ, _+_, _*_, _-_, _≤_, _<_}
 use lib.ListN.{length, getD}
-use Rattle.plane.specs.Plane.{Sides, planeOf}
+use Rattle.plane.specs.Plane.{planeOf}
+use Rattle.plane.specs.steps.Sides.{Sides}
 
 -- the pixel that pixel i takes its colour from: the one whose index stands there, or the first of the last row where nothing is on
 unfoldable pub sourceAt : List ℕ → Bool → ℕ → ℕ → ℕ → ℕ

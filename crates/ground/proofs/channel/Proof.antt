@@ -1,19 +1,20 @@
--- `ground::channel` meets its contract.
+-- `ground::channel` meets its contract. The loop's invariant: the first k values are those of the border list's first k pixels.
 -- Assumes nothing.
 use mathlib.Core.Path.{_≡_, refl, ap, _∙_}
 use mathlib.Core.List.{List, map}
-use Prim.Native.Nat.{ℕ, _+_, _*_, _-_, _≤_}
+use Prim.Native.Nat.{ℕ, _+_, _*_, _-_, _≤_, _<_}
 use native.Mathlib.Omega.{arith}
-use lib.ListN.{length, take, drop}
+use lib.ListN.{length, getD, take, drop, set}
+use lib.Seq.{take-all}
 use borrow.Author.Needs.{needs}
-use Rattle.plane.proofs.Plane.{area-most}
+use Rattle.colour.proofs.Range.{colours-at}
 use Rattle.median.specs.Median.{medianOf}
 use Rattle.median.specs.steps.Values.{floatsOf}
 use Rattle.median.proofs.Values.{floats-length, floats-take}
 use Rattle.median.proofs.Laws.{median-ok}
 use Rattle.outline.specs.Border.{borderList, channelAt, referenceChannel}
-use Rattle.flood.proofs.Border.{last-in}
-use Rattle.ground.proofs.Values.{gathered, values-room, border-held, border-channel, first-gathers, last-gathers, left-gathers, right-gathers}
+use Rattle.flood.proofs.Border.{border-in}
+use Rattle.ground.proofs.Values.{one-more, values-room, border-held, border-channel}
 use Rattle.ground.proofs.channel.Statement.{statement}
 use Rattle.ground.proofs.channel.Tie as tie
 
@@ -21,183 +22,110 @@ use Rattle.ground.proofs.channel.Tie as tie
 part-is : (n : ℕ) (v : List ℕ) → n ≤ length (floatsOf v) → floatsOf (take (2 * n - 0) (drop 0 v)) ≡ take n (floatsOf v)
 part-is n v h = let e : 2 * n - 0 ≡ 2 * n = omega arith in ap (λ (i : ℕ). floatsOf (take i v)) e ∙ floats-take v n h
 
--- the places after each line is gathered, and the buffers there
-abbrev start : tie.After-gather → tie.Start
-start c = c .before .before .before .before .before
+abbrev Inv-loop : tie.InvT-loop
+Inv-loop colours h w c work₀ n k₀ work k =
+    (n ≡ length (borderList h w)) × (k ≤ n) × (length work ≡ length work₀)
+    × (take k (floatsOf work) ≡ map (channelAt colours c) (take k (borderList h w)))
 
-abbrev line-1 : tie.After-gather2 → tie.After-gather
-line-1 c = c .before .before .before .before
+abbrev μ-loop : tie.MeasureT-loop
+μ-loop colours h w c work₀ n k₀ work k = n - k
 
-abbrev line-2 : tie.After-gather3 → tie.After-gather2
-line-2 c = c .before .before .before .before
+module _ (c : tie.At-loop Inv-loop μ-loop) where
+  abbrev start : tie.Start Inv-loop μ-loop
+  start = c .before .before .before .before
 
-abbrev line-3 : tie.After-gather4 → tie.After-gather3
-line-3 c = c .before .before .before .before
+  abbrev border : List ℕ
+  border = borderList (start .args .h) (start .args .w)
 
-abbrev inner : tie.After-gather → ℕ
-inner c = c .before .before .between .result
+  -- there is room for all values
+  room : c .before .border-count .result ≤ length (floatsOf (c .loop .work))
+  room = omega (arith, c .loop .inv .0, values-room (start .pre .0) (c .loop .work) (c .loop .inv .2))
 
-inner-is : (c : tie.After-gather) → inner c ≡ start c .args .h - 2
-inner-is c = c .before .before .between .ensures
+-- the number that is read is there
+read-in : (c : tie.After-border-pixel Inv-loop μ-loop) → let a = start (c .before .before) .args in
+    3 * c .border-pixel .result + a .c < length (a .colours .now)
+read-in c =
+    let l = c .before .before .loop in
+    let o = start (c .before .before) in
+    let p = o .pre .0 in
+    omega (arith, c .border-pixel .ensures, border-in (l .k) (p .sides) (omega (arith, l .inv .0)), p .input, o .pre .1)
 
-abbrev values-1 : tie.After-gather → List ℕ
-values-1 c = c .gather .last .1 .1 .1 .1 .1 .1 .0
+put-requires : tie.Need-put-requires Inv-loop μ-loop
+put-requires c κs =
+    let b : tie.After-border-pixel Inv-loop μ-loop = c .before .before in
+    let o = start (b .before .before) in
+    let i = 3 * b .border-pixel .result + o .args .c in
+    record {
+      inside = omega (arith, room (b .before .before));
+      held = c .shared-slice-known2 .given i;
+      ok = colours-at (o .args .colours .now) (o .pre .0 .range) i (read-in b);
+    }
 
-abbrev values-2 : tie.After-gather2 → List ℕ
-values-2 c = c .gather2 .last .1 .1 .1 .1 .1 .1 .0
-
-abbrev values-3 : tie.After-gather3 → List ℕ
-values-3 c = c .gather3 .last .1 .1 .1 .1 .1 .1 .0
-
-abbrev values-4 : tie.After-gather4 → List ℕ
-values-4 c = c .gather4 .last .1 .1 .1 .1 .1 .1 .0
-
-long-1 : (c : tie.After-gather) → length (values-1 c) ≡ length (start c .args .work .now)
-long-1 c = c .gather .kept .1 .1 .1 .1 .1 .1 .0
-
-long-2 : (c : tie.After-gather2) → length (values-2 c) ≡ length (start (line-1 c) .args .work .now)
-long-2 c = c .gather2 .kept .1 .1 .1 .1 .1 .1 .0 ∙ long-1 (line-1 c)
-
-long-3 : (c : tie.After-gather3) → length (values-3 c) ≡ length (start (line-1 (line-2 c)) .args .work .now)
-long-3 c = c .gather3 .kept .1 .1 .1 .1 .1 .1 .0 ∙ long-2 (line-2 c)
-
-long-4 : (c : tie.After-gather4) → length (values-4 c) ≡ length (start (line-1 (line-2 (line-3 c))) .args .work .now)
-long-4 c = c .gather4 .kept .1 .1 .1 .1 .1 .1 .0 ∙ long-3 (line-3 c)
-
--- how many values the border list has, and room for them
-abbrev many : tie.After-gather → ℕ
-many c = let w = start c .args .w in w + w + inner c + inner c
-
-many-in : (c : tie.After-gather4) → many (line-1 (line-2 (line-3 c))) ≤ length (floatsOf (values-4 c))
-many-in c =
-    let b = line-1 (line-2 (line-3 c)) in
-    omega (arith, inner-is b, values-room (start b .pre .0) (values-4 c) (long-4 c))
+loop-again : tie.Need-loop-again Inv-loop μ-loop
+unfolding channelAt
+loop-again c =
+    let p : tie.After-put Inv-loop μ-loop = c .before .before in
+    let b : tie.After-border-pixel Inv-loop μ-loop = p .before .before .before in
+    let loop = b .before .before in
+    let l = loop .loop in
+    let a = start loop .args in
+    let g = channelAt (a .colours .now) (a .c) in
+    let e : floatsOf (p .put .last .0) ≡ set (floatsOf (l .work)) (l .k) (g (getD (border loop) (l .k) 0)) =
+    p .put .ensures ∙ ap (λ (i : ℕ). set (floatsOf (l .work)) (l .k) (g i)) (b .border-pixel .ensures) in (
+      l .inv .0,
+      omega arith,
+      p .put .kept .0 ∙ l .inv .2,
+      rw e (one-more g (border loop) (floatsOf (l .work)) (l .k) (omega (arith, l .inv .0)) (omega (arith, room loop)) (l .inv .3)),
+    )
 
 -- what the median is asked for
-all-gathered : (c : tie.After-gather4) → let b = line-1 (line-2 (line-3 c)) in let a = start b .args in
-    floatsOf (take (2 * many b - 0) (drop 0 (values-4 c))) ≡ map (channelAt (a .colours .now) (a .c)) (borderList (a .h) (a .w))
-all-gathered c =
-    let b3 = line-3 c in
-    let b2 = line-2 b3 in
-    let b1 = line-1 b2 in
-    let a = start b1 .args in
-    part-is (many b1) (values-4 c) (many-in c)
-    ∙ gathered (channelAt (a .colours .now) (a .c)) (a .h) (a .w) (inner b1)
-    (floatsOf (a .work .now)) (floatsOf (values-1 b1)) (floatsOf (values-2 b2)) (floatsOf (values-3 b3)) (floatsOf (values-4 c)) (inner-is b1)
-    (b1 .gather .ensures) (b2 .gather2 .ensures) (b3 .gather3 .ensures) (c .gather4 .ensures)
+gathered : (c : tie.After-loop Inv-loop μ-loop) → let a = start (c .before) .args in let n = c .before .before .border-count .result in
+    floatsOf (take (2 * n - 0) (drop 0 (c .before .loop .work))) ≡ map (channelAt (a .colours .now) (a .c)) (border (c .before))
+gathered c =
+    let l = c .before .loop in
+    let n = c .before .before .border-count .result in
+    let e : n ≡ l .k = omega arith in
+    let all = take-all (l .k) (border (c .before)) (omega (arith, l .inv .0)) in
+    part-is n (l .work) (room (c .before)) ∙ ap (λ (i : ℕ). take i (floatsOf (l .work))) e ∙ l .inv .3 ∙ ap (map _) all
 
-between-requires : tie.Need-between-requires
-between-requires c κs = search needs
-
-gather-requires : tie.Need-gather-requires
-gather-requires c κs = let o : tie.Start = c .before .before .before .before in first-gathers (o .pre .0) (o .pre .1) (o .args .work .now) refl
-
-sub-gather : tie.Need-sub-gather
-sub-gather c = search needs
-
-mul-gather : tie.Need-mul-gather
-mul-gather c =
-    let b : tie.After-gather = c .before .before in
-    let g = start b .pre .0 .sides in
-    omega (arith, last-in g 0 (omega (arith, g .some-columns)), area-most (g .tall) (g .wide))
-
-gather-requires-2 : tie.Need-gather-requires-2
-gather-requires-2 c κs =
-    let b : tie.After-gather = c .before .before .before in
-    last-gathers (start b .pre .0) (start b .pre .1) (values-1 b) (long-1 b)
-
-add-gather : tie.Need-add-gather
-add-gather c = search needs
-
-gather-requires-3 : tie.Need-gather-requires-3
-gather-requires-3 c κs =
-    let b : tie.After-gather2 = c .before .before .before in
-    let o = start (line-1 b) in
-    left-gathers (o .pre .0) (o .pre .1) (values-2 b) (long-2 b) _ (inner-is (line-1 b))
-
-sub-gather-2 : tie.Need-sub-gather-2
-sub-gather-2 c = search needs
-
-add-gather-2 : tie.Need-add-gather-2
-add-gather-2 c = search needs
-
-add-gather-3 : tie.Need-add-gather-3
-add-gather-3 c = search needs
-
-add-gather-4 : tie.Need-add-gather-4
-add-gather-4 c = search needs
-
-gather-requires-4 : tie.Need-gather-requires-4
-gather-requires-4 c κs =
-    let b : tie.After-gather3 = c .before .before .before in
-    let d = line-1 (line-2 b) in
-    right-gathers (start d .pre .0) (start d .pre .1) (values-3 b) (long-3 b) _ (inner-is d)
-
-add-median : tie.Need-add-median
-add-median c = search needs
-
-add-median-2 : tie.Need-add-median-2
-add-median-2 c = search needs
-
-add-median-3 : tie.Need-add-median-3
-add-median-3 c = search needs
-
-mul-median : tie.Need-mul-median
-mul-median c = search needs
-
-sub-median : tie.Need-sub-median
-sub-median c = search needs
-
-part-median-start : tie.Need-part-median-start
-part-median-start c = search needs
-
-part-median-end : tie.Need-part-median-end
-part-median-end c = let b : tie.After-gather4 = c .before .before .before in omega (arith, many-in b, floats-length (values-4 b))
-
-median-requires : tie.Need-median-requires
+median-requires : tie.Need-median-requires Inv-loop μ-loop
 median-requires c κs =
-    let b : tie.After-gather4 = c .before .before .before .before in
-    let o = start (line-1 (line-2 (line-3 b))) in
-    rw (all-gathered b) (border-channel (o .pre .0) (o .pre .1))
+    let b : tie.After-loop Inv-loop μ-loop = c .before .before in
+    let o = start (b .before) in
+    rw (gathered b) (border-channel (o .pre .0) (o .pre .1))
 
-same-length : tie.Need-same-length
-same-length c = search needs
-
-returns : tie.Need-returns
+returns : tie.Need-returns Inv-loop μ-loop
 unfolding referenceChannel
 returns c =
-    let b : tie.After-gather4 = c .before .before .before .before .before in
-    let d = line-1 (line-2 (line-3 b)) in
-    let o = start d in
+    let b : tie.After-loop Inv-loop μ-loop = c .before .before .before in
+    let o = start (b .before) in
     let a = o .args in
-    let r : c .median .result ≡ referenceChannel (a .colours .now) (a .h) (a .w) (a .c) = c .median .ensures ∙ ap medianOf (all-gathered b) in
+    let r : c .median .result ≡ referenceChannel (a .colours .now) (a .h) (a .w) (a .c) = c .median .ensures ∙ ap medianOf (gathered b) in
     let z = border-channel (o .pre .0) (o .pre .1) in
-    let h = border-held (o .pre .0) (o .pre .1) (λ i l. d .before .before .before .before .shared-slice-known .given i) in
-    (r, rw r (median-ok (map (channelAt (a .colours .now) (a .c)) (borderList (a .h) (a .w))) h (z .ok) (z .some)))
+    let h = border-held (o .pre .0) (o .pre .1) (λ i l. b .before .before .before .before .shared-slice-known .given i) in
+    (r, rw r (median-ok (map (channelAt (a .colours .now) (a .c)) (border (b .before))) h (z .ok) (z .some)))
 
 pub channel-spec : {M : Type 1} → statement M
 channel-spec =
     tie.close
     (tie.spec
-    between-requires
-    gather-requires
-    sub-gather
-    mul-gather
-    gather-requires-2
-    add-gather
-    gather-requires-3
-    sub-gather-2
-    add-gather-2
-    add-gather-3
-    add-gather-4
-    gather-requires-4
-    add-median
-    add-median-2
-    add-median-3
-    mul-median
-    sub-median
-    part-median-start
-    part-median-end
+    Inv-loop
+    μ-loop
+    (λ c κs. search needs)
+    (λ c. (c .border-count .ensures, omega arith, refl, refl))
+    (λ c κs. search needs)
+    (λ c. omega (arith, read-in (c .before)))
+    (λ c. omega (arith, read-in (c .before)))
+    (λ c. omega (arith, read-in (c .before)))
+    (λ c. read-in (c .before .before))
+    put-requires
+    (search needs)
+    (search needs)
+    loop-again
+    (λ c. omega (arith, room (c .before), floats-length (c .before .loop .work)))
+    (search needs)
+    (search needs)
+    (λ c. omega (arith, room (c .before .before), floats-length (c .before .before .loop .work)))
     median-requires
-    same-length
+    (λ c. c .before .before .before .before .loop .inv .2)
     returns)

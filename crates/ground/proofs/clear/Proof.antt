@@ -14,25 +14,10 @@ Inv-loop out₀ i₀ i-end out i = (i-end ≡ length out₀) × (i ≤ length ou
 abbrev μ-loop : tie.MeasureT-loop
 μ-loop out₀ i₀ i-end out i = length out₀ - i
 
-loop-holds : tie.Need-loop-holds Inv-loop μ-loop
-loop-holds c = (refl, omega arith, changed-none 0 _ _)
-
-slice-write-out : tie.Need-slice-write-out Inv-loop μ-loop
-slice-write-out c = omega arith
-
-add-i : tie.Need-add-i Inv-loop μ-loop
-add-i c = omega arith
-
-loop-less : tie.Need-loop-less Inv-loop μ-loop
-loop-less c = omega arith
-
 loop-again : tie.Need-loop-again Inv-loop μ-loop
 loop-again c =
     let l = c .before .loop in
     (refl, omega arith, changed-more 0 (λ (k : ℕ). 0) (c .before .before .args .out .now) (l .out) (l .i) 0 (l .inv .2) (omega arith) refl)
-
-same-length : tie.Need-same-length Inv-loop μ-loop
-same-length c = c .before .loop .inv .2 .size
 
 returns : tie.Need-returns Inv-loop μ-loop
 returns c = let l = c .before .loop in changed-end 0 _ _ (l .out) (l .i) (l .inv .2) (omega arith)
@@ -43,10 +28,10 @@ clear-spec =
     (tie.spec
     Inv-loop
     μ-loop
-    loop-holds
-    slice-write-out
-    add-i
-    loop-less
+    (λ c. (refl, omega arith, changed-none 0 _ _))
+    (λ c. omega arith)
+    (λ c. omega arith)
+    (λ c. omega arith)
     loop-again
-    same-length
+    (λ c. c .before .loop .inv .2 .size)
     returns)

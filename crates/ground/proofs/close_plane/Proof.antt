@@ -57,72 +57,21 @@ abbrev μ-loop : tie.MeasureT-loop
 abbrev start : tie.At-loop Inv-loop μ-loop → tie.Start Inv-loop μ-loop
 start c = c .before .before .before
 
-loop-holds : tie.Need-loop-holds Inv-loop μ-loop
-loop-holds c = (refl, omega arith, changed-none 0 _ _)
-
-mul-t9 : tie.Need-mul-t9 Inv-loop μ-loop
-mul-t9 c = omega arith
-
-mul-t10 : tie.Need-mul-t10 Inv-loop μ-loop
-mul-t10 c = omega arith
-
-shared-slice-read-t12 : tie.Need-shared-slice-read-t12 Inv-loop μ-loop
-shared-slice-read-t12 c = omega arith
-
-mul-t13 : tie.Need-mul-t13 Inv-loop μ-loop
-mul-t13 c = omega arith
-
-add-t14 : tie.Need-add-t14 Inv-loop μ-loop
-add-t14 c = omega arith
-
-mul-t15 : tie.Need-mul-t15 Inv-loop μ-loop
-mul-t15 c = omega arith
-
-shared-slice-read-t17 : tie.Need-shared-slice-read-t17 Inv-loop μ-loop
-shared-slice-read-t17 c = omega arith
-
-mul-t18 : tie.Need-mul-t18 Inv-loop μ-loop
-mul-t18 c = omega arith
-
-add-t19 : tie.Need-add-t19 Inv-loop μ-loop
-add-t19 c = omega arith
-
-mul-t20 : tie.Need-mul-t20 Inv-loop μ-loop
-mul-t20 c = omega arith
-
-shared-slice-read-t22 : tie.Need-shared-slice-read-t22 Inv-loop μ-loop
-shared-slice-read-t22 c = omega arith
-
 close-requires : tie.Need-close-requires Inv-loop μ-loop
 close-requires c κs =
     let b : tie.In-loop Inv-loop μ-loop = c .before .before .before in
     let o = start (b .before) in
     let a = o .args in
-    record { first = pixel-ok (a .colours .now) (a .reference) (a .out .now) (b .before .loop .i) (o .pre) (omega arith); second = o .pre .good }
-
-byte-requires : tie.Need-byte-requires Inv-loop μ-loop
-byte-requires c κs = search needs
-
-slice-write-out : tie.Need-slice-write-out Inv-loop μ-loop
-slice-write-out c = omega arith
-
-add-i : tie.Need-add-i Inv-loop μ-loop
-add-i c = omega arith
-
-loop-less : tie.Need-loop-less Inv-loop μ-loop
-loop-less c = omega arith
+    let ok = pixel-ok (a .colours .now) (a .reference) (a .out .now) (b .before .loop .i) (o .pre) (omega arith) in
+    record { first = ok; second = o .pre .good }
 
 loop-again : tie.Need-loop-again Inv-loop μ-loop
 loop-again c =
     let b : tie.At-loop Inv-loop μ-loop = c .before .before .before .before .before .before in
     let l = b .loop in
     let a = start b .args in
-    let tested : c .before .close .result ≡ closeTo (a .tolerance) (a .reference) (pixel (a .colours .now) (l .i)) = c .before .close .ensures in
-    let made = c .byte .ensures ∙ ap bit tested ∙ mark-is (a .colours .now) (a .reference) (a .tolerance) (l .i) in
+    let made = c .byte .ensures ∙ ap bit (c .before .close .ensures) ∙ mark-is (a .colours .now) (a .reference) (a .tolerance) (l .i) in
     (refl, omega arith, changed-more 0 _ (a .out .now) (l .out) (l .i) (c .byte .result) (l .inv .2) (omega arith) made)
-
-same-length : tie.Need-same-length Inv-loop μ-loop
-same-length c = c .before .loop .inv .2 .size
 
 returns : tie.Need-returns Inv-loop μ-loop
 unfolding maskOf
@@ -134,23 +83,23 @@ close-plane-spec =
     (tie.spec
     Inv-loop
     μ-loop
-    loop-holds
-    mul-t9
-    mul-t10
-    shared-slice-read-t12
-    mul-t13
-    add-t14
-    mul-t15
-    shared-slice-read-t17
-    mul-t18
-    add-t19
-    mul-t20
-    shared-slice-read-t22
+    (λ c. (refl, omega arith, changed-none 0 _ _))
+    (λ c. omega arith)
+    (λ c. omega arith)
+    (λ c. omega arith)
+    (λ c. omega arith)
+    (λ c. omega arith)
+    (λ c. omega arith)
+    (λ c. omega arith)
+    (λ c. omega arith)
+    (λ c. omega arith)
+    (λ c. omega arith)
+    (λ c. omega arith)
     close-requires
-    byte-requires
-    slice-write-out
-    add-i
-    loop-less
+    (λ c κs. search needs)
+    (λ c. omega arith)
+    (λ c. omega arith)
+    (λ c. omega arith)
     loop-again
-    same-length
+    (λ c. c .before .loop .inv .2 .size)
     returns)

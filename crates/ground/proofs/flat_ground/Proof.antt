@@ -9,20 +9,12 @@ use Rattle.ground.proofs.flat_ground.Tie as tie
 abbrev start : tie.After-reference → tie.Start
 start c = c .before .before .before .before .before
 
-reference-requires : tie.Need-reference-requires
-reference-requires c κs = search needs
-
 ground-from-requires : tie.Need-ground-from-requires
 ground-from-requires c κs =
     let r : tie.After-reference = c .before .before .before .before in
     let g = start r .pre in
-    (record { picture = same-picture (g .picture) (r .reference .last .1 .1 .1 .0) (r .reference .kept .1 .1 .1 .0); output = g .output }, r .reference .ensures .1)
-
-same-length : tie.Need-same-length
-same-length c = search needs
-
-same-length-2 : tie.Need-same-length-2
-same-length-2 c = search needs
+    let p = same-picture (g .picture) (r .reference .last .1 .1 .1 .0) (r .reference .kept .1 .1 .1 .0) in
+    (record { picture = p; output = g .output }, r .reference .ensures .1)
 
 returns : tie.Need-returns
 returns c =
@@ -33,4 +25,4 @@ returns c =
 
 pub flat-ground-spec : {M : Type 1} → statement M
 flat-ground-spec =
-    tie.close (tie.spec reference-requires ground-from-requires same-length same-length-2 returns)
+    tie.close (tie.spec (λ c κs. search needs) ground-from-requires (search needs) (search needs) returns)

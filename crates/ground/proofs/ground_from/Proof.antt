@@ -1,13 +1,13 @@
 -- `ground::ground_from` meets its contract.
 -- Assumes nothing.
-use mathlib.Core.Path.{_≡_, sym, ap, _∙_}
-use mathlib.Core.Bool.{Bool, true, false, not}
+use mathlib.Core.Path.{_≡_, sym, _∙_}
 use mathlib.Core.List.{List}
 use Prim.Native.Nat.{ℕ, _*_}
 use native.Mathlib.Omega.{arith}
 use lib.Dec.{leb}
 use lib.ListN.{length}
 use borrow.Author.Needs.{needs}
+use borrow.Author.Tests.{not-true, not-false}
 use Rattle.plane.specs.Mask.{someOff}
 use Rattle.plane.proofs.Plane.{area-most}
 use Rattle.outline.specs.Border.{borderList}
@@ -15,10 +15,6 @@ use Rattle.outline.specs.Ground.{closePlane, countOn}
 use Rattle.ground.proofs.Answers.{close-is, close-closed, absent-few, absent-full, found}
 use Rattle.ground.proofs.ground_from.Statement.{statement}
 use Rattle.ground.proofs.ground_from.Tie as tie
-
-opposite : (b t : Bool) → not b ≡ t → b ≡ not t
-opposite true t e = ap not e
-opposite false t e = ap not e
 
 -- the places after each call, and the planes there
 abbrev start : tie.After-close-plane → tie.Start
@@ -47,7 +43,7 @@ close-pixels : (c : tie.After-close-plane) → let a = start c .args in
 close-pixels c =
     let o = start c in
     let a = o .args in
-    close-is (a .colours .now) (a .h) (a .w) (a .reference) (a .tolerance) (length (a .out .now)) (close c) (o .pre .0 .output) (c .close-plane .ensures)
+    close-is _ _ _ _ _ (length (a .out .now)) (close c) (o .pre .0 .output) (c .close-plane .ensures)
 
 ground-long : (c : tie.After-flood) → let a = start (closed (counted c)) .args in length (ground c) ≡ a .h * a .w
 ground-long c = c .flood .kept .1 .1 .1 .0 ∙ close-long (closed (counted c))
@@ -77,12 +73,6 @@ mostly-requires c κs =
     let a = start b .args in
     close-closed (a .colours .now) (a .h) (a .w) (a .reference) (a .tolerance) (close b) (start b .pre .0 .picture .sides) (close-pixels b)
 
-clear-requires : tie.Need-clear-requires
-clear-requires c κs = search needs
-
-same-length : tie.Need-same-length
-same-length c = search needs
-
 returns : tie.Need-returns
 returns c =
     let d : tie.After-clear = c .before .before in
@@ -90,7 +80,7 @@ returns c =
     let b = closed (t .before) in
     let a = start b .args in
     absent-few (a .colours .now) (a .h) (a .w) (a .reference) (a .tolerance) (close b) (length (close b)) (d .clear .last .0)
-    (close-pixels b) (sym (counted-is (t .before)) ∙ opposite _ true (t .if1 .taken)) (close-long b) (d .clear .ensures)
+    (close-pixels b) (sym (counted-is (t .before)) ∙ not-true _ (t .if1 .taken)) (close-long b, d .clear .ensures)
 
 flood-requires : tie.Need-flood-requires
 flood-requires c κs =
@@ -98,19 +88,7 @@ flood-requires c κs =
     let b = closed m in
     let a = start b .args in
     let g = start b .pre .0 .picture in
-    (close-closed (a .colours .now) (a .h) (a .w) (a .reference) (a .tolerance) (close b) (g .sides) (close-pixels b), omega (arith, g .room))
-
-some-off-requires : tie.Need-some-off-requires
-some-off-requires c κs = search needs
-
-clear-requires-2 : tie.Need-clear-requires-2
-clear-requires-2 c κs = search needs
-
-same-length-2 : tie.Need-same-length-2
-same-length-2 c = search needs
-
-same-length-3 : tie.Need-same-length-3
-same-length-3 c = search needs
+    (close-closed _ _ _ _ _ (close b) (g .sides) (close-pixels b), omega (arith, g .room))
 
 returns-2 : tie.Need-returns-2
 returns-2 c =
@@ -119,14 +97,8 @@ returns-2 c =
     let f = flooded (t .before) in
     let b = closed (counted f) in
     let a = start b .args in
-    absent-full (a .colours .now) (a .h) (a .w) (a .reference) (a .tolerance) (close b) (ground f) (close-pixels b) (f .flood .ensures) (ground-long f)
-    (length (ground f)) (d .clear2 .last .0) (sym (off-is (t .before)) ∙ opposite _ true (t .if2 .taken)) (ground-long f) (d .clear2 .ensures)
-
-same-length-4 : tie.Need-same-length-4
-same-length-4 c = search needs
-
-same-length-5 : tie.Need-same-length-5
-same-length-5 c = search needs
+    absent-full _ _ _ _ _ (close b) (ground f) (close-pixels b) (f .flood .ensures) (ground-long f) (length (ground f)) _
+    (sym (off-is (t .before)) ∙ not-true _ (t .if2 .taken)) (ground-long f, d .clear2 .ensures)
 
 returns-3 : tie.Need-returns-3
 returns-3 c =
@@ -135,8 +107,8 @@ returns-3 c =
     let b = closed m in
     let a = start b .args in
     let e : tie.Else1 = f .before .before .before in
-    found (a .colours .now) (a .h) (a .w) (a .reference) (a .tolerance) (close b) (ground f) (close-pixels b) (f .flood .ensures) (ground-long f)
-    (sym (counted-is m) ∙ opposite _ false (e .if1 .left)) (sym (off-is (c .before)) ∙ opposite _ false (c .if2 .left))
+    found _ _ _ _ _ (close b) (ground f) (close-pixels b) (f .flood .ensures) (ground-long f)
+    (sym (counted-is m) ∙ not-false _ (e .if1 .left)) (sym (off-is (c .before)) ∙ not-false _ (c .if2 .left))
 
 pub ground-from-spec : {M : Type 1} → statement M
 ground-from-spec =
@@ -144,15 +116,15 @@ ground-from-spec =
     (tie.spec
     close-plane-requires
     mostly-requires
-    clear-requires
-    same-length
+    (λ c κs. search needs)
+    (search needs)
     returns
     flood-requires
-    some-off-requires
-    clear-requires-2
-    same-length-2
-    same-length-3
+    (λ c κs. search needs)
+    (λ c κs. search needs)
+    (search needs)
+    (search needs)
     returns-2
-    same-length-4
-    same-length-5
+    (search needs)
+    (search needs)
     returns-3)

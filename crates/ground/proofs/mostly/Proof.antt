@@ -1,107 +1,97 @@
--- `ground::mostly` meets its contract.
+-- `ground::mostly` meets its contract. The loop's invariant: `count` and what of the rest of the border list is on make the whole.
 -- Assumes nothing.
-use mathlib.Core.Path.{_≡_, ap, _∙_}
-use Prim.Native.Nat.{ℕ, _+_, _*_, _-_}
+use mathlib.Core.Path.{_≡_, sym, ap, _∙_}
+use mathlib.Core.Bool.{not}
+use mathlib.Core.List.{List}
+use Prim.Native.Nat.{ℕ, _+_, _*_, _-_, _≤_, _<_}
+use native.Mathlib.Nat.{zero-add}
+use native.Mathlib.Numerals.{add-one}
 use native.Mathlib.Omega.{arith}
-use lib.Dec.{leb}
-use lib.ListN.{length}
-use Rattle.plane.proofs.Plane.{area-most}
+use lib.Dec.{eqb, leb}
+use lib.ListN.{length, getD, drop, drop-of-length-le}
+use lib.Seq.{drop-cons}
+use borrow.Author.Needs.{needs}
+use Rattle.plane.specs.Plane.{on, bit}
+use Rattle.plane.specs.Mask.{isOn}
 use Rattle.outline.specs.Border.{borderList}
 use Rattle.outline.specs.Ground.{countOn}
-use Rattle.flood.specs.steps.Lines.{linePixels}
-use Rattle.flood.proofs.Border.{border-length, last-in}
-use Rattle.ground.proofs.Lines.{first-on, last-on, left-on, right-on, counts-are}
-use borrow.Author.Needs.{needs}
+use Rattle.flood.proofs.Border.{border-length, border-in}
+use Rattle.ground.proofs.Answers.{bit-most}
 use Rattle.ground.proofs.mostly.Statement.{statement}
 use Rattle.ground.proofs.mostly.Tie as tie
 
-between-requires : tie.Need-between-requires
-between-requires c κs = search needs
+-- the rest of a list begins with its pixel k, and is nothing in the end
+rest : (mask l : List ℕ) (k : ℕ) → k < length l
+    → countOn mask (drop k l) ≡ bit (not (eqb (getD mask (getD l k 0) 0) 0)) + countOn mask (drop (k + 1) l)
+unfolding countOn isOn on bit
+rest mask l k h = rw (drop-cons l k 0 h, add-one k)
 
-count-requires : tie.Need-count-requires
-count-requires c κs = first-on (c .before .before .pre)
+none-left : (mask l : List ℕ) (k : ℕ) → length l ≤ k → countOn mask (drop k l) ≡ 0
+unfolding countOn
+none-left mask l k h = rw (drop-of-length-le l {i = k} h)
 
-sub-count : tie.Need-sub-count
-sub-count c = search needs
+abbrev Inv-loop : tie.InvT-loop
+Inv-loop mask h w total count₀ k₀ count k =
+    (total ≡ length (borderList h w)) × (k ≤ total) × (count ≤ k)
+    × (countOn mask (borderList h w) ≡ count + countOn mask (drop k (borderList h w)))
 
-mul-count : tie.Need-mul-count
-mul-count c =
-    let o = c .before .before .before in
-    omega (arith, last-in (o .pre .sides) 0 (omega (arith, o .pre .sides .some-columns)), area-most (o .pre .sides .tall) (o .pre .sides .wide))
+abbrev μ-loop : tie.MeasureT-loop
+μ-loop mask h w total count₀ k₀ count k = total - k
 
-count-requires-2 : tie.Need-count-requires-2
-count-requires-2 c κs = last-on (c .before .before .before .pre)
+abbrev start : tie.At-loop Inv-loop μ-loop → tie.Start Inv-loop μ-loop
+start c = c .before .before .before
 
-count-requires-3 : tie.Need-count-requires-3
-count-requires-3 c κs = left-on (c .before .before .before .before .pre) _ (c .before .before .between .ensures)
+-- the list is short
+few : (c : tie.At-loop Inv-loop μ-loop) → c .before .border-count .result ≤ 262144
+few c =
+    let o = start c in
+    omega (arith, c .loop .inv .0, border-length (o .args .h) (o .args .w), o .pre .sides .tall, o .pre .sides .wide)
 
-sub-count-2 : tie.Need-sub-count-2
-sub-count-2 c = search needs
+loop-holds : tie.Need-loop-holds Inv-loop μ-loop
+loop-holds c = (c .border-count .ensures, omega arith, omega arith, sym (zero-add _))
 
-add-count : tie.Need-add-count
-add-count c = search needs
+-- the pixel is in the plane
+pixel-in : (c : tie.After-border-pixel Inv-loop μ-loop) → c .border-pixel .result < length (start (c .before .before) .args .mask .now)
+pixel-in c =
+    let l = c .before .before .loop in
+    let g = start (c .before .before) .pre in
+    omega (arith, c .border-pixel .ensures, border-in (l .k) (g .sides) (omega (arith, l .inv .0)), g .output)
 
-count-requires-4 : tie.Need-count-requires-4
-count-requires-4 c κs = right-on (c .before .before .before .before .before .pre) _ (omega (arith, c .before .before .before .between .ensures))
+loop-again : tie.Need-loop-again Inv-loop μ-loop
+loop-again c =
+    let p : tie.After-border-pixel Inv-loop μ-loop = c .before .before in
+    let l = p .before .before .loop in
+    let a = start (p .before .before) .args in
+    let on : ℕ → ℕ = λ i. bit (not (eqb (getD (a .mask .now) i 0) 0)) in
+    let more = rest (a .mask .now) (borderList (a .h) (a .w)) (l .k) (omega (arith, l .inv .0)) in
+    let added : c .byte .result ≡ on (getD (borderList (a .h) (a .w)) (l .k) 0) = c .byte .ensures ∙ ap on (p .border-pixel .ensures) in
+    let small = bit-most (not (eqb (getD (a .mask .now) (getD (borderList (a .h) (a .w)) (l .k) 0) 0) 0)) in
+    (l .inv .0, omega arith, omega arith, omega (arith, l .inv .3))
 
-add-result : tie.Need-add-result
-add-result c = search needs
-
-add-result-2 : tie.Need-add-result-2
-add-result-2 c = search needs
-
-add-result-3 : tie.Need-add-result-3
-add-result-3 c = search needs
-
-mul-result : tie.Need-mul-result
-mul-result c = search needs
-
-add-result-4 : tie.Need-add-result-4
-add-result-4 c = search needs
-
-add-result-5 : tie.Need-add-result-5
-add-result-5 c = search needs
-
-add-result-6 : tie.Need-add-result-6
-add-result-6 c = search needs
-
-mul-result-2 : tie.Need-mul-result-2
-mul-result-2 c = search needs
-
-returns : tie.Need-returns
+returns : tie.Need-returns Inv-loop μ-loop
 returns c =
-    let o = c .before .before .before .before .before .before in
-    let a = o .args in
-    let p = a .mask .now in
-    let n = c .before .before .before .before .between .result in
-    let m : n ≡ a .h - 2 = c .before .before .before .before .between .ensures in
-    let e1 : c .before .before .before .count .result ≡ countOn p (linePixels 0 1 (a .w)) = c .before .before .before .count .ensures .0 in
-    let e2 : c .before .before .count2 .result ≡ countOn p (linePixels ((a .h - 1) * a .w) 1 (a .w)) = c .before .before .count2 .ensures .0 in
-    let e3 : c .before .count3 .result ≡ countOn p (linePixels (a .w) (a .w) n) = c .before .count3 .ensures .0 in
-    let e4 : c .count4 .result ≡ countOn p (linePixels (a .w + (a .w - 1)) (a .w) n) = c .count4 .ensures .0 in
-    let e : a .w + a .w + n + n ≡ length (borderList (a .h) (a .w)) = omega (arith, border-length (a .h) (a .w)) in
-    let k = c .before .before .before .count .result + c .before .before .count2 .result + c .before .count3 .result + c .count4 .result in
-    ap (λ (i : ℕ). leb (9 * i) (10 * k)) e ∙ ap (λ (i : ℕ). leb (9 * length (borderList (a .h) (a .w))) (10 * i)) (counts-are (o .pre) n _ _ _ _ m e1 e2 e3 e4)
+    let l = c .before .loop in
+    let a = start (c .before) .args in
+    let z = none-left (a .mask .now) (borderList (a .h) (a .w)) (l .k) (omega (arith, l .inv .0)) in
+    let e : l .count ≡ countOn (a .mask .now) (borderList (a .h) (a .w)) = omega (arith, l .inv .3) in
+    ap (λ (i : ℕ). leb (9 * i) (10 * l .count)) (l .inv .0) ∙ ap (λ (i : ℕ). leb (9 * length (borderList (a .h) (a .w))) (10 * i)) e
 
 pub mostly-spec : {M : Type 1} → statement M
 mostly-spec =
     tie.close
     (tie.spec
-    between-requires
-    count-requires
-    sub-count
-    mul-count
-    count-requires-2
-    count-requires-3
-    sub-count-2
-    add-count
-    count-requires-4
-    add-result
-    add-result-2
-    add-result-3
-    mul-result
-    add-result-4
-    add-result-5
-    add-result-6
-    mul-result-2
+    Inv-loop
+    μ-loop
+    (λ c κs. search needs)
+    loop-holds
+    (λ c κs. search needs)
+    (λ c. pixel-in (c .before))
+    (λ c κs. search needs)
+    (search needs)
+    (λ c. omega (arith, few (c .before .before .before .before)))
+    (λ c. omega (arith, few (c .before .before .before .before)))
+    (search needs)
+    loop-again
+    (λ c. omega (arith, few (c .before)))
+    (λ c. omega (arith, few (c .before)))
     returns)

@@ -34,20 +34,9 @@ green c = c .before .before .before .before
 picture-1 : (c : tie.After-channel) → let a = start c .args in Picture (a .colours .now) (a .h) (a .w) (c .channel .last .1 .1 .1 .1 .0)
 picture-1 c = same-picture (start c .pre) (c .channel .last .1 .1 .1 .1 .0) (c .channel .kept .1 .1 .1 .1 .0)
 
-picture-2 : (c : tie.After-channel2) → let a = start (red c) .args in Picture (a .colours .now) (a .h) (a .w) (c .channel2 .last .1 .1 .1 .1 .0)
+picture-2 : (c : tie.After-channel2) → let a = start (red c) .args in
+    Picture (a .colours .now) (a .h) (a .w) (c .channel2 .last .1 .1 .1 .1 .0)
 picture-2 c = same-picture (picture-1 (red c)) (c .channel2 .last .1 .1 .1 .1 .0) (c .channel2 .kept .1 .1 .1 .1 .0)
-
-channel-requires : tie.Need-channel-requires
-channel-requires c κs = search needs
-
-channel-requires-2 : tie.Need-channel-requires-2
-channel-requires-2 c κs = (picture-1 (c .before .before .before), omega arith)
-
-channel-requires-3 : tie.Need-channel-requires-3
-channel-requires-3 c κs = (picture-2 (c .before .before .before), omega arith)
-
-same-length : tie.Need-same-length
-same-length c = search needs
 
 returns : tie.Need-returns
 returns c =
@@ -60,4 +49,10 @@ returns c =
 
 pub reference-spec : {M : Type 1} → statement M
 reference-spec =
-    tie.close (tie.spec channel-requires channel-requires-2 channel-requires-3 same-length returns)
+    tie.close
+    (tie.spec
+    (λ c κs. search needs)
+    (λ c κs. (picture-1 (c .before .before .before), omega arith))
+    (λ c κs. (picture-2 (c .before .before .before), omega arith))
+    (search needs)
+    returns)

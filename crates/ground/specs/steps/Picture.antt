@@ -6,7 +6,7 @@ use mathlib.Core.List.{List}
 use Prim.Native.Nat.{ℕ, _*_, _≤_}
 use lib.ListN.{length}
 use lib.Ieee.{Float}
-use Rattle.plane.specs.Plane.{longestSide, Sides}
+use Rattle.plane.specs.steps.Sides.{longestSide, Sides}
 use Rattle.plane.specs.Refusal.{roomFor}
 use Rattle.colour.specs.declared.Rgb.{Rgb}
 use Rattle.colour.specs.Colour.{coloursOk, rgbOk}

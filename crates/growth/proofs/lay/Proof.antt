@@ -5,7 +5,8 @@ use mathlib.Core.Bool.{Bool}
 use mathlib.Core.List.{List}
 use lib.ListN.{length}
 use Rattle.plane.specs.Search.{someBelow}
-use Rattle.plane.specs.Mask.{isOn, maskOf, complementOf}
+use Rattle.plane.specs.Mask.{isOn, maskOf}
+use Rattle.plane.specs.steps.Complement.{complementOf}
 use Prim.Native.Nat.{ℕ, _*_}
 use native.Mathlib.Omega.{arith}
 use Rattle.outline.specs.Growth.{isShallow}

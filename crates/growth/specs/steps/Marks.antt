@@ -8,7 +8,8 @@ use mathlib.Core.List.{List}
 use lib.Dec.{eqb, ltb}
 use lib.Ieee.{Float}
 use lib.ListN.{length, getD}
-use Rattle.plane.specs.Plane.{Sides, bit, table}
+use Rattle.plane.specs.Plane.{bit, table}
+use Rattle.plane.specs.steps.Sides.{Sides}
 use Rattle.plane.specs.Search.{someBelow}
 use Rattle.plane.specs.Mask.{isOn, maskOf}
 use Rattle.colour.specs.declared.Rgb.{Rgb}

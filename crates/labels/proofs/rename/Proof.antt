@@ -1,80 +1,38 @@
--- `labels::rename` meets its contract.
+-- `labels::rename` meets its contract. The loop's invariant: the labels before i are renamed.
 -- Assumes nothing.
-use mathlib.Core.Path.{_≡_, ap, _∙_}
-use mathlib.Core.List.{List}
+use mathlib.Core.Path.{ap}
 use Prim.Native.Nat.{ℕ, _-_, _≤_, _<_}
+use native.Mathlib.Nat.{le-refl}
 use native.Mathlib.Omega.{arith}
 use lib.ListN.{length, getD}
 use Rattle.plane.proofs.InPlace.{Changed, changed-none, changed-more, changed-end}
 use Rattle.labels.proofs.rename.Statement.{statement}
 use Rattle.labels.proofs.rename.Tie as tie
 
--- the number of the label at k
-numberAt : List ℕ → List ℕ → ℕ → ℕ
-numberAt numbers labels k = getD numbers (getD labels k 0) 0
-
 abbrev Inv-loop : tie.InvT-loop
-Inv-loop numbers labels₀ i₀ labels i = (i ≤ length labels₀) × Changed 0 (numberAt numbers labels₀) labels₀ labels i
+Inv-loop numbers labels₀ i₀ labels i =
+    (i ≤ length labels₀) × Changed 0 (λ (k : ℕ). getD numbers (getD labels₀ k 0) 0) labels₀ labels i
 
 abbrev μ-loop : tie.MeasureT-loop
 μ-loop numbers labels₀ i₀ labels i = length labels₀ - i
 
-loop-holds : tie.Need-loop-holds Inv-loop μ-loop
-loop-holds c = (omega arith, changed-none 0 _ _)
-
-mul-wide : tie.Need-mul-wide Inv-loop μ-loop
-mul-wide c = omega arith
-
-slice-read-wide : tie.Need-slice-read-wide Inv-loop μ-loop
-slice-read-wide c = omega arith
-
-wide-requires : tie.Need-wide-requires Inv-loop μ-loop
-wide-requires c κs = tt
-
 -- the label at i is below the number of numbers
-inside : (c : tie.After-wide Inv-loop μ-loop) → c .wide .result < length (c .before .before .before .before .before .before .args .numbers .now)
+inside : (c : tie.In-loop Inv-loop μ-loop)
+    → let l = c .before .loop in
+    (l .i < length (l .labels)) × (getD (l .labels) (l .i) 0 < length (c .before .before .args .numbers .now))
 inside c =
-    let l = c .before .before .before .loop in
-    let o = c .before .before .before .before .before .before in
-    let e : c .wide .result ≡ getD (l .labels) (l .i) 0 = c .wide .ensures in
-    let t = c .before .before .loop-test .taken in
-    omega (arith, l .inv .1 .back (l .i) (omega arith), o .pre (l .i) (omega (arith, l .inv .1 .size)))
-
-mul-labels : tie.Need-mul-labels Inv-loop μ-loop
-mul-labels c = omega (arith, inside c)
-
-shared-slice-read-labels : tie.Need-shared-slice-read-labels Inv-loop μ-loop
-shared-slice-read-labels c = omega (arith, inside (c .before))
-
-mul-labels-2 : tie.Need-mul-labels-2 Inv-loop μ-loop
-mul-labels-2 c = omega arith
-
-slice-write-labels : tie.Need-slice-write-labels Inv-loop μ-loop
-slice-write-labels c = omega arith
-
-add-i : tie.Need-add-i Inv-loop μ-loop
-add-i c = omega arith
-
-loop-less : tie.Need-loop-less Inv-loop μ-loop
-loop-less c = omega arith
+    let l = c .before .loop in
+    let t = c .loop-test .taken in
+    let g = l .inv .1 in
+    (omega arith, omega (arith, g .back (l .i) (le-refl (l .i)), c .before .before .pre (l .i) (omega (arith, g .size))))
 
 loop-again : tie.Need-loop-again Inv-loop μ-loop
-unfolding numberAt
 loop-again c =
-    let l = c .before .before .before .before .loop in
-    let a = c .before .before .before .before .before .before .before .args in
-    let numbers = a .numbers .now in
-    let old = a .labels .now in
-    let t = c .before .before .before .loop-test .taken in
-    let e : c .before .wide .result ≡ getD old (l .i) 0 = c .before .wide .ensures ∙ l .inv .1 .back (l .i) (omega arith) in
-    (omega (arith, l .inv .1 .size), changed-more 0 (numberAt numbers old) old (l .labels) (l .i) _ (l .inv .1) (omega (arith, l .inv .1 .size)) (ap (λ (k : ℕ). getD numbers k 0) e))
-
-same-length : tie.Need-same-length Inv-loop μ-loop
-same-length c = c .before .loop .inv .1 .size
-
-returns : tie.Need-returns Inv-loop μ-loop
-unfolding numberAt
-returns c = let l = c .before .loop in changed-end 0 _ _ (l .labels) (l .i) (l .inv .1) (omega (arith, l .inv .1 .size))
+    let l = c .before .before .before .loop in
+    let g = l .inv .1 in
+    let e = ap (λ (k : ℕ). getD (c .before .before .before .before .args .numbers .now) k 0) (g .back (l .i) (le-refl (l .i))) in
+    let here = inside (c .before .before) in
+    (omega (arith, g .size), changed-more 0 _ _ (l .labels) (l .i) _ g (omega (arith, g .size)) e)
 
 pub rename-spec : {M : Type 1} → statement M
 rename-spec =
@@ -82,16 +40,16 @@ rename-spec =
     (tie.spec
     Inv-loop
     μ-loop
-    loop-holds
-    mul-wide
-    slice-read-wide
-    wide-requires
-    mul-labels
-    shared-slice-read-labels
-    mul-labels-2
-    slice-write-labels
-    add-i
-    loop-less
+    (λ c. (omega arith, changed-none 0 _ _))
+    (λ c. omega arith)
+    (λ c. omega arith)
+    (λ c. omega (arith, inside (c .before)))
+    (λ c. omega (arith, inside (c .before)))
+    (λ c. omega (arith, inside (c .before .before)))
+    (λ c. omega (arith, inside (c .before .before)))
+    (λ c. omega (arith, inside (c .before .before)))
+    (λ c. omega arith)
+    (λ c. omega arith)
     loop-again
-    same-length
-    returns)
+    (λ c. c .before .loop .inv .1 .size)
+    (λ c. changed-end 0 _ _ (c .before .loop .labels) (c .before .loop .i) (c .before .loop .inv .1) (omega arith)))

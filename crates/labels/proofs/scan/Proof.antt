@@ -17,16 +17,19 @@ Inv-loop mask h w parents₀ labels₀ m₀ y₀ parents labels m y =
 abbrev μ-loop : tie.MeasureT-loop
 μ-loop mask h w parents₀ labels₀ m₀ y₀ parents labels m y = h - y
 
-slice-write-parents : tie.Need-slice-write-parents Inv-loop μ-loop
-slice-write-parents c = omega (arith, c .before .before .before .pre .room)
-
 loop-holds : tie.Need-loop-holds Inv-loop μ-loop
 loop-holds c =
     let o = c .before .before .before in
     let a = o .args in
     let g = o .pre in (
       omega arith,
-      record { sides = g .sides; few = g .few; input = g .input; output = g .output; room = omega (arith, g .room, length-set (a .parents .now) 0 0) },
+      record {
+        sides = g .sides;
+        few = g .few;
+        input = g .input;
+        output = g .output;
+        room = omega (arith, g .room, length-set (a .parents .now) 0 0);
+      },
       rw (zero-mul (a .w)) (none-scanned (a .mask .now) (a .labels .now) (a .parents .now) (a .h) (a .w) (omega (arith, g .room))),
       refl,
     )
@@ -35,12 +38,6 @@ scan-row-requires : tie.Need-scan-row-requires Inv-loop μ-loop
 scan-row-requires c κs =
     let l = c .before .before .before .loop in
     record { given = l .inv .1; row = c .before .before .loop-test .taken; so-far = l .inv .2 }
-
-add-y : tie.Need-add-y Inv-loop μ-loop
-add-y c = omega arith
-
-loop-less : tie.Need-loop-less Inv-loop μ-loop
-loop-less c = omega arith
 
 loop-again : tie.Need-loop-again Inv-loop μ-loop
 loop-again c =
@@ -80,11 +77,11 @@ scan-spec =
     (tie.spec
     Inv-loop
     μ-loop
-    slice-write-parents
+    (λ c. omega (arith, c .before .before .before .pre .room))
     loop-holds
     scan-row-requires
-    add-y
-    loop-less
+    (λ c. omega arith)
+    (λ c. omega arith)
     loop-again
     same-length
     same-length-2

@@ -1,12 +1,12 @@
 -- `labels::scan_row` meets its contract.
 -- Assumes nothing.
 use mathlib.Core.Path.{_≡_, refl, sym, _∙_}
-use Prim.Native.Nat.{_+_, _*_, _-_, _≤_}
+use Prim.Native.Nat.{_+_, _*_, _-_, _≤_, _<_}
 use native.Mathlib.Omega.{arith}
-use lib.ListN.{length, getD, length-set}
-use Rattle.plane.proofs.Plane.{row-in}
-use Rattle.labels.specs.steps.Trees.{Placed, upAt, leftAt, diagAt, larger, Scanned, Given}
-use Rattle.labels.proofs.Scanning.{pixel-inside, placeable, row-step, next-left, next-diag}
+use lib.ListN.{length, length-set}
+use Rattle.plane.proofs.Plane.{row-in, pixel-in}
+use Rattle.labels.specs.steps.Trees.{leftAt, diagAt, larger, Scanned, Given}
+use Rattle.labels.proofs.Scanning.{placeable, row-next}
 use Rattle.labels.proofs.scan_row.Statement.{statement}
 use Rattle.labels.proofs.scan_row.Tie as tie
 
@@ -23,11 +23,25 @@ Inv-loop mask h w y found parents₀ labels₀ start m₀ left₀ diag₀ x₀ p
 abbrev μ-loop : tie.MeasureT-loop
 μ-loop mask h w y found parents₀ labels₀ start m₀ left₀ diag₀ x₀ parents labels m left diag x = w - x
 
+abbrev at-start : tie.At-loop Inv-loop μ-loop → tie.Start Inv-loop μ-loop
+at-start c = c .before .before .before .before
+
+-- the pixel lies in the planes
+inside : (c : tie.In-loop Inv-loop μ-loop)
+    → let a = at-start (c .before) .args in
+    let l = c .before .loop in
+    let i = a .y * a .w + l .x in
+    (i < length (a .mask .now)) × (i < length (l .labels)) × (i < 4294967296)
+inside c =
+    let o = at-start (c .before) in
+    let g = c .before .loop .inv .2 in
+    let e = pixel-in (o .args .y) (c .before .loop .x) (o .args .h) (o .args .w) (o .pre .row) (c .loop-test .taken) in
+    (omega (arith, g .input), omega (arith, g .output), omega (arith, g .few))
+
 mul-start : tie.Need-mul-start Inv-loop μ-loop
 mul-start c =
     let o = c .before .before .before in
-    let g = o .pre .given in
-    omega (arith, row-in (o .args .y) (o .args .h) (o .args .w) (o .pre .row), g .few)
+    omega (arith, row-in (o .args .y) (o .args .h) (o .args .w) (o .pre .row), o .pre .given .few)
 
 loop-holds : tie.Need-loop-holds Inv-loop μ-loop
 unfolding leftAt diagAt
@@ -36,121 +50,46 @@ loop-holds c =
     let e : o .args .y * o .args .w + 0 ≡ o .args .y * o .args .w = omega arith in
     (omega arith, refl, o .pre .given, rw e (o .pre .so-far), refl, refl, refl)
 
-add-i : tie.Need-add-i Inv-loop μ-loop
-add-i c =
-    let b = c .before in
-    let l = b .loop in
-    let o = b .before .before .before .before in
-    let a = o .args in
-    let g = l .inv .2 in
-    let inside = pixel-inside g (a .y) (l .x) (l .m) (o .pre .row) (c .loop-test .taken) (l .inv .3) in
-    let small = g .few in
-    omega arith
-
-upper-requires : tie.Need-upper-requires Inv-loop μ-loop
-upper-requires c κs =
-    let b = c .before .before in
-    let l = b .loop in
-    let o = b .before .before .before .before in
-    let a = o .args in
-    let g = l .inv .2 in
-    let inside = pixel-inside g (a .y) (l .x) (l .m) (o .pre .row) (c .before .loop-test .taken) (l .inv .3) in
-    let small = g .few in
-    omega (arith, g .output)
-
-shared-slice-read-place : tie.Need-shared-slice-read-place Inv-loop μ-loop
-shared-slice-read-place c =
-    let b = c .before .before .before .before in
-    let l = b .loop in
-    let o = b .before .before .before .before in
-    let a = o .args in
-    let g = l .inv .2 in
-    let inside = pixel-inside g (a .y) (l .x) (l .m) (o .pre .row) (c .before .before .before .loop-test .taken) (l .inv .3) in
-    let small = g .few in
-    omega (arith, g .input)
-
 place-requires : tie.Need-place-requires Inv-loop μ-loop
 place-requires c κs =
-    let b = c .before .before .before .before .before in
-    let l = b .loop in
-    let o = b .before .before .before .before in
-    let a = o .args in
-    let g = l .inv .2 in
-    let inside = pixel-inside g (a .y) (l .x) (l .m) (o .pre .row) (c .before .before .before .before .loop-test .taken) (l .inv .3) in
-    let small = g .few in
-    let p = placeable g (a .y) (l .x) (l .m) (o .pre .row) (c .before .before .before .before .loop-test .taken) (l .inv .3) in
-    record { trees = p .trees; left-in = rw (l .inv .4) (p .left-in); up-in = rw (c .before .before .upper .ensures) (p .up-in); room = p .room; small = p .small }
-
-mul-labels : tie.Need-mul-labels Inv-loop μ-loop
-mul-labels c =
-    let b = c .before .before .before .before .before .before .before .before in
-    let l = b .loop in
-    let o = b .before .before .before .before in
-    let a = o .args in
-    let g = l .inv .2 in
-    let inside = pixel-inside g (a .y) (l .x) (l .m) (o .pre .row) (c .before .before .before .before .before .before .before .loop-test .taken) (l .inv .3) in
-    let small = g .few in
-    omega arith
-
-slice-write-labels : tie.Need-slice-write-labels Inv-loop μ-loop
-slice-write-labels c =
-    let b = c .before .before .before .before .before .before .before .before in
-    let l = b .loop in
-    let o = b .before .before .before .before in
-    let a = o .args in
-    let g = l .inv .2 in
-    let inside = pixel-inside g (a .y) (l .x) (l .m) (o .pre .row) (c .before .before .before .before .before .before .before .loop-test .taken) (l .inv .3) in
-    let small = g .few in
-    omega (arith, g .output)
-
-greater-requires : tie.Need-greater-requires Inv-loop μ-loop
-greater-requires c κs = tt
-
-add-x : tie.Need-add-x Inv-loop μ-loop
-add-x c = omega arith
-
-loop-less : tie.Need-loop-less Inv-loop μ-loop
-loop-less c = omega arith
+    let t = c .before .before .before .before in
+    let l = t .before .loop in
+    let o = at-start (t .before) in
+    placeable (l .inv .2) (o .args .y) (l .x) (l .m) (o .pre .row) (t .loop-test .taken) (l .inv .3) (l .inv .4)
+    (c .before .before .upper .ensures)
 
 loop-again : tie.Need-loop-again Inv-loop μ-loop
 loop-again c =
-    let b = c .before .before .before .before .before .before .before .before .before in
-    let l = b .loop in
-    let o = b .before .before .before .before in
+    let t = c .before .before .before .before .before .before .before .before in
+    let l = t .before .loop in
+    let o = at-start (t .before) in
     let a = o .args in
     let g = l .inv .2 in
-    let taken = c .before .before .before .before .before .before .before .before .loop-test .taken in
     let f = c .before .before .before .place in
     let u = c .before .before .before .before .before .before .upper in
-    let new = f .last .1 .1 .1 .1 .1 .0 in
-    let t = a .y * a .w + l .x in
-    let e : u .result ≡ upAt (l .labels) (a .w) t = u .ensures in
-    let p : Placed (getD (a .mask .now) t 0) (l .left) (u .result) (l .diag) (l .m) (l .parents) new (f .result) = f .ensures in
-    let q : Placed (getD (a .mask .now) t 0) (leftAt (l .labels) t (l .x)) (upAt (l .labels) (a .w) t) (diagAt (l .labels) (a .w) t (l .x)) (l .m) (l .parents) new (f .result) =
-    rw (l .inv .4, e, l .inv .5) at p in
+    let i = a .y * a .w + l .x in
+    let more = row-next g (a .y) (l .x) (l .m) (o .pre .row) (t .loop-test .taken) (l .inv .3) (f .result) in
+    let n = more (l .inv .4) (u .ensures) (l .inv .5) (f .ensures) in
     let d : c .greater .result ≡ larger (l .m) (f .result) = c .greater .ensures in (
       omega arith,
       refl,
-      record { sides = g .sides; few = g .few; input = g .input; output = length-set (l .labels) t (f .result) ∙ g .output; room = omega (arith, g .room, f .kept .1 .1 .1 .1 .1 .0) },
-      rw d (row-step g (a .y) (l .x) (l .m) (o .pre .row) taken (l .inv .3) new (f .result) q),
-      next-left g (a .y) (l .x) (l .m) (o .pre .row) taken (l .inv .3) new (f .result),
-      e ∙ next-diag g (a .y) (l .x) (l .m) (o .pre .row) taken (l .inv .3) new (f .result),
+      record {
+        sides = g .sides;
+        few = g .few;
+        input = g .input;
+        output = length-set (l .labels) i (f .result) ∙ g .output;
+        room = omega (arith, g .room, f .kept .1 .1 .1 .1 .1 .0);
+      },
+      rw d (n .0),
+      n .1,
+      n .2,
       f .kept .1 .1 .1 .1 .1 .0 ∙ l .inv .6,
     )
 
-same-length : tie.Need-same-length Inv-loop μ-loop
-same-length c = c .before .loop .inv .6
-
-same-length-2 : tie.Need-same-length-2 Inv-loop μ-loop
-same-length-2 c = c .before .loop .inv .2 .output ∙ sym (c .before .before .before .before .before .pre .given .output)
-
 returns : tie.Need-returns Inv-loop μ-loop
 returns c =
-    let b = c .before in
-    let l = b .loop in
-    let a = b .before .before .before .before .args in
-    let e : l .x ≡ a .w = omega (arith, l .inv .0) in
-    rw e at (l .inv .3)
+    let e : c .before .loop .x ≡ at-start (c .before) .args .w = omega (arith, c .before .loop .inv .0) in
+    rw e at (c .before .loop .inv .3)
 
 pub scan-row-spec : {M : Type 1} → statement M
 scan-row-spec =
@@ -160,16 +99,16 @@ scan-row-spec =
     μ-loop
     mul-start
     loop-holds
-    add-i
-    upper-requires
-    shared-slice-read-place
+    (λ c. omega (arith, inside c))
+    (λ c κs. omega (arith, inside (c .before)))
+    (λ c. omega (arith, inside (c .before .before .before)))
     place-requires
-    mul-labels
-    slice-write-labels
-    greater-requires
-    add-x
-    loop-less
+    (λ c. omega (arith, inside (c .before .before .before .before .before .before .before)))
+    (λ c. omega (arith, inside (c .before .before .before .before .before .before .before)))
+    (λ c κs. tt)
+    (λ c. omega arith)
+    (λ c. omega arith)
     loop-again
-    same-length
-    same-length-2
+    (λ c. c .before .loop .inv .6)
+    (λ c. c .before .loop .inv .2 .output ∙ sym (at-start (c .before) .pre .given .output))
     returns)

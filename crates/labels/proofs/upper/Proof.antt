@@ -10,15 +10,9 @@ returns : tie.Need-returns
 unfolding upAt
 returns c = rw (lt-ltb (c .before .args .i) (c .before .args .w) (c .if1 .taken))
 
-mul-result : tie.Need-mul-result
-mul-result c = search needs
-
-shared-slice-read-result : tie.Need-shared-slice-read-result
-shared-slice-read-result c = search needs
-
 returns-2 : tie.Need-returns-2
 unfolding upAt
 returns-2 c = rw (le-ltb (c .before .before .args .i) (c .before .before .args .w) (c .before .if1 .left))
 
 pub upper-spec : {M : Type 1} → statement M
-upper-spec = tie.close (tie.spec returns mul-result shared-slice-read-result returns-2)
+upper-spec = tie.close (tie.spec returns (λ c. search needs) (λ c. search needs) returns-2)

@@ -7,7 +7,7 @@ use mathlib.Core.List.{List}
 use Prim.Native.Nat.{ℕ, _+_, _*_, _-_, _≤_, _<_}
 use lib.Dec.{eqb, ltb}
 use lib.ListN.{length, getD, set}
-use Rattle.plane.specs.Plane.{Sides}
+use Rattle.plane.specs.steps.Sides.{Sides}
 use Rattle.plane.specs.Search.{countBelow}
 use Rattle.plane.specs.Mask.{isOn}
 use Rattle.labels.specs.Labels.{beside, Joined, lesser, renamed, isFirst}
@@ -70,10 +70,10 @@ pub record Placeable (parents : List ℕ) (m left up : ℕ) : Type 0 where
 -- 0 when it is off; a new one when neither neighbour has one; else that of a neighbour, with the two neighbours' trees joined
 pub data Placed (v left up diag m : ℕ) (old new : List ℕ) (r : ℕ) : Type 0 where
   dark : v ≡ 0 → r ≡ 0 → new ≡ old → Placed v left up diag m old new r
-  fresh : 0 < v → left ≡ 0 → up ≡ 0 → r ≡ m + 1 → new ≡ set old (m + 1) (m + 1) → Placed v left up diag m old new r
-  from-above : 0 < v → left ≡ 0 → 0 < up → r ≡ up → new ≡ old → Placed v left up diag m old new r
-  from-left : 0 < v → 0 < left → (up ≡ 0) ⊎ (0 < diag) → r ≡ left → new ≡ old → Placed v left up diag m old new r
-  from-both : 0 < v → 0 < left → 0 < up → Linked old new m left up r → Placed v left up diag m old new r
+  fresh : (v ≡ 0 → ⊥) → left ≡ 0 → up ≡ 0 → r ≡ m + 1 → new ≡ set old (m + 1) (m + 1) → Placed v left up diag m old new r
+  from-above : (v ≡ 0 → ⊥) → left ≡ 0 → 0 < up → r ≡ up → new ≡ old → Placed v left up diag m old new r
+  from-left : (v ≡ 0 → ⊥) → 0 < left → (up ≡ 0) ⊎ (0 < diag) → r ≡ left → new ≡ old → Placed v left up diag m old new r
+  from-both : (v ≡ 0 → ⊥) → 0 < left → 0 < up → Linked old new m left up r → Placed v left up diag m old new r
 
 -- the label of the pixel above pixel i, 0 for none
 unfoldable pub upAt : List ℕ → ℕ → ℕ → ℕ

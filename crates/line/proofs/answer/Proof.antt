@@ -1,183 +1,142 @@
 -- `line::answer` meets its contract: the segments are written from the last to the first.
 -- Assumes nothing.
-use mathlib.Core.Path.{_≡_, refl, sym, ap, _∙_, subst}
+use mathlib.Core.Path.{_≡_, refl, sym, ap, _∙_}
 use mathlib.Core.List.{List}
 use mathlib.Core.Logic.{⊎-elim}
 use Prim.Native.Nat.{ℕ, _+_, _-_, _/_, _%_, _≤_, _<_}
-use lib.ListN.{length, getD, replicate, length-replicate, getD-replicate}
-use borrow.Rule.Slice.PartMut.{same-len-mid}
+use lib.ListN.{length, getD}
 use native.Mathlib.Omega.{arith}
 use Rattle.plane.proofs.Search.{which}
-use Rattle.line.specs.steps.Envelope.{siteAt, startAt, InSegment}
-use Rattle.line.proofs.Part.{put, part-length, put-inside, put-before, put-behind}
+use Rattle.line.specs.steps.Part.{Written}
+use Rattle.line.specs.steps.Envelope.{siteAt, startAt, Segments, InSegment}
 use borrow.Author.Needs.{needs}
 use Rattle.line.proofs.answer.Statement.{statement}
 use Rattle.line.proofs.answer.Tie as tie
 
+-- the segments from site q on are written: the places from end on
+pub record Answered (old work : List ℕ) (out stack n count base q end : ℕ) : Type 0 where
+  pub few : q ≤ count
+  pub size : length work ≡ length old
+  pub low : end ≤ n
+  pub ends : q < count → end ≡ startAt old stack q
+  pub whole : q ≡ count → end ≡ n
+  pub answered : (x : ℕ) → end ≤ x → x < n → InSegment old stack count base x (getD work (out + x) 0)
+  pub before : (i : ℕ) → i < out → getD work i 0 ≡ getD old i 0
+  pub behind : (i : ℕ) → out + n ≤ i → getD work i 0 ≡ getD old i 0
+
 abbrev Inv-loop : tie.InvT-loop
-Inv-loop work₀ out stack n count base q₀ end₀ work q end =
-    (q ≤ count)
-    × (length work ≡ length work₀)
-    × (end ≤ n)
-    × (q < count → end ≡ startAt work₀ stack q)
-    × (q ≡ count → end ≡ n)
-    × ((x : ℕ) → end ≤ x → x < n → InSegment work₀ stack count base x (getD work (out + x) 0))
-    × ((i : ℕ) → i < out → getD work i 0 ≡ getD work₀ i 0)
-    × ((i : ℕ) → out + n ≤ i → getD work i 0 ≡ getD work₀ i 0)
+Inv-loop work₀ out stack n count base q₀ end₀ work q end = Answered work₀ work out stack n count base q end
 
 abbrev μ-loop : tie.MeasureT-loop
 μ-loop work₀ out stack n count base q₀ end₀ work q end = q
 
-abbrev at-loop : tie.After-wide Inv-loop μ-loop → tie.At-loop Inv-loop μ-loop
-at-loop c = c .before .before .before
+module _ {old work : List ℕ} {out stack n count base q end : ℕ} (p : Segments old out stack n count base)
+    (l : Answered old work out stack n count base q end) (some-left : 0 < q) where
+  abbrev top : ℕ
+  top = q - 1
 
-abbrev start : tie.After-wide Inv-loop μ-loop → tie.Start Inv-loop μ-loop
-start c = at-loop c .before .before
+  -- the segment of the top ends behind its start
+  starts : startAt old stack top < end
+  starts =
+      let few = l .few in
+      ⊎-elim
+      (λ (h : q < count).
+      let z : startAt old stack (top + 1) ≡ startAt old stack q = ap (startAt old stack) (omega arith) in
+      let r = p .rises top (omega arith) in
+      let m = l .ends h in
+      omega arith)
+      (λ (h : count ≤ q). (let m = l .whole (omega arith) in let r = p .inside top (omega arith) in omega arith))
+      (which q count)
 
--- the segment of the top: its entry, where it starts, and that it ends at end
-pub record Top (c : tie.After-wide Inv-loop μ-loop) : Type 0 where
-  pub entry : c .wide .result ≡ getD (start c .args .work .now) (start c .args .stack + (at-loop c .loop .q - 1)) 0
-  pub starts : c .wide .result % 65536 < at-loop c .loop .end
-  pub ends : at-loop c .loop .end ≤ start c .args .n
-  pub site : c .wide .result / 65536 < start c .args .n
-  pub long : length (at-loop c .loop .work) ≡ length (start c .args .work .now)
-  pub behind : start c .args .out + start c .args .n ≤ start c .args .stack
-  pub room : start c .args .stack + start c .args .count ≤ length (start c .args .work .now)
+  module _ {from v : ℕ} {new : List ℕ} (from-is : from ≡ startAt old stack top) (site-is : v ≡ base + siteAt old stack top)
+      (size : length new ≡ length work) (w : Written 0 (λ (_ : ℕ). v) (out + from) (end - from) work new) where
+    in-top : (x : ℕ) → from ≤ x → x < end → InSegment old stack count base x (getD new (out + x) 0)
+    in-top x a b =
+        let few = l .few in
+        let until : top + 1 < count → x < startAt old stack (top + 1) = λ y.
+        (let m : startAt old stack (top + 1) ≡ end = ap (startAt old stack) (omega arith) ∙ sym (l .ends (omega arith)) in omega arith) in
+        record {
+          q = top;
+          inside = omega arith;
+          from = omega arith;
+          until = until;
+          site = ap (λ (m : ℕ). getD new m 0) (omega arith) ∙ w .here (x - from) (omega arith) ∙ site-is;
+        }
 
-facts : (c : tie.After-wide Inv-loop μ-loop) → Top c
-facts c =
-    let l = at-loop c .loop in
-    let a = start c .args in
-    let p = start c .pre in
-    let t = c .before .before .loop-test .taken in
-    let low = l .inv .0 in
-    let first = p .out-first in
-    let e : c .wide .result ≡ getD (a .work .now) (a .stack + (l .q - 1)) 0 = c .wide .ensures ∙ l .inv .7 (a .stack + (l .q - 1)) (omega arith) in
-    let from =
-    ⊎-elim {C = startAt (a .work .now) (a .stack) (l .q - 1) < l .end}
-    (λ (h : l .q < a .count).
-    let z : startAt (a .work .now) (a .stack) (l .q - 1 + 1) ≡ startAt (a .work .now) (a .stack) (l .q) = ap (startAt (a .work .now) (a .stack)) (omega arith) in
-    let r = p .rises (l .q - 1) (omega arith) in
-    let m = l .inv .3 h in
-    omega arith)
-    (λ (h : a .count ≤ l .q). (let m = l .inv .4 (omega arith) in let r = p .inside (l .q - 1) (omega arith) in omega arith))
-    (which (l .q) (a .count)) in
-    record {
-      entry = e;
-      starts = (let m : c .wide .result % 65536 ≡ startAt (a .work .now) (a .stack) (l .q - 1) = ap (λ (v : ℕ). v % 65536) e in omega arith);
-      ends = l .inv .2;
-      site = (let m : c .wide .result / 65536 ≡ siteAt (a .work .now) (a .stack) (l .q - 1) = ap (λ (v : ℕ). v / 65536) e in let g = p .site (l .q - 1) (omega arith) in omega arith);
-      long = l .inv .1;
-      behind = first;
-      room = p .room;
-    }
+    next : Answered old new out stack n count base top from
+    next =
+        let few = l .few in
+        let low = l .low in
+        let s = starts in
+        record {
+          few = omega arith;
+          size = size ∙ l .size;
+          low = omega arith;
+          ends = λ h. from-is;
+          whole = λ e. absurd (omega arith);
+          answered = λ x g h.
+              ⊎-elim (λ (z : x < end). in-top x g z)
+              (λ (z : end ≤ x). rw (w .behind (out + x) (omega arith)) (l .answered x z h)) (which x end);
+          before = λ i g. w .before i (omega arith) ∙ l .before i g;
+          behind = λ i g. w .behind i (omega arith) ∙ l .behind i g;
+        }
 
-loop-holds : tie.Need-loop-holds Inv-loop μ-loop
-loop-holds c = (omega arith, refl, omega arith, (λ h. absurd (omega arith)), (λ e. refl), (λ x g h. absurd (omega arith)), (λ i g. refl), (λ i g. refl))
+-- where the entry of the top was read
+module _ (c : tie.After-wide Inv-loop μ-loop) where
+  abbrev at-loop : tie.At-loop Inv-loop μ-loop
+  at-loop = c .before .before .before
 
-sub-top : tie.Need-sub-top Inv-loop μ-loop
-sub-top c = omega arith
+  abbrev start : tie.Start Inv-loop μ-loop
+  start = at-loop .before .before
 
-add-wide : tie.Need-add-wide Inv-loop μ-loop
-add-wide c = let l = c .before .loop in let p = c .before .before .before .pre in omega (arith, l .inv .0, l .inv .1, p .room)
+  abbrev work : List ℕ
+  work = start .args .work .now
 
-mul-wide : tie.Need-mul-wide Inv-loop μ-loop
-mul-wide c = let l = c .before .loop in let p = c .before .before .before .pre in omega (arith, l .inv .0, l .inv .1, p .room)
+  abbrev stack : ℕ
+  stack = start .args .stack
 
-slice-read-wide : tie.Need-slice-read-wide Inv-loop μ-loop
-slice-read-wide c = let l = c .before .before .loop in let p = c .before .before .before .before .pre in omega (arith, l .inv .0, l .inv .1, p .room)
+  -- it is a segment of the line
+  pub record Top : Type 0 where
+    pub segments : Segments work (start .args .out) stack (start .args .n) (start .args .count) (start .args .base)
+    pub so-far : Answered work (at-loop .loop .work) (start .args .out) stack (start .args .n) (start .args .count) (start .args .base)
+        (at-loop .loop .q) (at-loop .loop .end)
+    pub from : c .wide .result % 65536 ≡ startAt work stack (at-loop .loop .q - 1)
+    pub site : c .wide .result / 65536 ≡ siteAt work stack (at-loop .loop .q - 1)
+    pub behind : c .wide .result % 65536 < at-loop .loop .end
+    pub inside : c .wide .result / 65536 < start .args .n
 
-wide-requires : tie.Need-wide-requires Inv-loop μ-loop
-wide-requires c κs = search needs
-
-add-v : tie.Need-add-v Inv-loop μ-loop
-add-v c = let f = facts c in omega (arith, f .site, start c .pre .low)
-
-cast-v : tie.Need-cast-v Inv-loop μ-loop
-cast-v c = let f = facts c in omega (arith, f .site, start c .pre .low)
-
-add-a : tie.Need-add-a Inv-loop μ-loop
-add-a c = let f = facts c in omega arith
-
-add-e : tie.Need-add-e Inv-loop μ-loop
-add-e c = let f = facts c in omega arith
-
-mul-fill : tie.Need-mul-fill Inv-loop μ-loop
-mul-fill c = let f = facts c in omega arith
-
-sub-fill : tie.Need-sub-fill Inv-loop μ-loop
-sub-fill c = let f = facts c in omega arith
-
-part-fill-start : tie.Need-part-fill-start Inv-loop μ-loop
-part-fill-start c = let f = facts c in omega arith
-
-part-fill-end : tie.Need-part-fill-end Inv-loop μ-loop
-part-fill-end c = let f = facts c in omega arith
-
-fill-requires : tie.Need-fill-requires Inv-loop μ-loop
-fill-requires c κs = search needs
-
-loop-less : tie.Need-loop-less Inv-loop μ-loop
-loop-less c = omega arith
+  facts : Top
+  facts =
+      let l = at-loop .loop .inv in
+      let p = start .pre in
+      let t = c .before .before .loop-test .taken in
+      let few = l .few in
+      let e : c .wide .result ≡ getD work (stack + (at-loop .loop .q - 1)) 0 =
+      c .wide .ensures ∙ l .behind (stack + (at-loop .loop .q - 1)) (omega (arith, p .out-first)) in
+      record {
+        segments = p;
+        so-far = l;
+        from = ap (λ (v : ℕ). v % 65536) e;
+        site = ap (λ (v : ℕ). v / 65536) e;
+        behind = (let z = starts p l t in omega arith);
+        inside = (let z = p .site (at-loop .loop .q - 1) (omega arith) in omega arith);
+      }
 
 loop-again : tie.Need-loop-again Inv-loop μ-loop
 loop-again c =
     let b = c .before .before .before .before in
-    let l = at-loop b .loop in
-    let a = start b .args in
     let f = facts b in
-    let t = b .before .before .loop-test .taken in
-    let top = l .q - 1 in
-    let from = b .wide .result % 65536 in
-    let v = a .base + b .wide .result / 65536 in
-    let s = a .out + from in
-    let k = a .out + l .end - s in
+    let site = ap (λ (m : ℕ). start b .args .base + m) (f .site) in
     let call = c .before .before .fill in
-    let row = call .last .0 in
-    let fits : s + k ≤ length (l .work) = omega (arith, f .starts, f .ends, f .long, f .behind, f .room) in
-    let row-is : row ≡ replicate k v = call .ensures ∙ ap (λ (m : ℕ). replicate m v) (part-length (l .work) s k fits) in
-    let row-long : length row ≡ k = ap length row-is ∙ length-replicate k v in
-    let start-is : from ≡ startAt (a .work .now) (a .stack) top = ap (λ (m : ℕ). m % 65536) (f .entry) in
-    let site-is : v ≡ a .base + siteAt (a .work .now) (a .stack) top = ap (λ (m : ℕ). a .base + m / 65536) (f .entry) in (
-      omega (arith, l .inv .0),
-      same-len-mid s k (l .work) row (call .kept .0) ∙ l .inv .1,
-      omega (arith, f .starts, f .ends),
-      (λ h. start-is),
-      (λ e. absurd (omega (arith, l .inv .0))),
-      (λ x g h.
-          ⊎-elim
-          (λ (z : x < l .end).
-          let e : s + (x - from) ≡ a .out + x = omega arith in
-          record {
-            q = top;
-            inside = omega (arith, l .inv .0);
-            from = omega arith;
-            until = λ y. (let m : startAt (a .work .now) (a .stack) (top + 1) ≡ l .end = ap (startAt (a .work .now) (a .stack)) (omega arith) ∙ sym (l .inv .3 (omega arith)) in omega arith);
-            site =
-                ap (λ (m : ℕ). getD (put (l .work) row s k) m 0) (sym e)
-                ∙ put-inside 0 (l .work) row s k fits row-long (x - from) (omega arith)
-                ∙ ap (λ (r : List ℕ). getD r (x - from) 0) row-is
-                ∙ getD-replicate k (x - from) v 0 (omega arith)
-                ∙ site-is;
-          })
-          (λ (z : l .end ≤ x).
-          subst (InSegment (a .work .now) (a .stack) (a .count) (a .base) x)
-          (sym (put-behind 0 (l .work) row s k fits row-long (a .out + x) (omega (arith, f .starts)))) (l .inv .5 x z h))
-          (which x (l .end))),
-      (λ i g. put-before 0 (l .work) row s k fits row-long i (omega arith) ∙ l .inv .6 i g),
-      (λ i g. put-behind 0 (l .work) row s k fits row-long i (omega (arith, f .starts, f .ends)) ∙ l .inv .7 i g),
-    )
-
-same-length : tie.Need-same-length Inv-loop μ-loop
-same-length c = c .before .loop .inv .1
+    next (f .segments) (f .so-far) (b .before .before .loop-test .taken) (f .from) site (call .kept .0) (call .ensures)
 
 returns : tie.Need-returns Inv-loop μ-loop
 returns c =
     let l = c .before .loop in
-    let o = c .before .before .before in
+    let p = c .before .before .before .pre in
     let e : l .q ≡ 0 = omega arith in
-    let z : l .end ≡ 0 = l .inv .3 (omega (arith, o .pre .some-site)) ∙ rw e (o .pre .start) in
-    record { answered = λ x g. l .inv .5 x (omega arith) g; before = l .inv .6; behind = l .inv .7 }
+    let z : l .end ≡ 0 = l .inv .ends (omega (arith, p .some-site)) ∙ rw e (p .start) in
+    record { answered = λ x g. l .inv .answered x (omega arith) g; before = l .inv .before; behind = l .inv .behind }
 
 pub answer-spec : {M : Type 1} → statement M
 answer-spec =
@@ -185,22 +144,27 @@ answer-spec =
     (tie.spec
     Inv-loop
     μ-loop
-    loop-holds
-    sub-top
-    add-wide
-    mul-wide
-    slice-read-wide
-    wide-requires
-    add-v
-    cast-v
-    add-a
-    add-e
-    mul-fill
-    sub-fill
-    part-fill-start
-    part-fill-end
-    fill-requires
-    loop-less
+    (λ c. record {
+      few = omega arith;
+      size = refl;
+      low = omega arith;
+      ends = λ h. absurd (omega arith);
+      whole = λ e. refl;
+      answered = λ x g h. absurd (omega arith);
+      before = λ i g. refl;
+      behind = λ i g. refl;
+    })
+    (λ c. omega arith)
+    (λ c. omega (arith, c .before .before .before .pre))
+    (λ c. omega (arith, c .before .before .before .pre))
+    (λ c. omega (arith, c .before .before .before .before .pre))
+    (λ c κs. search needs)
+    (λ c. omega (arith, facts c))
+    (λ c. omega (arith, facts c))
+    (λ c. omega (arith, facts (c .before)))
+    (λ c. omega (arith, facts (c .before)))
+    (λ c κs. omega (arith, facts (c .before)))
+    (λ c. omega arith)
     loop-again
-    same-length
+    (λ c. c .before .loop .inv .size)
     returns)

@@ -5,7 +5,7 @@ use Prim.Native.Nat.{ℕ, _+_, _*_, _-_, _/_, _%_, _≤_, _<_}
 use mathlib.Core.Path.{_≡_}
 use mathlib.Core.List.{List}
 use lib.ListN.{length, getD}
-use Rattle.line.specs.steps.Line.{Site, valueAt, mostLength}
+use Rattle.line.specs.steps.Line.{mostCost, mostLength, Site, valueAt}
 use Rattle.line.specs.steps.Part.{part}
 
 -- the line is not too long, and the stack lies behind its costs and is as long
@@ -35,7 +35,8 @@ pub record Stack (costs : List ℕ) (s t : ℕ → ℕ) (u count : ℕ) : Type 0
   pub start : 0 < count → t 0 ≡ 0
   pub inside : (q : ℕ) → q < count → t q < length costs
   pub rises : (q : ℕ) → q + 1 < count → t q < t (q + 1)
-  pub leads : (q : ℕ) → q < count → (x : ℕ) → t q ≤ x → x < length costs → (q + 1 < count → x < t (q + 1)) → Leads costs u x (s q)
+  pub leads : (q : ℕ) → q < count → (x : ℕ) → t q ≤ x → x < length costs → (q + 1 < count → x < t (q + 1))
+      → Leads costs u x (s q)
 
 -- what the stack's top is compared with u for: the sites lie to the left of u
 pub record Tops (work : List ℕ) (costs stack count u : ℕ) : Type 0 where
@@ -57,7 +58,16 @@ Stays work costs stack u q =
 pub record Dropped (P : ℕ → Type 0) (count r : ℕ) : Type 0 where
   pub fewer : r ≤ count
   pub worse : (q : ℕ) → r ≤ q → q < count → P q → ⊥
-  pub better : 0 < r → P (r - 1)
+  pub better : (p : ℕ) → r ≡ p + 1 → P p
+
+-- u is a site, and the stack is that of the places before it
+pub record Ready (work : List ℕ) (costs stack n count u : ℕ) : Type 0 where
+  pub short : n ≤ mostLength
+  pub costs-first : costs + n ≤ stack
+  pub room : stack + n ≤ length work
+  pub inside : u < n
+  pub cost : getD work (costs + u) 0 ≤ mostCost
+  pub whole : Stack (part work costs n) (siteAt work stack) (startAt work stack) u count
 
 -- new has the stack of the first u places of the costs in old; what lies before the stack is as it was
 pub record Stacked (old new : List ℕ) (costs stack n u count : ℕ) : Type 0 where

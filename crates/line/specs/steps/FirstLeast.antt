@@ -5,16 +5,12 @@ use mathlib.Core.Path.{_≡_}
 use mathlib.Core.Bool.{cond}
 use mathlib.Core.Option.{Option, none, some}
 use Rattle.line.specs.Walk.{lower}
-
--- what stands at the place of an answer
-unfoldable pub at : (ℕ → Option ℕ) → Option ℕ → Option ℕ
-at f none = none
-at f (some i) = f i
+use Rattle.line.specs.Grid.{valueOf}
 
 -- the walk: places 0, 1 and so on in order; a place takes the lead only where its number is strictly less
 unfoldable pub firstLeast : (ℕ → Option ℕ) → ℕ → Option ℕ
 firstLeast f zero = none
-firstLeast f (suc n) = let b = firstLeast f n in cond (lower (f n) (at f b)) (some n) b
+firstLeast f (suc n) = let b = firstLeast f n in cond (lower (f n) (valueOf f b)) (some n) b
 
 -- i is the first of the first n places that hold the least number, v
 pub record First (f : ℕ → Option ℕ) (n i v : ℕ) : Type 0 where

@@ -6,7 +6,8 @@ use mathlib.Core.List.{List}
 use mathlib.Core.Option.{Option, none, some}
 use lib.Dec.{leb}
 use lib.ListN.{length, getD}
-use Rattle.plane.specs.Plane.{longestSide, apart, table}
+use Rattle.plane.specs.Plane.{apart, table}
+use Rattle.plane.specs.steps.Sides.{longestSide}
 use Rattle.line.specs.steps.FirstLeast.{firstLeast}
 
 -- the largest cost of a site (the square of 65,535); a place with a larger number has no site

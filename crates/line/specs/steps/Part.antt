@@ -10,7 +10,7 @@ abbrev pub part : {A : Type 0} → List A → ℕ → ℕ → List A
 part l a n = take n (drop a l)
 
 -- the n elements from a on are f, and all others are as they were
-pub record Written (f : ℕ → ℕ) (a n : ℕ) (old new : List ℕ) : Type 0 where
-  pub here : (i : ℕ) → i < n → getD new (a + i) 0 ≡ f i
-  pub before : (i : ℕ) → i < a → getD new i 0 ≡ getD old i 0
-  pub behind : (i : ℕ) → a + n ≤ i → getD new i 0 ≡ getD old i 0
+pub record Written {A : Type 0} (d : A) (f : ℕ → A) (a n : ℕ) (old new : List A) : Type 0 where
+  pub here : (i : ℕ) → i < n → getD new (a + i) d ≡ f i
+  pub before : (i : ℕ) → i < a → getD new i d ≡ getD old i d
+  pub behind : (i : ℕ) → a + n ≤ i → getD new i d ≡ getD old i d

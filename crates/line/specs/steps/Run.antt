@@ -51,12 +51,6 @@ pub record Done (costs work : List ℕ) (out x : ℕ) : Type 0 where
   pub answered : (k : ℕ) → k < x → getD work (out + k) 0 ≡ placeOf (best costs k)
   pub bound : 0 < x → x < length costs → (getD costs (x - 1) 0 ≡ 0) ⊎ (getD costs x 0 ≡ 0)
 
--- the run that holds x is answered up to its end e
-pub record RunDone (old new : List ℕ) (out costs stack n x e : ℕ) : Type 0 where
-  pub after : x < e
-  pub done : Done (part old costs n) new out e
-  pub beside : Beside old new out stack n
-
 -- the whole line is answered
 pub record Passed (old new : List ℕ) (out costs stack n : ℕ) : Type 0 where
   pub answers : part new out n ≡ lineOf (part old costs n)

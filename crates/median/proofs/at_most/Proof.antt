@@ -40,9 +40,6 @@ byte-le : (b : Bool) → boolByte b ≤ 1
 byte-le true = omega arith
 byte-le false = omega arith
 
-loop-holds : tie.Need-loop-holds Inv-loop μ-loop
-loop-holds c = (refl, omega arith, omega arith, sym (zero-add _))
-
 -- value i is there
 inside : (c : tie.In-loop Inv-loop μ-loop) → c .before .loop .i < length (floatsOf (c .before .before .before .args .values .now))
 inside c = omega (arith, floats-length (c .before .before .before .args .values .now))
@@ -50,21 +47,12 @@ inside c = omega (arith, floats-length (c .before .before .before .args .values 
 value-requires : tie.Need-value-requires Inv-loop μ-loop
 value-requires c κs = record { inside = inside c; ok = c .before .before .before .pre }
 
-cast-n : tie.Need-cast-n Inv-loop μ-loop
-cast-n c = search needs
-
 add-n : tie.Need-add-n Inv-loop μ-loop
 add-n c =
     let l = c .before .before .loop in
     let s = c .before .before .before .before in
     let h : l .n < length (s .args .values .now) / 2 = omega arith in
     omega (arith, byte-le (le (c .value .result) (s .args .t)))
-
-add-i : tie.Need-add-i Inv-loop μ-loop
-add-i c = omega arith
-
-loop-less : tie.Need-loop-less Inv-loop μ-loop
-loop-less c = omega arith
 
 loop-again : tie.Need-loop-again Inv-loop μ-loop
 loop-again c =
@@ -97,11 +85,11 @@ at-most-spec =
     (tie.spec
     Inv-loop
     μ-loop
-    loop-holds
+    (λ c. (refl, omega arith, omega arith, sym (zero-add _)))
     value-requires
-    cast-n
+    (search needs)
     add-n
-    add-i
-    loop-less
+    (λ c. omega arith)
+    (λ c. omega arith)
     loop-again
     returns)

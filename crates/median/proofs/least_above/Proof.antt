@@ -30,10 +30,8 @@ loop-holds : tie.Need-loop-holds Inv-loop μ-loop
 unfolding leastAbove ofBits
 loop-holds c =
     let v = c .before .args .values .now in
-    (omega arith, sym (ap (leastAbove (c .before .args .t)) (drop-of-length-le (floatsOf v) {i = length v / 2} (omega (arith, floats-length v)))))
-
-sub-i : tie.Need-sub-i Inv-loop μ-loop
-sub-i c = omega arith
+    let none = drop-of-length-le (floatsOf v) {i = length v / 2} (omega (arith, floats-length v)) in
+    (omega arith, sym (ap (leastAbove (c .before .args .t)) none))
 
 -- value i - 1 is there
 inside : (c : tie.In-loop Inv-loop μ-loop) → c .before .loop .i - 1 < length (floatsOf (c .before .before .before .args .values .now))
@@ -41,12 +39,6 @@ inside c = omega (arith, floats-length (c .before .before .before .args .values 
 
 value-requires : tie.Need-value-requires Inv-loop μ-loop
 value-requires c κs = record { inside = inside c; ok = c .before .before .before .pre }
-
-nearer-of-requires : tie.Need-nearer-of-requires Inv-loop μ-loop
-nearer-of-requires c κs = search needs
-
-loop-less : tie.Need-loop-less Inv-loop μ-loop
-loop-less c = omega arith
 
 loop-again : tie.Need-loop-again Inv-loop μ-loop
 loop-again c =
@@ -60,7 +52,8 @@ loop-again c =
       omega arith,
       found
           ∙ rw (read, c .before .before .before .loop .inv .1)
-          (sym (front (a .t) v (i - 1) (inside (c .before .before)) ∙ ap (λ (k : ℕ). nearer (a .t) (floatAt v (i - 1)) (leastAbove (a .t) (drop k (floatsOf v)))) next)),
+          (sym (front (a .t) v (i - 1) (inside (c .before .before))
+          ∙ ap (λ (k : ℕ). nearer (a .t) (floatAt v (i - 1)) (leastAbove (a .t) (drop k (floatsOf v)))) next)),
     )
 
 returns : tie.Need-returns Inv-loop μ-loop
@@ -77,9 +70,9 @@ least-above-spec =
     Inv-loop
     μ-loop
     loop-holds
-    sub-i
+    (λ c. omega arith)
     value-requires
-    nearer-of-requires
-    loop-less
+    (λ c κs. search needs)
+    (λ c. omega arith)
     loop-again
     returns)

@@ -35,12 +35,6 @@ next-place-requires c κs =
     let s = c .before .before in
     record { inside = omega (arith, s .pre .some, floats-length (s .args .values .now)); ok = s .pre .ok; first = c .select .ensures }
 
-half-requires : tie.Need-half-requires
-half-requires c κs = search needs
-
-plus-zero-requires : tie.Need-plus-zero-requires
-plus-zero-requires c κs = search needs
-
 returns : tie.Need-returns
 unfolding medianOf lowerMiddle upperMiddle
 returns c =
@@ -55,7 +49,9 @@ returns c =
     c .before .before .before .select .ensures ∙ ap (λ (k : ℕ). plusZero (placed l k)) (lower-place v) in
     let upper : c .before .before .next-place .result ≡ plusZero y =
     c .before .before .next-place .ensures ∙ ap (λ (k : ℕ). plusZero (placed l k)) (upper-place v some) in
-    let halved : c .before .half .result ≡ halfOf (c .before .before .before .select .result) (c .before .before .next-place .result) = c .before .half .ensures in
+    let lo = c .before .before .before .select .result in
+    let hi = c .before .before .next-place .result in
+    let halved : c .before .half .result ≡ halfOf lo hi = c .before .half .ensures in
     c .plus-zero .ensures
     ∙ ap plusZero (halved ∙ rw (lower, upper))
     ∙ signs-gone x y (good (length l / 2 - 1) (omega arith) .held) (good (length l / 2) (omega arith) .held)
@@ -63,4 +59,10 @@ returns c =
 pub median-spec : {M : Type 1} → statement M
 median-spec =
     tie.close
-    (tie.spec sub-k select-requires next-place-requires half-requires plus-zero-requires returns)
+    (tie.spec
+    sub-k
+    select-requires
+    next-place-requires
+    (λ c κs. search needs)
+    (λ c κs. search needs)
+    returns)

@@ -16,15 +16,6 @@ use Rattle.median.proofs.next_place.Tie as tie
 add-if1 : tie.Need-add-if1
 add-if1 c = let s = c .before in omega (arith, s .pre .inside, floats-length (s .args .values .now))
 
-at-most-requires : tie.Need-at-most-requires
-at-most-requires c κs = search needs
-
-least-above-requires : tie.Need-least-above-requires
-least-above-requires c κs = search needs
-
-plus-zero-requires : tie.Need-plus-zero-requires
-plus-zero-requires c κs = search needs
-
 returns : tie.Need-returns
 returns c =
     let s = c .before .before in
@@ -32,7 +23,8 @@ returns c =
     let l = floatsOf (a .values .now) in
     let counted : c .before .at-most .result ≡ atMost (a .lo) l = c .before .at-most .ensures in
     let more : suc (a .k) < atMost (a .lo) l = omega arith in
-    rw (add-one (a .k)) (next-same l (floats-held (a .values .now)) (s .before .pre .ok) (a .k) (omega (arith, s .before .pre .inside)) (a .lo) (s .before .pre .first) more)
+    let p = s .before .pre in
+    rw (add-one (a .k)) (next-same l (floats-held (a .values .now)) (p .ok) (a .k) (omega (arith, p .inside)) (a .lo) (p .first) more)
 
 returns-2 : tie.Need-returns-2
 returns-2 c =
@@ -42,11 +34,18 @@ returns-2 c =
     let counted : c .before .before .before .at-most .result ≡ atMost (a .lo) l = c .before .before .before .at-most .ensures in
     let few : atMost (a .lo) l ≤ suc (a .k) = omega arith in
     let found : c .before .least-above .result ≡ leastAbove (a .lo) l = c .before .least-above .ensures in
+    let p = s .before .pre in
     c .plus-zero .ensures
     ∙ ap plusZero found
-    ∙ rw (add-one (a .k)) (next-above l (floats-held (a .values .now)) (s .before .pre .ok) (a .k) (omega (arith, s .before .pre .inside)) (a .lo) (s .before .pre .first) few)
+    ∙ rw (add-one (a .k)) (next-above l (floats-held (a .values .now)) (p .ok) (a .k) (omega (arith, p .inside)) (a .lo) (p .first) few)
 
 pub next-place-spec : {M : Type 1} → statement M
 next-place-spec =
     tie.close
-    (tie.spec add-if1 at-most-requires least-above-requires plus-zero-requires returns returns-2)
+    (tie.spec
+    add-if1
+    (λ c κs. search needs)
+    (λ c κs. search needs)
+    (λ c κs. search needs)
+    returns
+    returns-2)

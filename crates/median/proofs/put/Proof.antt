@@ -16,38 +16,8 @@ use Rattle.median.proofs.put.Tie as tie
 inside : (c : tie.Start) → 2 * c .args .k + 1 < length (c .args .values .now)
 inside c = omega (arith, c .pre .inside, floats-length (c .args .values .now))
 
-float-to-bits-bits : tie.Need-float-to-bits-bits
-float-to-bits-bits c = ok-number (c .args .x) (c .pre .ok)
-
-cast-values : tie.Need-cast-values
-cast-values c = search needs
-
-mul-values : tie.Need-mul-values
-mul-values c = omega (arith, inside c)
-
-mul-values-2 : tie.Need-mul-values-2
-mul-values-2 c = omega (arith, inside c)
-
-slice-write-values : tie.Need-slice-write-values
-slice-write-values c = omega (arith, inside c)
-
 cast-values-2 : tie.Need-cast-values-2
 cast-values-2 c = omega (arith, toBits-lt binary64 (c .args .x) (c .pre .held))
-
-mul-values-3 : tie.Need-mul-values-3
-mul-values-3 c = omega (arith, inside c)
-
-add-values : tie.Need-add-values
-add-values c = omega (arith, inside c)
-
-mul-values-4 : tie.Need-mul-values-4
-mul-values-4 c = omega (arith, inside c)
-
-slice-write-values-2 : tie.Need-slice-write-values-2
-slice-write-values-2 c = rw length-set (inside c)
-
-same-length : tie.Need-same-length
-same-length c = search needs
 
 returns : tie.Need-returns
 returns c =
@@ -59,15 +29,15 @@ pub put-spec : {M : Type 1} → statement M
 put-spec =
     tie.close
     (tie.spec
-    float-to-bits-bits
-    cast-values
-    mul-values
-    mul-values-2
-    slice-write-values
+    (λ c. ok-number (c .args .x) (c .pre .ok))
+    (search needs)
+    (λ c. omega (arith, inside c))
+    (λ c. omega (arith, inside c))
+    (λ c. omega (arith, inside c))
     cast-values-2
-    mul-values-3
-    add-values
-    mul-values-4
-    slice-write-values-2
-    same-length
+    (λ c. omega (arith, inside c))
+    (λ c. omega (arith, inside c))
+    (λ c. omega (arith, inside c))
+    (λ c. rw length-set (inside c))
+    (search needs)
     returns)

@@ -13,29 +13,8 @@ use Rattle.median.proofs.value.Tie as tie
 inside : (c : tie.Start) → 2 * c .args .k + 1 < length (c .args .values .now)
 inside c = omega (arith, c .pre .inside, floats-length (c .args .values .now))
 
-mul-low : tie.Need-mul-low
-mul-low c = omega (arith, inside c)
-
-mul-low-2 : tie.Need-mul-low-2
-mul-low-2 c = omega (arith, inside c)
-
-shared-slice-read-low : tie.Need-shared-slice-read-low
-shared-slice-read-low c = omega (arith, inside (c .before))
-
 cast-low : tie.Need-cast-low
 cast-low c = omega (arith, c .shared-slice-known .given (2 * c .before .args .k))
-
-mul-high : tie.Need-mul-high
-mul-high c = omega (arith, inside (c .before))
-
-add-high : tie.Need-add-high
-add-high c = omega (arith, inside (c .before))
-
-mul-high-2 : tie.Need-mul-high-2
-mul-high-2 c = omega (arith, inside (c .before))
-
-shared-slice-read-high : tie.Need-shared-slice-read-high
-shared-slice-read-high c = inside (c .before .before)
 
 cast-high : tie.Need-cast-high
 cast-high c = omega (arith, c .shared-slice-known2 .given (2 * c .before .before .args .k + 1))
@@ -61,14 +40,14 @@ pub value-spec : {M : Type 1} → statement M
 value-spec =
     tie.close
     (tie.spec
-    mul-low
-    mul-low-2
-    shared-slice-read-low
+    (λ c. omega (arith, inside c))
+    (λ c. omega (arith, inside c))
+    (λ c. omega (arith, inside (c .before)))
     cast-low
-    mul-high
-    add-high
-    mul-high-2
-    shared-slice-read-high
+    (λ c. omega (arith, inside (c .before)))
+    (λ c. omega (arith, inside (c .before)))
+    (λ c. omega (arith, inside (c .before)))
+    (λ c. inside (c .before .before))
     cast-high
     mul-result
     add-result

@@ -16,9 +16,6 @@ measured : (c : tie.Joined1) → c .if1 .d ≡ apart (c .before .args .y) (c .be
 unfolding apart
 measured c = ⊎-elim (λ w. omega arith) (λ w. omega arith) (c .if1 .came)
 
-sub-d : tie.Need-sub-d
-sub-d c = search needs
-
 mul-result : tie.Need-mul-result
 mul-result c =
     let j = c .before .before in
@@ -35,4 +32,4 @@ unfolding squareCost
 returns-2 c = rw (le-ltb _ _ (c .if2 .left))
 
 pub cost-spec : {M : Type 1} → statement M
-cost-spec = tie.close (tie.spec sub-d mul-result returns returns-2)
+cost-spec = tie.close (tie.spec (λ c. search needs) mul-result returns returns-2)

@@ -2,100 +2,71 @@
 -- Assumes nothing.
 use mathlib.Core.Path.{_≡_, ap, _∙_}
 use Prim.Native.Nat.{ℕ, _+_, _*_, _≤_}
+use lib.ListN.{length}
 use native.Mathlib.Numerals.{add-one}
 use native.Mathlib.Omega.{arith}
-use lib.ListN.{length, getD}
+use borrow.Author.Needs.{needs}
 use borrow.Author.Tests.{lt-ltb, le-ltb}
 use Rattle.plane.specs.Plane.{apart}
 use Rattle.line.proofs.Squares.{gap-fits}
-use Rattle.nearest.specs.steps.Stages.{distanceAt}
-use borrow.Author.Needs.{needs}
+use Rattle.nearest.specs.steps.Stages.{elements, distanceAt}
 use Rattle.nearest.proofs.distance_at.Statement.{statement}
 use Rattle.nearest.proofs.distance_at.Tie as tie
 
--- the sum is the distance
-pub record Sum (c : tie.After-wide) : Type 0 where
-  pub square : c .before .before .apart .result * c .before .before .apart .result ≤ 4294836225
-  pub cost : c .wide .result ≤ 4294967295
-  pub is : c .wide .result + c .before .before .apart .result * c .before .before .apart .result ≡ distanceAt (c .before .before .before .before .before .args .costs .now) (c .before .before .before .before .before .args .y) (c .before .before .before .before .before .args .x) (c .before .before .before .before .before .args .i)
+-- the distance that is to be returned
+abbrev distance : tie.Start → ℕ
+distance o = let a = o .args in distanceAt (length (a .costs .now)) (elements (a .costs .now)) (a .y) (a .x) (a .i)
 
-sum : (c : tie.After-wide) → Sum c
-unfolding distanceAt
-sum c =
-    let o = c .before .before .before .before .before in
-    let a = o .args in
-    let t = c .before .before .before .if1 .taken in
-    let d = c .before .before .apart .result in
-    let e : c .wide .result ≡ getD (a .costs .now) (a .i) 0 = c .wide .ensures in
-    let f : d ≡ apart (a .x) (a .i) = c .before .before .apart .ensures in
-    record {
-      square = gap-fits (a .x) (a .i) d f (o .pre .0 .0) (omega (arith, o .pre .0 .2));
-      cost = omega (arith, c .before .shared-slice-known2 .given (a .i));
-      is = ap (λ (k : ℕ). k + d * d) e ∙ ap (λ (k : ℕ). getD (a .costs .now) (a .i) 0 + k * k) f ∙ rw (lt-ltb (a .i) (length (a .costs .now)) t);
-    }
+-- the column's cost and the square are its parts
+module _ (c : tie.After-wide) where
+  abbrev start : tie.Start
+  start = c .before .before .before .before .before
 
-beyond : (c : tie.Else1)
-    → (c .before .before .args .y + 1) * (c .before .before .args .y + 1) + c .before .before .args .x * c .before .before .args .x ≡ distanceAt (c .before .before .args .costs .now) (c .before .before .args .y) (c .before .before .args .x) (c .before .before .args .i)
+  abbrev square : ℕ
+  square = c .before .before .apart .result * c .before .before .apart .result
+
+  pub record Sum : Type 0 where
+    pub low : square ≤ 4294836225
+    pub cost : c .wide .result ≤ 4294967295
+    pub is : c .wide .result + square ≡ distance start
+    pub fits : distance start ≤ 4294967295
+
+  sum : Sum
+  unfolding distanceAt
+  sum =
+      let a = start .args in
+      let t = c .before .before .before .if1 .taken in
+      let d = c .before .before .apart .ensures in
+      record {
+        low = gap-fits (a .x) (a .i) (c .before .before .apart .result) d (start .pre .column-in) (omega (arith, start .pre .short));
+        cost = omega (arith, c .wide .ensures, c .before .shared-slice-known2 .given (a .i));
+        is =
+            ap (λ (k : ℕ). k + square) (c .wide .ensures)
+            ∙ ap (λ (k : ℕ). elements (a .costs .now) (a .i) + k * k) d
+            ∙ rw (lt-ltb (a .i) (length (a .costs .now)) t);
+        fits = start .pre .low;
+      }
+
+-- with no column
+beyond : (c : tie.Else1) → (let a = c .before .before .args in (a .y + 1) * (a .y + 1) + a .x * a .x ≡ distance (c .before .before))
 unfolding distanceAt
 beyond c = let a = c .before .before .args in rw (le-ltb (a .i) (length (a .costs .now)) (c .if1 .left), add-one (a .y))
-
-apart-requires : tie.Need-apart-requires
-apart-requires c κs = search needs
-
-mul-wide : tie.Need-mul-wide
-mul-wide c = search needs
-
-shared-slice-read-wide : tie.Need-shared-slice-read-wide
-shared-slice-read-wide c = search needs
-
-wide-requires : tie.Need-wide-requires
-wide-requires c κs = search needs
-
-mul-result : tie.Need-mul-result
-mul-result c = let s = sum c in omega (arith, s .square)
-
-add-result : tie.Need-add-result
-add-result c = let s = sum c in omega (arith, s .square, s .cost)
-
-cast-result : tie.Need-cast-result
-cast-result c = let s = sum c in omega (arith, s .is, c .before .before .before .before .before .pre .1)
-
-returns : tie.Need-returns
-returns c = sum c .is
-
-add-s : tie.Need-add-s
-add-s c = search needs
-
-mul-result-2 : tie.Need-mul-result-2
-mul-result-2 c = let b = beyond c in omega (arith, c .before .before .pre .1)
-
-mul-result-3 : tie.Need-mul-result-3
-mul-result-3 c = let b = beyond c in omega (arith, c .before .before .pre .1)
-
-add-result-2 : tie.Need-add-result-2
-add-result-2 c = let b = beyond c in omega (arith, c .before .before .pre .1)
-
-cast-result-2 : tie.Need-cast-result-2
-cast-result-2 c = let b = beyond c in omega (arith, c .before .before .pre .1)
-
-returns-2 : tie.Need-returns-2
-returns-2 c = beyond c
 
 pub distance-at-spec : {M : Type 1} → statement M
 distance-at-spec =
     tie.close
     (tie.spec
-    apart-requires
-    mul-wide
-    shared-slice-read-wide
-    wide-requires
-    mul-result
-    add-result
-    cast-result
-    returns
-    add-s
-    mul-result-2
-    mul-result-3
-    add-result-2
-    cast-result-2
-    returns-2)
+    (λ c κs. search needs)
+    (λ c. search needs)
+    (λ c. search needs)
+    (λ c κs. search needs)
+    (λ c. omega (arith, sum c))
+    (λ c. omega (arith, sum c))
+    (λ c. omega (arith, sum c))
+    (λ c. sum c .is)
+    (λ c. search needs)
+    (λ c. omega (arith, beyond c, c .before .before .pre .low))
+    (λ c. omega (arith, beyond c, c .before .before .pre .low))
+    (λ c. omega (arith, beyond c, c .before .before .pre .low))
+    (λ c. omega (arith, beyond c, c .before .before .pre .low))
+    (λ c. beyond c))

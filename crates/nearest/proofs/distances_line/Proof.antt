@@ -1,76 +1,69 @@
 -- `nearest::distances_line` meets its contract.
 -- Assumes nothing.
 use mathlib.Core.Path.{_≡_, ap, _∙_}
-use Prim.Native.Nat.{ℕ, _-_, _≤_}
-use lib.ListN.{length, getD}
+use mathlib.Core.List.{List}
+use Prim.Native.Nat.{ℕ, _+_, _-_}
+use lib.ListN.{length}
 use native.Mathlib.Omega.{arith}
-use Rattle.plane.proofs.InPlace.{Changed, changed-none, changed-more, changed-end}
-use Rattle.nearest.specs.steps.Stages.{distanceAt}
 use borrow.Author.Needs.{needs}
+use Rattle.line.specs.steps.Part.{part}
+use Rattle.line.proofs.Part.{Filling, filling-none, filling-more, filling-end}
+use Rattle.nearest.specs.steps.Stages.{elements, from, distanceAt, distanceIn}
+use Rattle.nearest.proofs.Stages.{part-long, part-distance}
 use Rattle.nearest.proofs.distances_line.Statement.{statement}
 use Rattle.nearest.proofs.distances_line.Tie as tie
 
 abbrev Inv-loop : tie.InvT-loop
-Inv-loop costs places y out₀ x₀ out x =
-    (x ≤ length out₀) × Changed 0 (λ (k : ℕ). distanceAt costs y k (getD places k 0)) out₀ out x
+Inv-loop work row costs w y out₀ end x₀ out x = Filling 0 (distanceIn work row costs w y) row w out₀ out x
 
 abbrev μ-loop : tie.MeasureT-loop
-μ-loop costs places y out₀ x₀ out x = length out₀ - x
+μ-loop work row costs w y out₀ end x₀ out x = w - x
 
-loop-holds : tie.Need-loop-holds Inv-loop μ-loop
-loop-holds c = (omega arith, changed-none 0 _ _)
+abbrev start : tie.In-loop Inv-loop μ-loop → tie.Start Inv-loop μ-loop
+start c = c .before .before .before .before
 
-mul-wide : tie.Need-mul-wide Inv-loop μ-loop
-mul-wide c = let e = c .before .loop .inv .1 .size in let o = c .before .before .before .before .before in omega (arith, o .pre .places-long)
+-- the distance of the place that was read, by the line of costs that is lent
+module _ (c : tie.After-wide Inv-loop μ-loop) where
+  abbrev in-loop : tie.In-loop Inv-loop μ-loop
+  in-loop = c .before .before .before
 
-shared-slice-read-wide : tie.Need-shared-slice-read-wide Inv-loop μ-loop
-shared-slice-read-wide c = let e = c .before .before .loop .inv .1 .size in let o = c .before .before .before .before .before .before in omega (arith, o .pre .places-long)
+  abbrev x : ℕ
+  x = in-loop .before .loop .x
 
-wide-requires : tie.Need-wide-requires Inv-loop μ-loop
-wide-requires c κs = search needs
+  abbrev line : List ℕ
+  line = let a = start in-loop .args in part (a .work .now) (a .costs) (a .costs + a .w - a .costs)
+
+  abbrev distance : List ℕ → ℕ → ℕ
+  distance l i = distanceAt (length l) (elements l) (start in-loop .args .y) x i
+
+  read : (let a = start in-loop .args in
+      (length line ≡ a .w) × (distance line (c .wide .result) ≡ distanceIn (a .work .now) (a .row) (a .costs) (a .w) (a .y) x))
+  read =
+      let a = start in-loop .args in
+      let room = start in-loop .pre .room in
+      let k = a .costs + a .w - a .costs in (
+        part-long (a .work .now) (a .costs) (a .w) k (omega arith) room,
+        part-distance (a .work .now) (a .costs) (a .w) k (omega arith) room (a .y) x (c .wide .result)
+            ∙ ap (distanceAt (a .w) (from (a .work .now) (a .costs)) (a .y) x) (c .wide .ensures),
+      )
 
 distance-at-requires : tie.Need-distance-at-requires Inv-loop μ-loop
 distance-at-requires c κs =
-    let i = c .before .before in
-    let l = i .before .loop in
-    let o = i .before .before .before .before .before in
-    let a = o .args in
-    let z = l .inv .1 .size in
-    let t = i .loop-test .taken in
-    let e : c .wide .result ≡ getD (a .places .now) (l .x) 0 = c .wide .ensures in
-    let p = o .pre in (
-      (omega (arith, p .short), p .row-in, omega (arith, p .costs-long, p .short)),
-      (let g = p .low (l .x) (omega arith) in let f : distanceAt (a .costs .now) (a .y) (l .x) (c .wide .result) ≡ distanceAt (a .costs .now) (a .y) (l .x) (getD (a .places .now) (l .x) 0) = ap (distanceAt (a .costs .now) (a .y) (l .x)) e in omega arith),
-    )
-
-mul-out : tie.Need-mul-out Inv-loop μ-loop
-mul-out c = omega arith
-
-slice-write-out : tie.Need-slice-write-out Inv-loop μ-loop
-slice-write-out c = omega arith
-
-add-x : tie.Need-add-x Inv-loop μ-loop
-add-x c = omega arith
-
-loop-less : tie.Need-loop-less Inv-loop μ-loop
-loop-less c = omega arith
+    let p = start (in-loop c) .pre in
+    let t = in-loop c .loop-test .taken in
+    let r = read c in
+    record {
+      short = omega (arith, p .short, r .0);
+      row-in = p .row-in;
+      column-in = omega (arith, p .short);
+      low = omega (arith, p .low (x c) t, r .1);
+    }
 
 loop-again : tie.Need-loop-again Inv-loop μ-loop
 loop-again c =
-    let i = c .before .before .before in
-    let l = i .before .loop in
-    let a = i .before .before .before .before .before .args in
-    let z = l .inv .1 .size in
-    let t = i .loop-test .taken in
-    let e : c .before .wide .result ≡ getD (a .places .now) (l .x) 0 = c .before .wide .ensures in
-    let d : c .distance-at .result ≡ distanceAt (a .costs .now) (a .y) (l .x) (c .before .wide .result) = c .distance-at .ensures in
-    (omega arith, changed-more 0 (λ (k : ℕ). distanceAt (a .costs .now) (a .y) k (getD (a .places .now) k 0)) (a .out .now) (l .out) (l .x) (c .distance-at .result) (l .inv .1) (omega arith) (d ∙ ap (distanceAt (a .costs .now) (a .y) (l .x)) e))
-
-same-length : tie.Need-same-length Inv-loop μ-loop
-same-length c = c .before .loop .inv .1 .size
-
-returns : tie.Need-returns Inv-loop μ-loop
-returns c = let l = c .before .loop in let z = l .inv .1 .size in changed-end 0 _ _ (l .out) (l .x) (l .inv .1) (omega arith)
+    let b = c .before in
+    let i = in-loop b in
+    filling-more (i .before .loop .inv) (i .loop-test .taken) (start i .pre .out-room) (c .distance-at .ensures ∙ read b .1)
 
 pub distances-line-spec : {M : Type 1} → statement M
 distances-line-spec =
@@ -78,15 +71,22 @@ distances-line-spec =
     (tie.spec
     Inv-loop
     μ-loop
-    loop-holds
-    mul-wide
-    shared-slice-read-wide
-    wide-requires
+    (λ c. omega (arith, c .before .before .pre))
+    (λ c. filling-none)
+    (λ c. omega (arith, start c .pre))
+    (λ c. omega arith)
+    (λ c. omega arith)
+    (λ c. omega (arith, start c .pre))
+    (λ c. omega (arith, start (c .before) .pre))
+    (λ c. omega (arith, start (c .before) .pre))
+    (λ c. omega (arith, start (c .before .before) .pre))
+    (λ c κs. search needs)
     distance-at-requires
-    mul-out
-    slice-write-out
-    add-x
-    loop-less
+    (λ c. omega (arith, start (in-loop (c .before)) .pre))
+    (λ c. omega (arith, start (in-loop (c .before)) .pre))
+    (λ c. omega (arith, start (in-loop (c .before)) .pre))
+    (λ c. omega arith)
+    (λ c. omega arith)
     loop-again
-    same-length
-    returns)
+    (λ c. c .before .loop .inv .size)
+    (λ c. filling-end (c .before .loop .inv) (omega arith)))

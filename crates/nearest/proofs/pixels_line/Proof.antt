@@ -1,122 +1,73 @@
 -- `nearest::pixels_line` meets its contract.
 -- Assumes nothing.
-use mathlib.Core.Path.{_≡_, ap, _∙_}
-use Prim.Native.Nat.{ℕ, _-_, _≤_, _<_}
-use lib.ListN.{length, getD}
-use native.Mathlib.Omega.{arith}
-use Rattle.plane.proofs.InPlace.{Changed, changed-none, changed-more, changed-end}
+use mathlib.Core.Path.{sym, ap, _∙_, subst}
+use mathlib.Core.List.{List}
+use Prim.Native.Nat.{ℕ, _+_, _-_, _<_}
 use lib.IntN.{pos}
+use native.Mathlib.Omega.{arith}
+use borrow.Author.Needs.{needs}
 use mir.Syntax.{w32}
 use mir.Facts.{toZ-ofZ}
+use Rattle.line.specs.steps.Line.{mostLength}
+use Rattle.line.proofs.Part.{part-at, Filling, filling-none, filling-more, filling-end}
 use Rattle.nearest.specs.Nearest.{rowOf, columnOf}
-use Rattle.nearest.specs.steps.Stages.{pixelAt}
-use borrow.Author.Needs.{needs}
+use Rattle.nearest.specs.steps.Stages.{from, pixelAt, pixelIn}
+use Rattle.nearest.proofs.Stages.{part-long, part-pixel}
 use Rattle.nearest.proofs.pixels_line.Statement.{statement}
 use Rattle.nearest.proofs.pixels_line.Tie as tie
 
 abbrev Inv-loop : tie.InvT-loop
-Inv-loop near places rows₀ cols₀ x₀ rows cols x =
-    (x ≤ length rows₀)
-    × Changed (pos 0) (λ (k : ℕ). rowOf (pixelAt near (getD places k 0))) rows₀ rows x
-    × Changed (pos 0) (λ (k : ℕ). columnOf (pixelAt near (getD places k 0))) cols₀ cols x
+Inv-loop work row near w rows₀ cols₀ end x₀ rows cols x =
+    Filling (pos 0) (λ (k : ℕ). rowOf (pixelIn work row near w k)) row w rows₀ rows x
+    × Filling (pos 0) (λ (k : ℕ). columnOf (pixelIn work row near w k)) row w cols₀ cols x
 
 abbrev μ-loop : tie.MeasureT-loop
-μ-loop near places rows₀ cols₀ x₀ rows cols x = length rows₀ - x
+μ-loop work row near w rows₀ cols₀ end x₀ rows cols x = w - x
 
--- the place x lies in all lines
-pub record At (c : tie.In-loop Inv-loop μ-loop) : Type 0 where
-  pub inside : c .before .loop .x < length (c .before .before .before .before .args .rows .now)
-  pub places : c .before .loop .x < length (c .before .before .before .before .args .places .now)
-  pub rows : c .before .loop .x < length (c .before .loop .rows)
-  pub cols : c .before .loop .x < length (c .before .loop .cols)
-  pub cols-start : c .before .loop .x < length (c .before .before .before .before .args .cols .now)
+abbrev start : tie.In-loop Inv-loop μ-loop → tie.Start Inv-loop μ-loop
+start c = c .before .before .before
 
-at : (c : tie.In-loop Inv-loop μ-loop) → At c
-at c =
-    let l = c .before .loop in
-    let p = c .before .before .before .before .pre in
-    let t = c .loop-test .taken in
-    let e = l .inv .1 .size in
-    let f = l .inv .2 .size in
-    let g = p .places-long in
-    let h = p .cols-long in
-    record { inside = omega arith; places = omega arith; rows = omega arith; cols = omega arith; cols-start = omega arith }
+-- the line of the nearest on-rows that is lent to row_at
+module _ (o : tie.Start Inv-loop μ-loop) where
+  abbrev work : List ℕ
+  work = o .args .work .now
 
-loop-holds : tie.Need-loop-holds Inv-loop μ-loop
-loop-holds c = (omega arith, changed-none (pos 0) _ _, changed-none (pos 0) _ _)
+  abbrev near : ℕ
+  near = o .args .near
 
-mul-wide : tie.Need-mul-wide Inv-loop μ-loop
-mul-wide c = let f = at c in omega (arith, f .places)
-
-shared-slice-read-wide : tie.Need-shared-slice-read-wide Inv-loop μ-loop
-shared-slice-read-wide c = let f = at (c .before) in f .places
-
-wide-requires : tie.Need-wide-requires Inv-loop μ-loop
-wide-requires c κs = search needs
+  abbrev k : ℕ
+  k = near + o .args .w - near
 
 row-at-requires : tie.Need-row-at-requires Inv-loop μ-loop
 row-at-requires c κs =
-    let i = c .before .before in
-    let l = i .before .loop in
-    let o = i .before .before .before .before in
-    let a = o .args in
-    let e : c .wide .result ≡ getD (a .places .now) (l .x) 0 = c .wide .ensures in
-    λ g. (let z : getD (a .near .now) (c .wide .result) 0 ≡ getD (a .near .now) (getD (a .places .now) (l .x) 0) 0 = ap (λ (k : ℕ). getD (a .near .now) k 0) e in let q = o .pre .chosen (l .x) (at i .places) (omega arith) in omega arith)
-
-mul-cols : tie.Need-mul-cols Inv-loop μ-loop
-mul-cols c = let f = at (c .before .before .before) in omega (arith, f .rows)
-
-slice-set-from-cols : tie.Need-slice-set-from-cols Inv-loop μ-loop
-slice-set-from-cols c = let f = at (c .before .before .before) in f .rows
-
-column-at-requires : tie.Need-column-at-requires Inv-loop μ-loop
-column-at-requires c κs = c .before .before .before .before .before .before .before .pre .short
-
-mul-t7 : tie.Need-mul-t7 Inv-loop μ-loop
-mul-t7 c = let f = at (c .before .before .before .before) in omega (arith, f .cols)
-
-slice-set-from-cols-2 : tie.Need-slice-set-from-cols-2 Inv-loop μ-loop
-slice-set-from-cols-2 c = let f = at (c .before .before .before .before) in f .cols
-
-add-x : tie.Need-add-x Inv-loop μ-loop
-add-x c = let f = at (c .before .before .before .before) in omega (arith, f .inside)
-
-loop-less : tie.Need-loop-less Inv-loop μ-loop
-loop-less c = omega arith
+    let b = c .before in
+    let i = b .before .before in
+    let o = start i in
+    let p = o .pre .0 in
+    let e = part-long (work o) (near o) (o .args .w) (k o) (omega arith) (p .room) in
+    let low = p .chosen (i .before .loop .x) (i .loop-test .taken) in
+    let chosen = subst (λ (m : ℕ). m < o .args .w → from (work o) (near o) m < mostLength) (sym (b .wide .ensures)) low in
+    λ g. rw (part-at (work o) (near o) (k o) (b .wide .result) 0 (omega arith)) (chosen (omega arith))
 
 loop-again : tie.Need-loop-again Inv-loop μ-loop
 loop-again c =
-    let i = c .before .before .before .before in
+    let b = c .before .before .before in
+    let i = b .before .before in
     let l = i .before .loop in
-    let a = i .before .before .before .before .args in
-    let f = at i in
-    let p = c .before .before .wide .result in
-    let e : p ≡ getD (a .places .now) (l .x) 0 = c .before .before .wide .ensures in
-    let r = c .before .row-at .result in
-    let s = c .column-at .result in
-    let er : r ≡ rowOf (pixelAt (a .near .now) p) = c .before .row-at .ensures in
-    let es : s ≡ columnOf (pixelAt (a .near .now) p) = c .column-at .ensures in (
-      omega (arith, f .inside),
-      changed-more (pos 0) (λ (k : ℕ). rowOf (pixelAt (a .near .now) (getD (a .places .now) k 0))) (a .rows .now) (l .rows) (l .x) _ (l .inv .1) (f .inside)
-          (toZ-ofZ {w = w32} {z = r} (record { sfits = c .before .row-at .ok }) ∙ er ∙ ap (λ (k : ℕ). rowOf (pixelAt (a .near .now) k)) e),
-      changed-more (pos 0) (λ (k : ℕ). columnOf (pixelAt (a .near .now) (getD (a .places .now) k 0))) (a .cols .now) (l .cols) (l .x) _ (l .inv .2) (f .cols-start)
-          (toZ-ofZ {w = w32} {z = s} (record { sfits = c .column-at .ok }) ∙ es ∙ ap (λ (k : ℕ). columnOf (pixelAt (a .near .now) k)) e),
+    let o = start i in
+    let w = o .args .w in
+    let t = i .loop-test .taken in
+    let line = from (work o) (near o) in (
+      filling-more (l .inv .0) t (o .pre .1)
+          (toZ-ofZ {w = w32} (record { sfits = c .before .row-at .ok })
+          ∙ c .before .row-at .ensures
+          ∙ ap rowOf (part-pixel (work o) (near o) w (k o) (omega arith) (o .pre .0 .room) (b .wide .result))
+          ∙ ap (λ (m : ℕ). rowOf (pixelAt w line m)) (b .wide .ensures)),
+      filling-more (l .inv .1) t (o .pre .2)
+          (toZ-ofZ {w = w32} (record { sfits = c .column-at .ok })
+          ∙ c .column-at .ensures line
+          ∙ ap (λ (m : ℕ). columnOf (pixelAt w line m)) (b .wide .ensures)),
     )
-
-same-length : tie.Need-same-length Inv-loop μ-loop
-same-length c = c .before .loop .inv .1 .size
-
-same-length-2 : tie.Need-same-length-2 Inv-loop μ-loop
-same-length-2 c = c .before .loop .inv .2 .size
-
-returns : tie.Need-returns Inv-loop μ-loop
-returns c =
-    let l = c .before .loop in
-    let o = c .before .before .before .before in
-    let t = c .loop-test .left in
-    let e = l .inv .1 .size in
-    let h = o .pre .cols-long in
-    (changed-end (pos 0) _ _ (l .rows) (l .x) (l .inv .1) (omega arith), changed-end (pos 0) _ _ (l .cols) (l .x) (l .inv .2) (omega arith))
 
 pub pixels-line-spec : {M : Type 1} → statement M
 pixels-line-spec =
@@ -124,19 +75,27 @@ pixels-line-spec =
     (tie.spec
     Inv-loop
     μ-loop
-    loop-holds
-    mul-wide
-    shared-slice-read-wide
-    wide-requires
+    (λ c. omega (arith, c .before .pre))
+    (λ c. (filling-none, filling-none))
+    (λ c. omega (arith, start c .pre))
+    (λ c. omega (arith, start c .pre))
+    (λ c. omega (arith, start (c .before) .pre))
+    (λ c κs. search needs)
+    (λ c. omega (arith, start (c .before .before) .pre))
+    (λ c. omega arith)
+    (λ c. omega arith)
+    (λ c. omega (arith, start (c .before .before) .pre))
     row-at-requires
-    mul-cols
-    slice-set-from-cols
-    column-at-requires
-    mul-t7
-    slice-set-from-cols-2
-    add-x
-    loop-less
+    (λ c. omega (arith, start (c .before .before .before .before) .pre))
+    (λ c. omega (arith, start (c .before .before .before .before) .pre))
+    (λ c. omega (arith, start (c .before .before .before .before) .pre))
+    (λ c κs. start (c .before .before .before .before) .pre .0 .short)
+    (λ c. omega (arith, start (c .before .before .before .before .before) .pre))
+    (λ c. omega (arith, start (c .before .before .before .before .before) .pre))
+    (λ c. omega (arith, start (c .before .before .before .before .before) .pre))
+    (λ c. omega arith)
+    (λ c. omega arith)
     loop-again
-    same-length
-    same-length-2
-    returns)
+    (λ c. c .before .loop .inv .0 .size)
+    (λ c. c .before .loop .inv .1 .size)
+    (λ c. (filling-end (c .before .loop .inv .0) (omega arith), filling-end (c .before .loop .inv .1) (omega arith))))

@@ -5,9 +5,9 @@ use mathlib.Core.Path.{_≡_}
 use mathlib.Core.List.{List}
 use lib.IntN.{ℤ}
 use lib.ListN.{length, getD}
-use Rattle.plane.specs.Plane.{Sides}
+use Rattle.plane.specs.steps.Sides.{Sides}
 use Rattle.line.specs.steps.Line.{mostLength}
-use Rattle.nearest.specs.steps.Stages.{noRow, distanceAt}
+use Rattle.nearest.specs.steps.Stages.{noRow, elements, distanceAt, distanceIn}
 
 -- ---- the public calls
 
@@ -35,15 +35,6 @@ pub record DistanceRoom (h w : ℕ) (mask work out : List ℕ) : Type 0 where
 
 -- ---- the parts of the computation
 
--- a row of the buffer and the row behind it
-pub record BelowRoom (mask work : List ℕ) (row : ℕ) : Type 0 where
-  pub room : row + length mask + length mask ≤ length work
-
--- two lines of the buffer
-pub record CopyRoom (work : List ℕ) (from to w : ℕ) : Type 0 where
-  pub apart : from + w ≤ to
-  pub room : to + w ≤ length work
-
 -- a row and the line of the nearest on-rows, which hold rows or noRow
 pub record NearRoom (work : List ℕ) (y row near w : ℕ) : Type 0 where
   pub row-in : y < mostLength
@@ -67,23 +58,31 @@ pub record RowRoom (y n w : ℕ) (work : List ℕ) : Type 0 where
   pub row-low : (x : ℕ) → x < w → getD work (y * w + x) 0 ≤ noRow
   pub near-low : (x : ℕ) → x < w → getD work (n + x) 0 ≤ noRow
 
--- lines of one length; the chosen columns have on-rows
-pub record PixelRoom (near places : List ℕ) (rows cols : ℕ) : Type 0 where
-  pub short : length near ≤ mostLength
-  pub places-long : length places ≡ rows
-  pub cols-long : cols ≡ rows
-  pub chosen : (x : ℕ) → x < length places → getD places x 0 < length near → getD near (getD places x 0) 0 < mostLength
+-- column i, where there is such a column, has an on-row
+pub record ChosenRoom (work : List ℕ) (near w i : ℕ) : Type 0 where
+  pub short : w ≤ mostLength
+  pub room : near + w ≤ length work
+  pub chosen : i < w → getD work (near + i) 0 < mostLength
 
-pub record IndexLineRoom (work : List ℕ) (row near w : ℕ) : Type 0 where
+-- the chosen columns of a row have on-rows
+pub record PixelRoom (work : List ℕ) (row near w : ℕ) : Type 0 where
   pub short : w ≤ mostLength
   pub apart : row + w ≤ near
   pub room : near + w ≤ length work
   pub chosen : (x : ℕ) → x < w → getD work (row + x) 0 < w → getD work (near + getD work (row + x) 0) 0 < mostLength
 
--- and the distances fit 32 bits
-pub record DistanceLineRoom (costs places : List ℕ) (y long : ℕ) : Type 0 where
+-- the distance fits 32 bits
+pub record DistanceAtRoom (costs : List ℕ) (y x i : ℕ) : Type 0 where
+  pub short : length costs ≤ mostLength
   pub row-in : y < mostLength
-  pub short : long ≤ mostLength
-  pub costs-long : length costs ≡ long
-  pub places-long : length places ≡ long
-  pub low : (x : ℕ) → x < long → distanceAt costs y x (getD places x 0) ≤ 4294967295
+  pub column-in : x < mostLength
+  pub low : distanceAt (length costs) (elements costs) y x i ≤ 4294967295
+
+-- so do those of a row
+pub record DistanceLineRoom (work : List ℕ) (row costs w y long : ℕ) : Type 0 where
+  pub short : w ≤ mostLength
+  pub apart : row + w ≤ costs
+  pub room : costs + w ≤ length work
+  pub out-room : row + w ≤ long
+  pub row-in : y < mostLength
+  pub low : (x : ℕ) → x < w → distanceIn work row costs w y x ≤ 4294967295

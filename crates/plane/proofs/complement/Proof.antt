@@ -8,7 +8,8 @@ use lib.Dec.{eqb}
 use lib.ListN.{length}
 use borrow.Author.Needs.{needs}
 use Rattle.plane.specs.Plane.{bit}
-use Rattle.plane.specs.Mask.{isOn, maskOf, complementOf}
+use Rattle.plane.specs.Mask.{isOn, maskOf}
+use Rattle.plane.specs.steps.Complement.{complementOf}
 use Rattle.plane.proofs.Mask.{off-byte}
 use Rattle.plane.proofs.InPlace.{Changed, changed-none, changed-more, changed-end}
 use Rattle.plane.proofs.complement.Statement.{statement}

@@ -1,94 +1,67 @@
--- `squares::dilate_line` meets its contract. The loop's invariant: out is the row dilated with the reach r.
+-- `squares::dilate_line` meets its contract. The loop's invariant: spare is the row with a reach of m pixels from each on.
 -- Assumes nothing.
-use mathlib.Core.Path.{_≡_, refl, ap, _∙_}
-use mathlib.Core.List.{List}
-use Prim.Native.Nat.{ℕ, _-_, _≤_}
+use mathlib.Core.Path.{_≡_, ap, _∙_}
+use Prim.Native.Nat.{_+_, _-_, _≤_, _<_}
 use native.Mathlib.Omega.{arith}
 use lib.ListN.{length}
 use borrow.Author.Needs.{needs}
 use Rattle.plane.specs.Plane.{bit}
-use Rattle.squares.specs.steps.Window.{dilatedRow, aheadLine, behindLine}
-use Rattle.squares.proofs.Line.{line-own, line-whole, line-grown}
+use Rattle.squares.proofs.Line.{Reaches, reach-one, reach-more, reach-window, line-whole}
 use Rattle.squares.proofs.dilate_line.Statement.{statement}
 use Rattle.squares.proofs.dilate_line.Tie as tie
 
 abbrev Inv-loop : tie.InvT-loop
-Inv-loop row k spare₀ out₀ r₀ spare out r =
-    (r ≤ k) × (length spare ≡ length spare₀) × (length out ≡ length out₀) × (out ≡ dilatedRow row r)
+Inv-loop row k spare₀ out₀ t m₀ spare out m =
+    (0 < m) × (m ≤ k + 1) × (length out ≡ length row) × Reaches row spare m
 
 abbrev μ-loop : tie.MeasureT-loop
-μ-loop row k spare₀ out₀ r₀ spare out r = k - r
+μ-loop row k spare₀ out₀ t m₀ spare out m = k + 1 - m
 
-any-requires : tie.Need-any-requires Inv-loop μ-loop
-any-requires c κs = search needs
+-- the loop's start, and the function's
+abbrev at-loop : tie.After-slice-known6 Inv-loop μ-loop → tie.At-loop Inv-loop μ-loop
+at-loop c = c .before .before .before .before .before .before .before .before .before .before .before .before .before
 
-byte-requires : tie.Need-byte-requires Inv-loop μ-loop
-byte-requires c κs = search needs
-
-join-one-requires : tie.Need-join-one-requires Inv-loop μ-loop
-join-one-requires c κs = search needs
-
-same-length : tie.Need-same-length Inv-loop μ-loop
-same-length c = c .before .before .join-one .kept .1 .1 .0
+abbrev at-start : tie.At-loop Inv-loop μ-loop → tie.Start Inv-loop μ-loop
+at-start c = c .before .before .before .before .before .before .before .before .before .before
 
 returns : tie.Need-returns Inv-loop μ-loop
 returns c =
     let o = c .before .before .before .before .before .before .before .before .before .before in
-    let one = c .before .before .before .before .byte in
-    let some = c .before .before .before .before .before .any in
     let whole = c .before .before .before .before .before .before .if1 .taken in
-    c .before .before .join-one .ensures ∙ line-whole (o .args .row .now) (o .args .k) (one .result) whole (one .ensures ∙ ap bit (some .ensures))
-
-join-requires : tie.Need-join-requires Inv-loop μ-loop
-join-requires c κs = search needs
+    let one = c .before .before .before .before .byte in
+    let any = c .before .before .before .before .before .any in
+    c .before .before .fill .ensures
+    ∙ rw (o .pre .size) (line-whole (o .args .row .now) (o .args .k) (one .result) whole (one .ensures ∙ ap bit (any .ensures)))
 
 loop-holds : tie.Need-loop-holds Inv-loop μ-loop
 loop-holds c =
-    let o = c .before .before .before .before .before .before .before .before in
-    let own = c .before .before .join in
-    (omega arith, refl, refl, own .ensures ∙ line-own (o .args .row .now))
+    let o = c .before .before .before .before .before .before .before .before .before in
+    let t = c .before .before .before .before .growth in
+    let r = reach-more (reach-one (o .args .row .now)) (c .before .before .ahead .ensures) (t .ensures .0) in
+    (omega arith, omega (arith, t .ensures .1), o .pre .size, r)
 
-growth-requires : tie.Need-growth-requires Inv-loop μ-loop
-growth-requires c κs = search needs
-
-ahead-requires : tie.Need-ahead-requires Inv-loop μ-loop
-ahead-requires c κs = search needs
-
-behind-requires : tie.Need-behind-requires Inv-loop μ-loop
-behind-requires c κs = search needs
-
-add-r : tie.Need-add-r Inv-loop μ-loop
-add-r c = omega arith
-
-loop-less : tie.Need-loop-less Inv-loop μ-loop
-loop-less c = omega arith
-
+-- each turn joins twice
 loop-again : tie.Need-loop-again Inv-loop μ-loop
 loop-again c =
-    let l = c .before .before .before .before .before .before .before .before .before .before .before .before .loop in
-    let o = c .before .before .before .before .before .before .before .before .before .before .before .before .before .before .before .before .before .before .before .before .before in
-    let t = c .before .before .before .before .before .before .before .before .before .before .growth in
-    let far = c .before .before .before .before .before .before .before .ahead in
-    let back = c .before .before .behind in
-    let e : far .last .1 .1 .0 ≡ aheadLine (l .out) (t .result) = far .ensures in (
-      t .ensures .2,
-      far .kept .1 .1 .0 ∙ l .inv .1,
-      back .kept .1 .1 .0 ∙ l .inv .2,
-      back .ensures ∙ ap (λ (u : List ℕ). behindLine u (t .result)) e ∙ line-grown (o .args .row .now) (l .out) (l .r) (t .result) (l .inv .3) (t .ensures .1),
-    )
+    let l = at-loop c .loop in
+    let o = at-start (at-loop c) in
+    let t = c .before .before .before .before .before .before .before .before .before .before .before .growth2 in
+    let u = c .before .before .before .before .before .growth3 in
+    let one = c .before .before .before .before .before .before .before .before .ahead2 in
+    let two = c .before .before .ahead3 in
+    let first = reach-more (l .inv .3) (one .ensures) (t .ensures .0) in
+    (omega arith, u .ensures .1, first .size, reach-more first (two .ensures) (u .ensures .0))
 
-same-length-2 : tie.Need-same-length-2 Inv-loop μ-loop
-same-length-2 c = c .before .loop .inv .1
-
-same-length-3 : tie.Need-same-length-3 Inv-loop μ-loop
-same-length-3 c = c .before .loop .inv .2 ∙ c .before .before .before .before .join .kept .1 .1 .0
+loop-less : tie.Need-loop-less Inv-loop μ-loop
+loop-less c =
+    let t = c .before .before .before .before .before .before .before .before .before .before .before in
+    omega (arith, t .growth2 .ensures .2 (at-loop c .loop .inv .0) (t .before .loop-test .taken))
 
 returns-2 : tie.Need-returns-2 Inv-loop μ-loop
 returns-2 c =
-    let l = c .before .loop in
-    let o = c .before .before .before .before .before .before .before .before .before .before in
-    let e : l .r ≡ o .args .k = omega arith in
-    l .inv .3 ∙ ap (dilatedRow (o .args .row .now)) e
+    let l = c .before .before .before .before .before .before .loop in
+    let o = at-start (c .before .before .before .before .before .before) in
+    c .before .before .behind .ensures ∙ reach-window (l .inv .3) (o .args .k) (omega arith)
 
 pub dilate-line-spec : {M : Type 1} → statement M
 dilate-line-spec =
@@ -96,19 +69,24 @@ dilate-line-spec =
     (tie.spec
     Inv-loop
     μ-loop
-    any-requires
-    byte-requires
-    join-one-requires
-    same-length
+    (λ c κs. search needs)
+    (λ c κs. search needs)
+    (λ c κs. search needs)
+    (λ c. search needs)
     returns
-    join-requires
+    (λ c κs. search needs)
+    (λ c κs. search needs)
+    (λ c. omega arith)
     loop-holds
-    growth-requires
-    ahead-requires
-    behind-requires
-    add-r
+    (λ c κs. search needs)
+    (λ c κs. search needs)
+    (λ c. omega arith)
+    (λ c κs. search needs)
+    (λ c κs. search needs)
+    (λ c. omega arith)
     loop-less
     loop-again
-    same-length-2
-    same-length-3
+    (λ c κs. search needs)
+    (λ c. search needs)
+    (λ c. search needs)
     returns-2)

@@ -10,13 +10,15 @@ use Rattle.squares.proofs.radius.Tie as tie
 
 -- the side that was taken is the larger one
 side-is : (c : tie.Joined1) → c .if1 .side ≡ larger (c .before .args .h) (c .before .args .w)
-side-is c = ⊎-elim (λ w. w .1 ∙ sym (larger-wide _ _ (w .0 .taken))) (λ w. w .1 ∙ sym (larger-tall _ _ (w .0 .left))) (c .if1 .came)
+side-is c =
+    ⊎-elim (λ w. w .1 ∙ sym (larger-wide _ _ (w .0 .taken))) (λ w. w .1 ∙ sym (larger-tall _ _ (w .0 .left))) (c .if1 .came)
 
 returns : tie.Need-returns
 returns c =
     let a = c .before .before .args in
     let s = side-is (c .before) in
-    let e : reach (a .h) (a .w) (a .iterations) ≡ larger (a .h) (a .w) = ap (reach (a .h) (a .w)) (c .if2 .taken) ∙ reach-none (a .h) (a .w) in
+    let e : reach (a .h) (a .w) (a .iterations) ≡ larger (a .h) (a .w) =
+    ap (reach (a .h) (a .w)) (c .if2 .taken) ∙ reach-none (a .h) (a .w) in
     omega (arith, radius-near (a .h) (a .w) (a .iterations) (omega arith))
 
 returns-2 : tie.Need-returns-2

@@ -1,109 +1,153 @@
--- `squares::sweep` meets its contract. The loop's invariant: the counts are those of row y's window, and the first y rows are written.
+-- `squares::sweep` meets its contract. The loop's invariant: the counts are those of the rows from a to b, and the first y rows are
+-- written.
 -- Assumes nothing.
-use mathlib.Core.Path.{_≡_, refl, ap, _∙_}
+use mathlib.Core.Path.{_≡_, refl, sym, ap, _∙_}
 use mathlib.Core.List.{List}
-use Prim.Native.Nat.{ℕ, _+_, _*_, _-_, _≤_}
+use mathlib.Core.Logic.{⊎-elim}
+use Prim.Native.Nat.{ℕ, _+_, _*_, _-_, _≤_, _<_}
 use native.Mathlib.Omega.{arith}
 use lib.ListN.{length, getD, length-take, length-drop}
-use Rattle.squares.specs.steps.Window.{testedLine, Columns, Swept}
-use Rattle.squares.proofs.Passes.{strip-in, tested-length, row-tested, none-swept, row-swept}
+use Rattle.squares.specs.steps.Window.{testedLine, Swept}
+use Rattle.squares.proofs.Passes.{strip-in, Counted, enterable, leavable, entered, left, Window, window-tested}
+use Rattle.squares.proofs.Passes.{tested-length, row-swept}
 use Rattle.squares.proofs.sweep.Statement.{statement}
 use Rattle.squares.proofs.sweep.Tie as tie
 
 abbrev Inv-loop : tie.InvT-loop
-Inv-loop plane h w k c counts₀ out₀ n y₀ counts out y =
-    (y ≤ h) × Columns plane h w k c y counts × (length counts ≡ length counts₀) × Swept plane h w k c (length counts₀) y out₀ out
+Inv-loop plane h w k c counts₀ out₀ n a₀ b₀ y₀ counts out a b y =
+    (y ≤ h)
+    × (a ≤ y - k)
+    × (b ≤ h)
+    × (b ≤ y + k)
+    × Counted plane w c a b (length counts₀) counts
+    × Swept plane h w k c (c + length counts₀) y out
 
 abbrev μ-loop : tie.MeasureT-loop
-μ-loop plane h w k c counts₀ out₀ n y₀ counts out y = h - y
+μ-loop plane h w k c counts₀ out₀ n a₀ b₀ y₀ counts out a b y = h - y
+
+abbrev at-start : tie.At-loop Inv-loop μ-loop → tie.Start Inv-loop μ-loop
+at-start c = c .before .before .before .before
+
+-- the start of the turn, from where the window's start is known
+abbrev at-loop : tie.Joined2 Inv-loop μ-loop → tie.At-loop Inv-loop μ-loop
+at-loop c = c .before .before .before .before .before .before .before
+
+-- the window's end
+abbrev at-end : tie.Joined2 Inv-loop μ-loop → tie.Joined1 Inv-loop μ-loop
+at-end c = c .before .before .before .before .before
+
+-- the end of the window, of which the rows from b on are yet to enter
+ends : (c : tie.Joined1 Inv-loop μ-loop)
+    → let y = c .before .before .loop .y in
+    let a = at-start (c .before .before) .args in
+    let end = c .if1 .end in
+    (y < end) × (end ≤ a .h) × (end ≤ y + a .k + 1) × (end < a .h → end ≡ y + a .k + 1)
+ends c =
+    ⊎-elim
+    (λ w. (omega (arith, w .1), omega (arith, w .1), omega (arith, w .1), λ l. omega (arith, w .1)))
+    (λ w. (omega (arith, w .1), omega (arith, w .1), omega (arith, w .1), λ l. absurd (omega (arith, w .1))))
+    (c .if1 .came)
+
+-- the window of row y
+window : (c : tie.Joined2 Inv-loop μ-loop)
+    → let a = at-start (at-loop c) .args in
+    Window (a .h) (a .k) (at-loop c .loop .y) (c .if2 .start) (at-end c .if1 .end)
+window c =
+    let e = ends (at-end c) in
+    record {
+      start = ⊎-elim (λ w. w .1) (λ w. omega (arith, w .1)) (c .if2 .came);
+      past = e .0;
+      rows = e .1;
+      near = e .2;
+      end = e .3;
+    }
+
+-- the counts after the rows have entered,
+after-enter : (c : tie.Joined2 Inv-loop μ-loop)
+    → let a = at-start (at-loop c) .args in
+    let made = c .before .before .before .move-rows .last .1 .1 .1 .1 .1 .1 .0 in
+    Counted (a .plane .now) (a .w) (a .c) (at-loop c .loop .a) (at-end c .if1 .end) (length (a .counts .now)) made
+after-enter c =
+    let l = at-loop c .loop in
+    let o = at-start (at-loop c) in
+    let call = c .before .before .before .move-rows in
+    entered (o .pre .plane-bits) (o .pre .inside) (l .inv .4) (l .inv .2) (call .kept .1 .1 .1 .1 .1 .1 .0) (call .ensures)
+
+-- and after the others have left
+after-leave : (c : tie.After-slice-known4 Inv-loop μ-loop)
+    → let e = c .before .before .before .before in
+    let a = at-start (at-loop e) .args in
+    let made = c .before .before .move-rows2 .last .1 .1 .1 .1 .1 .1 .0 in
+    Counted (a .plane .now) (a .w) (a .c) (e .if2 .start) (at-end e .if1 .end) (length (a .counts .now)) made
+after-leave c =
+    let e = c .before .before .before .before in
+    let o = at-start (at-loop e) in
+    let call = c .before .before .move-rows2 in
+    left (o .pre .plane-bits) (o .pre .inside) (after-enter e) (window e .rows) (call .kept .1 .1 .1 .1 .1 .1 .0) (call .ensures)
+
+-- row y of the strip lies within the plane
+row-here : (c : tie.After-slice-known4 Inv-loop μ-loop)
+    → let l = at-loop (c .before .before .before .before) in
+    let a = at-start l .args in l .loop .y * a .w + a .c + length (a .counts .now) ≤ length (l .loop .out)
+row-here c =
+    let l = at-loop (c .before .before .before .before) in
+    let taken = at-end (c .before .before .before .before) .before .loop-test .taken in
+    omega (arith, strip-in _ _ _ _ _ taken (at-start l .pre .inside), l .loop .inv .5 .size)
 
 loop-holds : tie.Need-loop-holds Inv-loop μ-loop
-loop-holds c = let o = c .before .before .before in (omega arith, o .pre .1 .0, refl, none-swept _ _ _ _ _ _ _)
+loop-holds c =
+    let o = c .before .before .before in (
+      omega arith,
+      omega arith,
+      omega arith,
+      omega arith,
+      record { size = refl; each = λ x l. omega (arith, o .pre .zeros x l) },
+      record { size = o .pre .written .size; before = o .pre .written .before; done = λ y x l m. absurd (omega arith) },
+    )
 
--- row y ends within the plane
-row-here : (c : tie.In-loop Inv-loop μ-loop) → let a = c .before .before .before .before .before .args in c .before .loop .y * a .w + a .c + length (a .counts .now) ≤ a .h * a .w
-row-here c =
-    let o = c .before .before .before .before .before in
-    let a = o .args in
-    strip-in (c .before .loop .y) (a .c) (length (a .counts .now)) (a .h) (a .w) (c .loop-test .taken) (o .pre .1 .0 .inside)
+move-rows-requires : tie.Need-move-rows-requires Inv-loop μ-loop
+move-rows-requires c κs =
+    let l = c .before .before .before .loop in
+    let o = at-start (c .before .before .before) in
+    enterable (o .pre .plane-bits) (o .pre .inside) (l .inv .4) (l .inv .2)
+    (⊎-elim (λ w. omega (arith, w .1)) (λ w. omega (arith, w .1)) (c .before .if1 .came))
+    (ends (c .before) .1)
 
-mul-test-line : tie.Need-mul-test-line Inv-loop μ-loop
-mul-test-line c = let r = row-here (c .before) in omega arith
-
-mul-test-line-2 : tie.Need-mul-test-line-2 Inv-loop μ-loop
-mul-test-line-2 c = let r = row-here (c .before) in omega arith
-
-add-test-line : tie.Need-add-test-line Inv-loop μ-loop
-add-test-line c = let r = row-here (c .before) in omega arith
-
-add-test-line-2 : tie.Need-add-test-line-2 Inv-loop μ-loop
-add-test-line-2 c = let r = row-here (c .before) in omega arith
-
-add-test-line-3 : tie.Need-add-test-line-3 Inv-loop μ-loop
-add-test-line-3 c = let r = row-here (c .before) in omega arith
-
-sub-test-line : tie.Need-sub-test-line Inv-loop μ-loop
-sub-test-line c = let r = row-here (c .before) in omega arith
-
-part-test-line-start : tie.Need-part-test-line-start Inv-loop μ-loop
-part-test-line-start c = let r = row-here (c .before) in omega arith
-
-part-test-line-end : tie.Need-part-test-line-end Inv-loop μ-loop
-part-test-line-end c = let r = row-here (c .before) in omega (arith, c .before .before .loop .inv .3 .size)
+move-rows-requires-2 : tie.Need-move-rows-requires-2 Inv-loop μ-loop
+move-rows-requires-2 c κs =
+    let l = at-loop (c .before) .loop in
+    let o = at-start (at-loop (c .before)) in
+    let v = window (c .before) in
+    leavable (o .pre .plane-bits) (o .pre .inside) (after-enter (c .before)) (v .rows) (omega (arith, l .inv .1)) (omega arith)
 
 test-line-requires : tie.Need-test-line-requires Inv-loop μ-loop
 test-line-requires c κs =
-    let l = c .before .before .before .loop in
-    let r = row-here (c .before .before) in
-    simp (length-take, length-drop) (omega (arith, l .inv .2, l .inv .3 .size))
-
-enter-row-requires : tie.Need-enter-row-requires Inv-loop μ-loop
-enter-row-requires c κs =
-    let b = c .before .before .before .before .before .before .before in
-    (b .before .before .before .before .pre .0, (c .before .before .before .before .before .before .loop-test .taken, b .loop .inv .1))
-
-leave-row-requires : tie.Need-leave-row-requires Inv-loop μ-loop
-leave-row-requires c κs =
-    let b = c .before .before .before .before .before .before .before .before .before .before .before in
-    (b .before .before .before .before .pre .0, (c .before .before .before .before .before .before .before .before .before .before .loop-test .taken, c .before .before .before .enter-row .ensures))
-
-add-y : tie.Need-add-y Inv-loop μ-loop
-add-y c = omega arith
-
-loop-less : tie.Need-loop-less Inv-loop μ-loop
-loop-less c = omega arith
+    simp (length-take, length-drop) (omega (arith, row-here (c .before .before), after-leave (c .before .before) .size))
 
 loop-again : tie.Need-loop-again Inv-loop μ-loop
 loop-again c =
-    let t = c .before .before .before .before .before .before .before .before .before .before .before .before .before in
-    let l = t .before .loop in
-    let o = t .before .before .before .before .before in
-    let a = o .args in
-    let r = row-here t in
-    let call = c .before .before .before .before .before .before .before .before .before .before .test-line in
-    let start = l .y * a .w + a .c in
-    let m = length (a .counts .now) in
+    let e = c .before .before .before .before .before in
+    let l = at-loop (e .before .before .before .before) in
+    let o = at-start l in
+    let v = window (e .before .before .before .before) in
+    let t = after-leave e in
+    let call = c .before .before .test-line in
     let row = call .last .1 .0 in
-    let e : row ≡ testedLine (l .counts) = call .ensures in
-    let long : length row ≡ m = ap length e ∙ tested-length (l .counts) ∙ l .inv .2 in (
-      omega (arith, t .loop-test .taken),
-      c .before .before .leave-row .ensures,
-      c .before .before .leave-row .kept .1 .1 .1 .1 .1 .1 .0 ∙ c .before .before .before .before .before .before .enter-row .kept .1 .1 .1 .1 .1 .1 .0 ∙ l .inv .2,
-      row-swept (a .plane .now) (a .h) (a .w) (a .k) (a .c) m (l .y) (start + m - start) (a .out .now) (l .out) row (l .inv .3) (o .pre .1 .1) (t .loop-test .taken) (o .pre .1 .0 .inside) (omega arith) long
-          (λ x g. ap (λ (u : List ℕ). getD u x 0) e ∙ row-tested (o .pre .0) (l .counts) (a .c) (l .y) (l .inv .1) x (omega (arith, l .inv .2))),
+    let made : row ≡ testedLine _ = call .ensures in
+    let long = ap length made ∙ tested-length _ ∙ t .size in (
+      omega (arith, v .past, v .rows),
+      omega (arith, v .start),
+      v .rows,
+      omega (arith, v .near),
+      t,
+      row-swept (l .loop .inv .5) (o .pre .inside) (omega (arith, v .past, v .rows)) row long
+          (λ x g. ap (λ (u : List ℕ). getD u x 0) made ∙ window-tested t v x g),
     )
-
-same-length : tie.Need-same-length Inv-loop μ-loop
-same-length c = c .before .loop .inv .2
-
-same-length-2 : tie.Need-same-length-2 Inv-loop μ-loop
-same-length-2 c = c .before .loop .inv .3 .size
 
 returns : tie.Need-returns Inv-loop μ-loop
 returns c =
-    let l = c .before .loop in
-    let e : l .y ≡ c .before .before .before .before .before .args .h = omega arith in
-    rw e at (l .inv .3)
+    let e : c .before .loop .y ≡ at-start (c .before) .args .h = omega arith in
+    rw e at (c .before .loop .inv .5)
 
 pub sweep-spec : {M : Type 1} → statement M
 sweep-spec =
@@ -112,20 +156,22 @@ sweep-spec =
     Inv-loop
     μ-loop
     loop-holds
-    mul-test-line
-    add-test-line
-    mul-test-line-2
-    add-test-line-2
-    add-test-line-3
-    sub-test-line
-    part-test-line-start
-    part-test-line-end
+    (λ c. omega arith)
+    (λ c. omega arith)
+    (λ c. omega arith)
+    move-rows-requires
+    (λ c. omega arith)
+    move-rows-requires-2
+    (λ c. omega (arith, row-here c))
+    (λ c. omega (arith, row-here c))
+    (λ c. omega (arith, row-here (c .before)))
+    (λ c. omega (arith, row-here (c .before)))
+    (λ c. omega (arith, row-here (c .before)))
+    (λ c. omega (arith, row-here (c .before)))
     test-line-requires
-    enter-row-requires
-    leave-row-requires
-    add-y
-    loop-less
+    (λ c. omega arith)
+    (λ c. omega arith)
     loop-again
-    same-length
-    same-length-2
+    (λ c. c .before .loop .inv .4 .size)
+    (λ c. c .before .loop .inv .5 .size ∙ sym (at-start (c .before) .pre .written .size))
     returns)

@@ -1,16 +1,16 @@
--- How the dilation is computed: along each row the reach of the on-pixels grows step by step; along each column a window slides,
+-- How the dilation is computed: along each row the reach of the on-pixels grows by doubling; along each column a window slides,
 -- with the running number of its on-pixels.
 -- Assumes nothing.
 use mathlib.Core.Path.{_≡_}
 use Prim.Native.Nat.{ℕ, _+_, _*_, _-_, _≤_, _<_}
-use mathlib.Core.Bool.{Bool, cond, _&&_, _||_}
+use mathlib.Core.Bool.{Bool, true, false, cond, _&&_, _||_}
 use mathlib.Core.List.{List}
 use lib.Dec.{leb, ltb}
 use lib.ListN.{length, getD}
 use Rattle.plane.specs.Search.{someBelow, countBelow}
-use Rattle.plane.specs.Plane.{longestSide, Sides, on, bit, onAt, apart, table, planeOf}
+use Rattle.plane.specs.Plane.{bit, onAt, apart, table, planeOf}
+use Rattle.plane.specs.steps.Sides.{longestSide, Sides}
 use Rattle.plane.specs.Mask.{isOn, maskOf}
-use Rattle.plane.specs.Box.{lesserOf}
 use Rattle.squares.specs.Squares.{larger, reach}
 
 -- the k that is used: one above the larger side acts as that side
@@ -27,16 +27,9 @@ inWindow n k x p = someBelow n (λ (i : ℕ). p i && leb (apart x i) k)
 unfoldable pub dilatedRow : List ℕ → ℕ → List ℕ
 dilatedRow row k = maskOf (length row) (λ (x : ℕ). inWindow (length row) k x (isOn row))
 
--- each pixel of a line joined with that of another, and with one pixel
-unfoldable pub joinedLine : List ℕ → List ℕ → List ℕ
-joinedLine a b = maskOf (length a) (λ (i : ℕ). isOn a i || isOn b i)
-
-unfoldable pub joinedOne : List ℕ → ℕ → List ℕ
-joinedOne a b = maskOf (length a) (λ (i : ℕ). isOn a i || on b)
-
--- with the pixel t places on, or the last, and with the one t places back, or the first
+-- each pixel of a line joined with the pixel t places on, and with the one t places back, or the first
 unfoldable pub aheadLine : List ℕ → ℕ → List ℕ
-aheadLine line t = maskOf (length line) (λ (x : ℕ). isOn line x || isOn line (lesserOf (length line - 1) (x + t)))
+aheadLine line t = maskOf (length line) (λ (x : ℕ). isOn line x || isOn line (x + t))
 
 unfoldable pub behindLine : List ℕ → ℕ → List ℕ
 behindLine line t = maskOf (length line) (λ (x : ℕ). isOn line x || isOn line (x - t))
@@ -51,17 +44,13 @@ dilatedRows mask h w k = planeOf h w (λ (y x : ℕ). bit (inWindow w k x (onAt 
 unfoldable pub windowCount : ℕ → ℕ → ℕ → (ℕ → Bool) → ℕ
 windowCount n k x p = countBelow n (λ (i : ℕ). p i && leb (apart x i) k)
 
--- what the count gains from x to x + 1: the place that enters the window
-unfoldable pub entering : ℕ → ℕ → ℕ → (ℕ → Bool) → ℕ
-entering n k x p = cond (ltb (x + k + 1) n) (bit (p (x + k + 1))) 0
-
--- what it loses: the place that leaves
-unfoldable pub leaving : ℕ → ℕ → (ℕ → Bool) → ℕ
-leaving k x p = cond (leb k x) (bit (p (x - k))) 0
-
 -- whether pixel j of column x of a plane is on
 abbrev pub onDown : List ℕ → ℕ → ℕ → ℕ → Bool
 onDown plane w x j = onAt plane w j x
+
+-- how many of the first j pixels of column x are on
+abbrev pub above : List ℕ → ℕ → ℕ → ℕ → ℕ
+above plane w x j = countBelow j (onDown plane w x)
 
 -- how many on-pixels the window of row y holds in column x
 abbrev pub columnCount : List ℕ → ℕ → ℕ → ℕ → ℕ → ℕ → ℕ
@@ -76,25 +65,22 @@ unfoldable pub dilatedColumns : List ℕ → ℕ → ℕ → ℕ → List ℕ
 dilatedColumns plane h w k = planeOf h w (λ (y x : ℕ). columnByte plane h w k y x)
 
 -- the numbers of a line added to those of another, or taken off; the bytes that say which numbers are not 0
-unfoldable pub addedLine : List ℕ → List ℕ → List ℕ
-addedLine counts line = table (λ (x : ℕ). getD counts x 0 + getD line x 0) 0 (length counts)
-
-unfoldable pub takenLine : List ℕ → List ℕ → List ℕ
-takenLine counts line = table (λ (x : ℕ). getD counts x 0 - getD line x 0) 0 (length counts)
+unfoldable pub movedLine : List ℕ → List ℕ → Bool → List ℕ
+movedLine counts line enters =
+    table (λ (x : ℕ). cond enters (getD counts x 0 + getD line x 0) (getD counts x 0 - getD line x 0)) 0 (length counts)
 
 unfoldable pub testedLine : List ℕ → List ℕ
 testedLine counts = table (λ (x : ℕ). bit (ltb 0 (getD counts x 0))) 0 (length counts)
 
 -- ---- what the functions are given, and what they give
 
--- three lines of one length
-pub record Alike (a b out : List ℕ) : Type 0 where
-  pub first : length a ≡ length out
-  pub second : length b ≡ length out
+-- a line, a distance within it, and a line to write
+pub record Joinable (line : List ℕ) (t : ℕ) (out : List ℕ) : Type 0 where
+  pub inside : t ≤ length line
+  pub size : length out ≡ length line
 
 -- a row, a line to work in, and the row that is written
 pub record Rows (row spare out : List ℕ) (k : ℕ) : Type 0 where
-  pub some : 0 < length row
   pub near : k ≤ longestSide
   pub spare-size : length spare ≡ length row
   pub size : length out ≡ length row
@@ -107,52 +93,46 @@ pub record Planes (mask out work : List ℕ) (h w k : ℕ) : Type 0 where
   pub out-size : length out ≡ h * w
   pub work-size : h * w ≤ length work
 
--- a line of numbers that can be added to another of which each fits 32 bits
-pub record Addable (counts line : List ℕ) : Type 0 where
-  pub room : length line ≡ length counts
-  pub fits : (x : ℕ) → x < length line → getD counts x 0 + getD line x 0 ≤ 4294967295
-
--- one that can be taken off
-pub record Takable (counts line : List ℕ) : Type 0 where
-  pub room : length line ≡ length counts
-  pub less : (x : ℕ) → x < length line → getD line x 0 ≤ getD counts x 0
-
--- a plane of 0 and 1 with its sides, and a k
-pub record Bits (plane : List ℕ) (h w k : ℕ) : Type 0 where
-  pub sides : Sides h w
-  pub near : k ≤ longestSide
+-- a plane whose first h rows of w are 0 and 1
+pub record Bits (plane : List ℕ) (h w : ℕ) : Type 0 where
+  pub tall : h ≤ longestSide
   pub size : h * w ≤ length plane
   pub bits : (i : ℕ) → i < h * w → getD plane i 0 ≤ 1
 
--- such a plane, and a count of 0 for each of the columns from column c on
-pub record Start (plane : List ℕ) (h w k c : ℕ) (counts : List ℕ) : Type 0 where
-  pub plane-bits : Bits plane h w k
+-- a line of numbers that can be added to another of which each fits 32 bits, or taken off
+pub record Addable (counts line : List ℕ) (enters : Bool) : Type 0 where
+  pub room : length line ≡ length counts
+  pub fits : (x : ℕ) → x < length line → getD counts x 0 + getD line x 0 ≤ 4294967295
+  pub held : enters ≡ false → (x : ℕ) → x < length line → getD line x 0 ≤ getD counts x 0
+
+-- counts of the columns from column c on, which the rows from a to b can enter, or leave
+pub record Movable (plane : List ℕ) (w c a b : ℕ) (enters : Bool) (counts : List ℕ) : Type 0 where
+  pub plane-bits : Bits plane b w
+  pub order : a ≤ b
+  pub inside : c + length counts ≤ w
+  pub small : (x : ℕ) → x < length counts → getD counts x 0 ≤ longestSide
+  pub held : enters ≡ false → (x : ℕ) → x < length counts → above plane w (c + x) b ≤ getD counts x 0 + above plane w (c + x) a
+
+-- the counts after that
+pub record Moved (plane : List ℕ) (w c a b : ℕ) (enters : Bool) (old new : List ℕ) : Type 0 where
+  pub entered : enters ≡ true → (x : ℕ) → x < length old
+      → getD new x 0 + above plane w (c + x) a ≡ getD old x 0 + above plane w (c + x) b
+  pub left : enters ≡ false → (x : ℕ) → x < length old
+      → getD new x 0 + above plane w (c + x) b ≡ getD old x 0 + above plane w (c + x) a
+
+-- in a plane that is written, the first c columns are, and of the first d columns the first r rows
+pub record Swept (plane : List ℕ) (h w k c d r : ℕ) (new : List ℕ) : Type 0 where
+  pub size : length new ≡ h * w
+  pub before : (y x : ℕ) → y < h → x < c → getD new (y * w + x) 0 ≡ columnByte plane h w k y x
+  pub done : (y x : ℕ) → y < r → x < d → getD new (y * w + x) 0 ≡ columnByte plane h w k y x
+
+-- a plane of 0 and 1, and a count of 0 for each of the columns from column c on; the columns before them are written
+pub record Start (plane : List ℕ) (h w k c : ℕ) (counts out : List ℕ) : Type 0 where
+  pub plane-bits : Bits plane h w
+  pub near : k ≤ longestSide
   pub inside : c + length counts ≤ w
   pub zeros : (x : ℕ) → x < length counts → getD counts x 0 ≡ 0
-
--- the number of each column from column c on is the count of row y's window in it
-pub record Columns (plane : List ℕ) (h w k c y : ℕ) (counts : List ℕ) : Type 0 where
-  pub inside : c + length counts ≤ w
-  pub each : (x : ℕ) → x < length counts → getD counts x 0 ≡ columnCount plane h w k y (c + x)
-
--- the same with the row that enters on the way to row y + 1
-pub record Entered (plane : List ℕ) (h w k c y : ℕ) (counts : List ℕ) : Type 0 where
-  pub inside : c + length counts ≤ w
-  pub each : (x : ℕ) → x < length counts
-      → getD counts x 0 ≡ columnCount plane h w k y (c + x) + entering h k y (onDown plane w (c + x))
-
--- a plane of 0 and 1, n of its columns from column c on, and the plane that is written
-pub record Strip (plane out : List ℕ) (h w k c n : ℕ) : Type 0 where
-  pub plane-bits : Bits plane h w k
-  pub inside : c + n ≤ w
-  pub narrow : n ≤ 8192
-  pub size : length out ≡ h * w
-
--- these columns are written in the rows before row r, and the columns before them are as they were
-pub record Swept (plane : List ℕ) (h w k c n r : ℕ) (old new : List ℕ) : Type 0 where
-  pub size : length new ≡ length old
-  pub done : (y x : ℕ) → y < r → x < n → getD new (y * w + (c + x)) 0 ≡ columnByte plane h w k y (c + x)
-  pub kept : (y x : ℕ) → y < h → x < c → getD new (y * w + x) 0 ≡ getD old (y * w + x) 0
+  pub written : Swept plane h w k c c 0 out
 
 -- what the dilation needs: sides, and buffers of the plane's size
 pub record Lent (mask work out : List ℕ) (h w : ℕ) : Type 0 where

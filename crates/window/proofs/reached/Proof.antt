@@ -5,7 +5,8 @@ use Prim.Native.Nat.{ℕ, _/_, _%_, _*_, _≤_, _<_}
 use native.Mathlib.Omega.{arith}
 use borrow.Author.Needs.{needs}
 use borrow.Author.Tests.{le-leb, lt-leb}
-use Rattle.plane.specs.Plane.{longestSide, apart}
+use Rattle.plane.specs.Plane.{apart}
+use Rattle.plane.specs.steps.Sides.{longestSide}
 use Rattle.plane.proofs.Plane.{row-of, column-of, area-most}
 use Rattle.line.proofs.Squares.{gap-fits}
 use Rattle.nearest.specs.Nearest.{away}

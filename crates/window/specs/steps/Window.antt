@@ -8,7 +8,8 @@ use mathlib.Core.Logic.{_⊎_}
 use mathlib.Core.List.{List}
 use lib.Dec.{leb, ltb}
 use lib.ListN.{length}
-use Rattle.plane.specs.Plane.{Sides, onAt, indexOf}
+use Rattle.plane.specs.Plane.{onAt, indexOf}
+use Rattle.plane.specs.steps.Sides.{Sides}
 use Rattle.plane.specs.Search.{someBelow}
 use Rattle.plane.specs.Mask.{isOn}
 use Rattle.nearest.specs.Nearest.{nearest, away}
