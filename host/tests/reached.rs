@@ -14,7 +14,10 @@ use std::path::{Path, PathBuf};
 const CALLS: [&str; 4] = ["geometry", "keying", "stand", "cutfile"];
 
 /// Theorems, by crate and name; and every public statement of these files.
-const THEOREMS: [(&str, &str); 6] = [
+const THEOREMS: [(&str, &str); 9] = [
+    ("nearest", "nearest-some"),
+    ("nearest", "nearest-none"),
+    ("nearest", "nearest-is"),
     ("labels", "label-joined"),
     ("labels", "joined-label"),
     ("outline", "cases-hold"),

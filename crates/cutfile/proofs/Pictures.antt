@@ -47,7 +47,8 @@ room-most (suc a) zero p q l = absurd (omega arith)
 room-most (suc a) (suc b) p q l = omega (arith, sum-least a b)
 
 -- the mask by alpha has an on-pixel where some alpha reaches the threshold
-alpha-same : (alpha : List ℕ) (n : ℕ) → someBelow n (isOn (alphaMask alpha n settings)) ≡ someBelow n (λ (i : ℕ). leb threshold (getD alpha i 0))
+alpha-same : (alpha : List ℕ) (n : ℕ)
+    → someBelow n (isOn (alphaMask alpha n settings)) ≡ someBelow n (λ (i : ℕ). leb threshold (getD alpha i 0))
 unfolding alphaMask onOf
 alpha-same alpha n =
     some-same (isOn (alphaMask alpha n settings)) (λ (i : ℕ). leb threshold (getD alpha i 0)) n
@@ -136,7 +137,8 @@ unfolding outcomeFor
 answer-text h w n c mask m = by (eqb n 0) (λ e. m (eqb-true n 0 e))
   where
     by : (t : Bool) → (t ≡ true → mask ≡ c .mask)
-        → answerText mask h w (cond t (outcome.Done (c .keyed) (c .box)) (outcome.Refused n)) ≡ cond t (maskText (c .mask) h w (c .box) (c .keyed)) (refusalText n)
+        → answerText mask h w (cond t (outcome.Done (c .keyed) (c .box)) (outcome.Refused n))
+        ≡ cond t (maskText (c .mask) h w (c .box) (c .keyed)) (refusalText n)
     by true e = rw (e refl)
     by false e = refl
 

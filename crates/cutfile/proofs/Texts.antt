@@ -23,7 +23,7 @@ use Rattle.pam.specs.steps.File.{fileRefusal}
 use Rattle.pam.proofs.Files.{file-ok, sides-of}
 use Rattle.pbm.specs.Text.{refusalText}
 use Rattle.pbm.proofs.Lengths.{mask-long, refusal-short}
-use Rattle.cutfile.specs.Cutcard.{alphaTest, cardRefusal, cutWith, cutText, cardText, mostText, over}
+use Rattle.cutfile.specs.Cutcard.{alphaTest, cardRefusal, cutWith, cutText, cardText, mostText, CardCalled}
 use Rattle.cutfile.specs.steps.Room.{alphaRefusal, pictureText}
 use Rattle.cutfile.proofs.Pictures.{lines-short}
 
@@ -54,10 +54,11 @@ module _ (input : List ℕ) where
   accepted-file : cardRefusal input ≡ 0 → fileRefusal input ≡ 0
   unfolding cardRefusal fileRefusal
   accepted-file e =
-      ⊎-elim {C = fileRefusal input ≡ 0}
-      (λ (t : eqb (fileRefusal input) 0 ≡ true). eqb-true (fileRefusal input) 0 t)
-      (λ (t : eqb (fileRefusal input) 0 ≡ false). sym (declined-first (fileTests input) (alphaTest (alphaOf input) ∷ []) (eqb-false (fileRefusal input) 0 t)) ∙ e)
-      (either (eqb (fileRefusal input) 0))
+      let n = fileRefusal input in
+      ⊎-elim {C = n ≡ 0}
+      (λ (t : eqb n 0 ≡ true). eqb-true n 0 t)
+      (λ (t : eqb n 0 ≡ false). sym (declined-first (fileTests input) (alphaTest (alphaOf input) ∷ []) (eqb-false n 0 t)) ∙ e)
+      (either (eqb n 0))
 
   accepted-short : cardRefusal input ≡ 0 → length (cutText (coloursOf input) (alphaOf input) (heightOf input) (widthOf input)) ≤ mostText
   unfolding cutText pixelsOf
@@ -95,10 +96,13 @@ module _ (input : List ℕ) where
 
 -- a buffer that is long enough, with the text written to its front
 pub whole : (input old new text : List ℕ) (r : ℕ) → mostText ≤ length old → text ≡ cardText input → Wrote text old new 0 r
-    → (r ≡ cond (leb mostText (length old)) (length (cardText input)) 0) × (new ≡ cond (leb mostText (length old)) (over (cardText input) old) old)
+    → CardCalled input old r new
 whole input old new text r l e w =
     let v : Wrote (cardText input) old new 0 r = rw e at w in
     let t = cardText input in
     let k : 0 + length t ≡ length t = zero-add (length t) in
     let n : 0 + length t ≤ length old = omega (arith, text-short input) in
-    rw (le-leb mostText (length old) l) (v .end-is ∙ k, v .bytes-are ∙ sets-eq t old 0 n ∙ ap (λ (j : ℕ). t ++ drop j old) k)
+    record {
+      answer = rw (le-leb mostText (length old) l) (v .end-is ∙ k);
+      out-is = rw (le-leb mostText (length old) l) (v .bytes-are ∙ sets-eq t old 0 n ∙ ap (λ (j : ℕ). t ++ drop j old) k);
+    }

@@ -1,6 +1,7 @@
 -- What cutcard prints for an input.
 -- Assumes nothing.
 use Prim.Native.Nat.{ℕ}
+use mathlib.Core.Path.{_≡_}
 use mathlib.Core.Bool.{cond}
 use mathlib.Core.List.{List, [], _∷_, _++_}
 use lib.Dec.{eqb, leb}
@@ -45,3 +46,8 @@ mostText = 4656
 -- a buffer after a text was written at its front (R63)
 abbrev pub over : List ℕ → List ℕ → List ℕ
 over text old = text ++ drop (length text) old
+
+-- cutcard (R63): the length of the text, and the text at the front of the buffer; where the buffer is too short, 0 and nothing written
+pub record CardCalled (input out : List ℕ) (r : ℕ) (out′ : List ℕ) : Type 0 where
+  pub answer : r ≡ cond (leb mostText (length out)) (length (cardText input)) 0
+  pub out-is : out′ ≡ cond (leb mostText (length out)) (over (cardText input) out) out

@@ -1,15 +1,14 @@
 // The work of cutcard: from the bytes of a PAM file to the bytes of a plain PBM file or of a refusal.
 ghost use mathlib.Core.Path.{_≡_};
-ghost use mathlib.Core.Bool.{true, cond};
+ghost use mathlib.Core.Bool.{true};
 ghost use Prim.Native.Nat.{_≤_, _<_, _*_};
-ghost use lib.Dec.{leb};
 ghost use lib.ListN.{length};
 ghost use Rattle.colour.specs.Colour.{coloursOk};
 ghost use Rattle.text.specs.steps.Writing.{Wrote};
 ghost use Rattle.pam.specs.Header.{heightOf, widthOf};
 ghost use Rattle.pam.specs.Picture.{coloursFrom, alphaFrom, coloursOf, alphaOf};
 ghost use Rattle.pam.specs.steps.File.{fileRefusal};
-ghost use Rattle.cutfile.specs.Cutcard.{cardText, mostText, over};
+ghost use Rattle.cutfile.specs.Cutcard.{mostText, CardCalled};
 ghost use Rattle.cutfile.specs.steps.Room.{Room, pictureText, answerText, answerLength};
 use outline::Outcome;
 use pam::MOST_INPUT;
@@ -153,9 +152,7 @@ fn write_picture(input: &[u8], out: &mut [u8]) -> usize
 // The text for an input is written to the front of out; its length. Where out has fewer than MOST_TEXT bytes nothing is
 // written, and the answer is 0.
 pub fn cutcard(input: &[u8], out: &mut [u8]) -> usize
-    ensures { λ r. ⌜ r ≡ cond (leb mostText (length (now (out .entry)))) (length (cardText (now (input .entry)))) 0 ⌝ }
-    ensures { λ _. ⌜ now (out .exit) ≡ cond (leb mostText (length (now (out .entry))))
-        (over (cardText (now (input .entry))) (now (out .entry))) (now (out .entry)) ⌝ }
+    ensures { λ r. ⌜ CardCalled (now (input .entry)) (now (out .entry)) r (now (out .exit)) ⌝ }
 {
     if out.len() < MOST_TEXT {
         return 0;

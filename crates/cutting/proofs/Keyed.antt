@@ -1,6 +1,6 @@
 -- From the parts of the cut to its definition.
 -- Assumes nothing.
-use mathlib.Core.Path.{_≡_, refl, sym, ap, _∙_, subst}
+use mathlib.Core.Path.{_≡_, refl, sym, ap, _∙_}
 use mathlib.Core.Bool.{Bool, true, false, cond, not, _&&_}
 use mathlib.Core.List.{List, [], _∷_}
 use mathlib.Core.Logic.{⊎-elim}
@@ -8,6 +8,7 @@ use Prim.Native.Nat.{ℕ, _*_}
 use native.Mathlib.Omega.{arith}
 use lib.ListN.{length, getD}
 use lib.Ieee.{Float}
+use borrow.Author.Tests.{not-true}
 use types.Run.{OneOf}
 use denote.Enum.Declared.{tagOf}
 use Rattle.plane.specs.Plane.{on, table}
@@ -21,7 +22,6 @@ use Rattle.colour.specs.declared.Rgb.{Rgb}
 use Rattle.colour.specs.declared.Settings.{Settings}
 use Rattle.colour.specs.Settings.{onOf, passesOf}
 use Rattle.outline.specs.Ground.{groundOf, isFound, groundPlane}
-use Rattle.outline.specs.Growth.{growthOf}
 use Rattle.outline.specs.Cut.{alphaMask, isSought, isKeyed, grownGround, cutMask}
 use Rattle.outline.specs.Answer.{groundFor}
 use Rattle.outline.specs.declared.Ground.{Ground}
@@ -36,15 +36,17 @@ module _ (colours : List Float) (h w : ℕ) (reference : Rgb) (t : Float) where
   no-so true q e = ⊎-elim {C = true ≡ false} (λ z. absurd (omega arith)) (λ z. absurd (omega arith)) e
   no-so false q e = refl
 
-  pub not-found : (g : Ground) → g ≡ groundFor 0 colours h w reference t → OneOf (1 ∷ 2 ∷ []) (tagOf ground-type.the-type g) → isFound colours h w reference t ≡ false
+  pub not-found : (g : Ground) → g ≡ groundFor 0 colours h w reference t → OneOf (1 ∷ 2 ∷ []) (tagOf ground-type.the-type g)
+      → isFound colours h w reference t ≡ false
   unfolding groundFor
-  not-found g e o = no-so (isFound colours h w reference t) reference (subst (λ (a : Ground). OneOf (1 ∷ 2 ∷ []) (tagOf ground-type.the-type a)) e o)
+  not-found g e o = no-so (isFound colours h w reference t) reference (rw e at o)
 
   yes-so : (b : Bool) (q r : Rgb) → cond b (ground.Found q) ground.Absent ≡ ground.Found r → (b ≡ true) × (r ≡ q)
   yes-so true q r e = let z : q ≡ r = cc in (refl, sym z)
   yes-so false q r e = let z : _≡_ {A = ℕ} 0 1 = cc in absurd (omega arith)
 
-  pub was-found : (r : Rgb) → groundFor 0 colours h w reference t ≡ ground.Found r → (isFound colours h w reference t ≡ true) × (r ≡ reference)
+  pub was-found : (r : Rgb) → groundFor 0 colours h w reference t ≡ ground.Found r
+      → (isFound colours h w reference t ≡ true) × (r ≡ reference)
   unfolding groundFor
   was-found r e = yes-so (isFound colours h w reference t) reference r e
 
@@ -91,29 +93,24 @@ unfolding isSought
 sought-is alpha n s mask off e l m = rw (e, l, m)
 
 module _ (colours : List Float) (alpha : List ℕ) (h w : ℕ) (reference : Rgb) (s : Settings) where
-  sought-full : isSought alpha (h * w) s ≡ true → someOff (alphaMask alpha (h * w) s) (h * w) ≡ false
-  unfolding isSought
-  sought-full e = off-so (someOff (alphaMask alpha (h * w) s) (h * w)) (and-true (s .«key_bg») (not (someOff (alphaMask alpha (h * w) s) (h * w))) e .1)
-    where
-      off-so : (t : Bool) → not t ≡ true → t ≡ false
-      off-so true z = not-both true refl (sym z)
-      off-so false z = refl
+  abbrev found : Bool
+  found = isFound colours h w reference (s .«key_bg_tolerance»)
 
-  pub sought-flag : isSought alpha (h * w) s ≡ true → isFound colours h w reference (s .«key_bg_tolerance») ≡ isKeyed colours alpha h w reference s
+  -- the mask by alpha, where it is full
+  full : isSought alpha (h * w) s ≡ true → maskOf (h * w) (λ (i : ℕ). true) ≡ alphaMask alpha (h * w) s
+  unfolding isSought alphaMask
+  full e =
+      let off = someOff (alphaMask alpha (h * w) s) (h * w) in
+      full-mask (λ (i : ℕ). onOf (getD alpha i 0) (s .«alpha_threshold»)) (h * w) (not-true off (and-true (s .«key_bg») (not off) e .1))
+
+  pub sought-flag : isSought alpha (h * w) s ≡ true → found ≡ isKeyed colours alpha h w reference s
   unfolding isKeyed
   sought-flag e = rw e
 
-  pub sought-mask : isSought alpha (h * w) s ≡ true → keyedPlane colours h w reference (s .«key_bg_tolerance») (passesOf s) ≡ cutMask colours alpha h w reference s
+  pub sought-mask : isSought alpha (h * w) s ≡ true
+      → keyedPlane colours h w reference (s .«key_bg_tolerance») (passesOf s) ≡ cutMask colours alpha h w reference s
   unfolding keyedPlane cutMask isKeyed grownGround
-  sought-mask e =
-      ap (λ (m : List ℕ).
-      cond (isFound colours h w reference (s .«key_bg_tolerance»))
-      (maskOf (h * w) (λ (i : ℕ). not (isOn (growthOf colours reference h w (passesOf s) (groundOf colours h w reference (s .«key_bg_tolerance»))) i))) m)
-      (full e)
-      ∙ rw e
-    where
-      full : isSought alpha (h * w) s ≡ true → maskOf (h * w) (λ (i : ℕ). true) ≡ alphaMask alpha (h * w) s
-      full z = let f = sought-full z in unfold alphaMask in full-mask (λ (i : ℕ). onOf (getD alpha i 0) (s .«alpha_threshold»)) (h * w) f
+  sought-mask e = rw (full e, e)
 
   pub unsought-flag : isSought alpha (h * w) s ≡ false → false ≡ isKeyed colours alpha h w reference s
   unfolding isKeyed

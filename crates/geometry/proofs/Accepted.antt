@@ -1,20 +1,22 @@
 -- What a call's refusal says: of its answer, and, where it is 0, of the buffers' lengths.
 -- Assumes nothing.
-use mathlib.Core.Path.{_≡_, refl}
-use mathlib.Core.Bool.{Bool, true, false, cond, _&&_}
-use mathlib.Core.List.{[], _∷_}
+use mathlib.Core.Path.{_≡_, refl, sym, ap, _∙_}
+use mathlib.Core.List.{List}
 use Prim.Native.Nat.{ℕ, _+_, _*_, _≤_, _<_}
 use native.Mathlib.Nat.{mul-le-mul}
 use native.Mathlib.Omega.{arith}
+use lib.IntN.{ℤ}
 use borrow.Author.Tests.{eq-eqb, ne-eqb, eqb-true, leb-true, ltb-true}
 use Rattle.plane.specs.steps.Sides.{Sides}
-use Rattle.plane.specs.Refusal.{refusalOf, roomFor}
+use Rattle.plane.specs.Refusal.{roomFor}
 use Rattle.plane.proofs.Plane.{row-in, area-most}
-use Rattle.plane.proofs.Refusal.{Within, and-true, passed, sides-are, sides-within}
+use Rattle.plane.proofs.Refusal.{Within, passed, written, kept, sides-are, sides-within, three-lines}
+use Rattle.nearest.specs.steps.Room.{Room}
 use Rattle.geometry.specs.declared.Answer.the-variants as answer
 use Rattle.geometry.specs.declared.Labelled.the-variants as labelled
 use Rattle.geometry.specs.Answer.{answerFor, labelledFor}
 use Rattle.geometry.specs.Refusal.{planeRefusal, nearestRefusal, fillRefusal, cropRefusal}
+use Rattle.geometry.specs.Calls.{nearestRefusalIn, PlaneCalled}
 
 -- ---- answers
 
@@ -33,6 +35,18 @@ counted n parts e = rw (eq-eqb n 0 e)
 pub not-counted : (n parts : ℕ) → (n ≡ 0 → ⊥) → labelled.Refused n ≡ labelledFor n parts
 unfolding labelledFor
 not-counted n parts e = rw (ne-eqb n 0 e)
+
+-- a call that is declined leaves its output and its work buffer as they were
+pub plane-refused : (n : ℕ) {refusal : ℕ} {new work out : List ℕ} → n ≡ refusal → (n ≡ 0 → ⊥)
+    → PlaneCalled refusal new work out (answer.Refused n) work out
+plane-refused n {refusal} e bad =
+    let bad′ : refusal ≡ 0 → ⊥ = λ q. bad (e ∙ q) in
+    record { answer = ap answer.Refused e ∙ declined _ bad′; out-is = sym (kept _ _ _ bad′); kept = λ _. refl }
+
+-- a call that is accepted has written its output
+pub plane-made : {refusal : ℕ} {new work out work′ out′ : List ℕ} → refusal ≡ 0 → out′ ≡ new
+    → PlaneCalled refusal new work out answer.Done work′ out′
+plane-made z e = record { answer = done _ z; out-is = e ∙ sym (written _ _ _ z); kept = λ bad. absurd (bad z) }
 
 -- ---- lengths
 
@@ -55,23 +69,18 @@ plane-ok h w mask out work e =
       room = leb-true _ _ (p .1 .1 .1 .0);
     }
 
-pub record NearestOk (h w mask rows cols work : ℕ) : Type 0 where
-  pub sides : Sides h w
-  pub input : mask ≡ h * w
-  pub rows-long : rows ≡ h * w
-  pub cols-long : cols ≡ h * w
-  pub room : roomFor h w ≤ work
-
-pub nearest-ok : (h w mask rows cols work : ℕ) → nearestRefusal h w mask rows cols work ≡ 0 → NearestOk h w mask rows cols work
+pub nearest-ok : (mask : List ℕ) (h w : ℕ) (work : List ℕ) (rows cols : List ℤ)
+    → nearestRefusalIn mask h w work rows cols ≡ 0 → Room h w mask work rows cols
 unfolding nearestRefusal
-nearest-ok h w mask rows cols work e =
+nearest-ok mask h w work rows cols e =
     let p = passed _ refl e in
+    let s = sides-are h w (p .0) in
     record {
-      sides = sides-are h w (p .0);
-      input = eqb-true _ _ (p .1 .0);
+      sides = s;
+      mask-long = eqb-true _ _ (p .1 .0);
+      room = three-lines _ _ _ s (leb-true _ _ (p .1 .1 .1 .1 .0));
       rows-long = eqb-true _ _ (p .1 .1 .0);
       cols-long = eqb-true _ _ (p .1 .1 .1 .0);
-      room = leb-true _ _ (p .1 .1 .1 .1 .0);
     }
 
 pub record FillOk (h w colours mask out work : ℕ) : Type 0 where
@@ -111,30 +120,6 @@ in-plane n h w y0 y1 x0 x1 y e =
     let r = row-in y h w (omega arith) in
     let m = area-most {h = h} {w = w} (s .tall) (s .wide) in
     record { left = ltb-true _ _ (p .1 .1 .1 .1 .0); right = omega arith; small = omega arith }
-
--- six tests with the number 7, made at once
-module _ (s t a b c d e f : Bool) (sides : s ≡ true) (size : t ≡ true) where
-  pub six-hold : a && b && c && d && e && f ≡ true → 0 ≡ refusalOf ((1, s) ∷ (2, t) ∷ (7, a) ∷ (7, b) ∷ (7, c) ∷ (7, d) ∷ (7, e) ∷ (7, f) ∷ [])
-  unfolding refusalOf
-  six-hold h =
-      let p5 = and-true (a && b && c && d && e) f h in
-      let p4 = and-true (a && b && c && d) e (p5 .0) in
-      let p3 = and-true (a && b && c) d (p4 .0) in
-      let p2 = and-true (a && b) c (p3 .0) in
-      let p1 = and-true a b (p2 .0) in
-      rw (sides, size, p1 .0, p1 .1, p2 .1, p3 .1, p4 .1, p5 .1)
-
-  pub one-fails : a && b && c && d && e && f ≡ false → 7 ≡ refusalOf ((1, s) ∷ (2, t) ∷ (7, a) ∷ (7, b) ∷ (7, c) ∷ (7, d) ∷ (7, e) ∷ (7, f) ∷ [])
-  unfolding refusalOf
-  one-fails h = rw (sides, size) (sevens a b c d e f h)
-    where
-      sevens : (p q r u v z : Bool) → p && q && r && u && v && z ≡ false → _≡_ {A = ℕ} 7 (cond p (cond q (cond r (cond u (cond v (cond z 0 7) 7) 7) 7) 7) 7)
-      sevens false q r u v z g = refl
-      sevens true false r u v z g = refl
-      sevens true true false u v z g = refl
-      sevens true true true false v z g = refl
-      sevens true true true true false z g = refl
-      sevens true true true true true z g = rw g
 
 -- the public calls' sides are small enough for what is written in 32 bits: squared distances, and labels
 pub distances-fit : (h w : ℕ) → Within h w → h * h + w * w ≤ 4294967295

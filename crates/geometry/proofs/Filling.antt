@@ -40,16 +40,17 @@ three-stores to from a b =
 unfoldable pub colourRow : List ℕ → ℕ → ℕ → List ℕ → Bool → ℕ → List ℕ
 colourRow colours h w indices lit i = table (λ (c : ℕ). getD colours (3 * sourceAt indices lit h w i + c) 0) 0 3
 
-pub colour-keeps : (colours : List ℕ) (h w : ℕ) (indices : List ℕ) (lit : Bool) (i : ℕ) → length (colourRow colours h w indices lit i) ≡ 3
-unfolding colourRow
-colour-keeps colours h w indices lit i = table-length _ 0 3
+module _ (colours : List ℕ) (h w : ℕ) (indices : List ℕ) (lit : Bool) (i : ℕ) where
+  pub colour-keeps : length (colourRow colours h w indices lit i) ≡ 3
+  unfolding colourRow
+  colour-keeps = table-length _ 0 3
 
-pub colour-is : (colours : List ℕ) (h w : ℕ) (indices : List ℕ) (lit : Bool) (i s : ℕ) → s ≡ sourceAt indices lit h w i → 3 * s + 3 ≤ length colours
-    → take 3 (drop (3 * s) colours) ≡ colourRow colours h w indices lit i
-unfolding colourRow
-colour-is colours h w indices lit i s e l =
-    table-is (λ (c : ℕ). getD colours (3 * sourceAt indices lit h w i + c) 0) 3 (take 3 (drop (3 * s) colours)) 0 (simp (length-take, length-drop) (omega arith))
-    (λ k g. getD-take 3 (drop (3 * s) colours) k 0 g ∙ getD-drop (3 * s) colours k 0 ∙ ap (λ (n : ℕ). getD colours (3 * n + k) 0) e)
+  pub colour-is : (s : ℕ) → s ≡ sourceAt indices lit h w i → 3 * s + 3 ≤ length colours
+      → take 3 (drop (3 * s) colours) ≡ colourRow colours h w indices lit i
+  unfolding colourRow
+  colour-is s e l =
+      table-is _ 3 (take 3 (drop (3 * s) colours)) 0 (simp (length-take, length-drop) (omega arith))
+      (λ k g. getD-take 3 (drop (3 * s) colours) k 0 g ∙ getD-drop (3 * s) colours k 0 ∙ ap (λ (n : ℕ). getD colours (3 * n + k) 0) e)
 
 -- the first pixel of the last row
 pub last-row : (h w : ℕ) → 1 ≤ h → (h - 1) * w ≡ h * w - w
@@ -79,8 +80,8 @@ source-of mask h w y x none e a b = rw (none-is (isOn mask) (h * w) (λ i l. off
         sym (index-on mask w i) ∙ nearest-none mask h w y x e (i / w) (i % w) (row-of i h w (omega arith) l) (column-of i w (omega arith))
 source-of mask h w y x (some q) e a b =
     let n = nearest-some mask h w y x (q .0) (q .1) e in
-    let i = q .1 * w + q .0 in
-    rw (some-is (isOn mask) (h * w) i (pixel-in (q .1) (q .0) h w (n .row-inside) (n .column-inside)) (sym (row-on mask w (q .1) (q .0)) ∙ n .is-on))
+    let inside = pixel-in (q .1) (q .0) h w (n .row-inside) (n .column-inside) in
+    rw (some-is (isOn mask) (h * w) (q .1 * w + q .0) inside (sym (row-on mask w (q .1) (q .0)) ∙ n .is-on))
 
 -- the loop's colours are those of the definition
 pub filled-is : (colours mask : List ℕ) (h w : ℕ) (work : List ℕ) → 0 < w → take (h * w) work ≡ indicesPlane mask h w

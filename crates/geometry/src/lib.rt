@@ -90,13 +90,7 @@ pub fn binary_dilation8(
 }
 
 // dy² + dx² of each pixel from its nearest on-pixel; with nothing on, (y + 1)² + x².
-pub fn square_distance(
-    mask: &[u8],
-    h: usize,
-    w: usize,
-    work: &mut [u32],
-    out: &mut [u32],
-) -> Answer
+pub fn square_distance(mask: &[u8], h: usize, w: usize, work: &mut [u32], out: &mut [u32]) -> Answer
     ensures { λ r. ⌜ DistanceCalled (now (mask .entry)) h w
         (now (work .entry)) (now (out .entry)) r
         (now (work .exit)) (now (out .exit)) ⌝ }

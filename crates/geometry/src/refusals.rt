@@ -1,4 +1,4 @@
-// The tests behind the refusals, in order: each function returns at the first that fails.
+// The tests behind the refusals, in order: each function returns at the first that fails. Tests with one number are made at once.
 ghost use mathlib.Core.Path.{_≡_};
 ghost use Rattle.geometry.specs.Refusal.{planeRefusal, nearestRefusal, fillRefusal, cropRefusal};
 
@@ -13,13 +13,10 @@ pub fn plane_refusal(h: usize, w: usize, mask: usize, out: usize, work: usize) -
     if mask != n {
         return 2;
     }
-    if out != n {
-        return 3;
+    if (out == n) & (plane::room(h, w) <= work) {
+        return 0;
     }
-    if work < plane::room(h, w) {
-        return 3;
-    }
-    0
+    3
 }
 
 // Nearest: the lengths of the mask, the planes of rows and columns, and the work buffer.
@@ -40,46 +37,27 @@ pub fn nearest_refusal(
     if mask != n {
         return 2;
     }
-    if rows != n {
-        return 3;
+    if (rows == n) & (cols == n) & (plane::room(h, w) <= work) {
+        return 0;
     }
-    if cols != n {
-        return 3;
-    }
-    if work < plane::room(h, w) {
-        return 3;
-    }
-    0
+    3
 }
 
 // Fill: the lengths of the colours, the mask, the output and the work buffer.
-pub fn fill_refusal(
-    h: usize,
-    w: usize,
-    colours: usize,
-    mask: usize,
-    out: usize,
-    work: usize,
-) -> u32
+pub fn fill_refusal(h: usize, w: usize, colours: usize, mask: usize, out: usize, work: usize) -> u32
     ensures { λ r. ⌜ r ≡ fillRefusal h w colours mask out work ⌝ }
 {
     if !plane::sides_ok(h, w) {
         return 1;
     }
     let n = h * w;
-    if colours != 3 * n {
-        return 2;
-    }
-    if mask != n {
-        return 2;
-    }
-    if out != 3 * n {
+    if (colours == 3 * n) & (mask == n) {
+        if (out == 3 * n) & (plane::room(h, w) <= work) {
+            return 0;
+        }
         return 3;
     }
-    if work < plane::room(h, w) {
-        return 3;
-    }
-    0
+    2
 }
 
 // Crop row: the length of the plane, the box, and the row.

@@ -8,7 +8,7 @@ use Prim.Native.Nat.{ℕ, _*_, _<_, _/_, _%_}
 use native.Mathlib.Omega.{arith}
 use lib.ListN.{length}
 use Rattle.plane.proofs.Mask.{mask-same, mask-length, mask-on, index-on}
-use Rattle.plane.specs.Plane.{on, bit, apart, table}
+use Rattle.plane.specs.Plane.{bit, apart, table}
 use Rattle.plane.specs.Search.{someBelow}
 use Rattle.plane.proofs.Search.{either, some-same}
 use Rattle.plane.proofs.Plane.{row-of, column-of, plane-index, table-same, on-bit}
@@ -22,20 +22,26 @@ use Rattle.growth.specs.steps.Marks.{edgeTest, edgeMark}
 -- ---- planes by dilation
 
 module _ (back : List ℕ) (h w : ℕ) (wide : 0 < w) where
+  -- the pixels that are not within k of the background
+  abbrev far : ℕ → ℕ → Bool
+  far k i = not (nearGround back h w k i)
+
+  abbrev shallows : ℕ → Bool
+  shallows = isShallow back h w
+
   -- the dilation tells what is near the background
   dilated-on : (k i : ℕ) → 0 < k → i < h * w → isOn (squaresPlane back h w k) i ≡ nearGround back h w k i
   unfolding isOn squaresPlane nearGround
   dilated-on k i p l =
-      ap on (plane-index h w (λ (y x : ℕ). bit (inSquare back h w (reach h w k) y x)) i 0 wide l)
-      ∙ on-bit (inSquare back h w (reach h w k) (i / w) (i % w))
-      ∙ ap (λ (n : ℕ). inSquare back h w n (i / w) (i % w)) (reach-some h w k p)
+      rw (plane-index h w (λ (y x : ℕ). bit (inSquare back h w (reach h w k) y x)) i 0 wide l, on-bit, reach-some h w k p)
 
   -- what is not near it, by the dilation
-  far-from : (k : ℕ) → 0 < k → complementOf (squaresPlane back h w k) ≡ maskOf (h * w) (λ (i : ℕ). not (nearGround back h w k i))
+  far-from : (k : ℕ) → 0 < k → complementOf (squaresPlane back h w k) ≡ maskOf (h * w) (far k)
   unfolding complementOf
   far-from k p =
-      ap (λ (n : ℕ). maskOf n (λ (i : ℕ). not (isOn (squaresPlane back h w k) i))) (squares-length back h w k)
-      ∙ mask-same (h * w) (λ (i : ℕ). not (isOn (squaresPlane back h w k) i)) (λ (i : ℕ). not (nearGround back h w k i)) (λ i l. ap not (dilated-on k i p l))
+      let there : ℕ → Bool = λ (i : ℕ). not (isOn (squaresPlane back h w k) i) in
+      ap (λ (n : ℕ). maskOf n there) (squares-length back h w k)
+      ∙ mask-same (h * w) there (far k) (λ i l. ap not (dilated-on k i p l))
 
   pub deep-laid : complementOf (squaresPlane back h w 4) ≡ maskOf (h * w) (isDeep back h w)
   unfolding isDeep
@@ -56,16 +62,16 @@ module _ (back : List ℕ) (h w : ℕ) (wide : 0 < w) where
         columns = omega arith;
       })
 
-  shallow-is : (i : ℕ) → i < h * w → not (nearGround back h w 1 i) ≡ isShallow back h w i
+  shallow-is : (i : ℕ) → i < h * w → far 1 i ≡ shallows i
   unfolding isShallow
   shallow-is i l =
-      ⊎-elim {C = not (nearGround back h w 1 i) ≡ not (isOn back i) && not (nearGround back h w 1 i)}
+      ⊎-elim {C = far 1 i ≡ not (isOn back i) && far 1 i}
       (λ (e : isOn back i ≡ true). rw (e, self-near i l e))
       (λ (e : isOn back i ≡ false). rw e)
       (either (isOn back i))
 
-  pub shallow-laid : complementOf (squaresPlane back h w 1) ≡ maskOf (h * w) (isShallow back h w)
-  shallow-laid = far-from 1 (omega arith) ∙ mask-same (h * w) (λ (i : ℕ). not (nearGround back h w 1 i)) (isShallow back h w) shallow-is
+  pub shallow-laid : complementOf (squaresPlane back h w 1) ≡ maskOf (h * w) shallows
+  shallow-laid = far-from 1 (omega arith) ∙ mask-same (h * w) (far 1) shallows shallow-is
 
   tests : (s a b : Bool) → s && not a && not (not a && not b) ≡ s && (not a && b)
   tests true true b = refl
@@ -73,22 +79,14 @@ module _ (back : List ℕ) (h w : ℕ) (wide : 0 < w) where
   tests true false false = refl
   tests false a b = refl
 
-  edge-test : (i : ℕ) → bit (someBelow (h * w) (isShallow back h w) && not (isOn back i) && not (isShallow back h w i)) ≡ edgeMark back h w i
-  unfolding edgeMark isEdge isShallow
-  edge-test i = ap bit (tests (someBelow (h * w) (isShallow back h w)) (isOn back i) (nearGround back h w 1 i))
-
   -- the edge pixels are what is neither background nor shallow
-  pub edge-laid : (shallow : List ℕ) → shallow ≡ maskOf (h * w) (isShallow back h w)
+  pub edge-laid : (shallow : List ℕ) → shallow ≡ maskOf (h * w) shallows
       → maskOf (h * w) (edgeTest (someBelow (length shallow) (isOn shallow)) back shallow) ≡ table (edgeMark back h w) 0 (h * w)
-  unfolding maskOf edgeTest
+  unfolding maskOf edgeTest edgeMark isEdge isShallow
   edge-laid shallow e =
-      let long : length shallow ≡ h * w = ap length e ∙ mask-length (h * w) (isShallow back h w) in
-      let same : (i : ℕ) → i < h * w → isOn shallow i ≡ isShallow back h w i =
-      λ i l. ap (λ (t : List ℕ). isOn t i) e ∙ mask-on (h * w) (isShallow back h w) i l in
-      let known : someBelow (length shallow) (isOn shallow) ≡ someBelow (h * w) (isShallow back h w) =
-      ap (λ (n : ℕ). someBelow n (isOn shallow)) long ∙ some-same (isOn shallow) (isShallow back h w) (h * w) same in
-      table-same (λ (i : ℕ). bit (someBelow (length shallow) (isOn shallow) && not (isOn back i) && not (isOn shallow i))) (edgeMark back h w) (h * w) 0
-      (λ i l.
-      ap (λ (t : Bool). bit (t && not (isOn back i) && not (isOn shallow i))) known
-      ∙ ap (λ (t : Bool). bit (someBelow (h * w) (isShallow back h w) && not (isOn back i) && not t)) (same i l)
-      ∙ edge-test i)
+      let same : (i : ℕ) → i < h * w → isOn shallow i ≡ shallows i = λ i l. rw e (mask-on (h * w) shallows i l) in
+      let known : someBelow (length shallow) (isOn shallow) ≡ someBelow (h * w) shallows =
+      ap (λ (n : ℕ). someBelow n (isOn shallow)) (ap length e ∙ mask-length (h * w) shallows)
+      ∙ some-same (isOn shallow) shallows (h * w) same in
+      table-same (λ (i : ℕ). bit (edgeTest (someBelow (length shallow) (isOn shallow)) back shallow i)) (edgeMark back h w) (h * w) 0
+      (λ i l. rw (known, same i l) (ap bit (tests (someBelow (h * w) shallows) (isOn back i) (nearGround back h w 1 i))))

@@ -1,6 +1,6 @@
 -- Passes one after the other.
 -- Assumes nothing.
-use mathlib.Core.Path.{_≡_, sym, ap, _∙_}
+use mathlib.Core.Path.{_≡_, sym}
 use mathlib.Core.Bool.{Bool, true, false, cond, _||_}
 use mathlib.Core.List.{List}
 use Prim.Native.Nat.{ℕ, zero, suc, _*_, _-_, _<_}
@@ -19,24 +19,26 @@ rest-less true n l = omega arith
 rest-less false n l = l
 
 module _ (colours : List Float) (reference : Rgb) (h w : ℕ) (back : List ℕ) where
+  abbrev joining : ℕ → Bool
+  joining = isJoining colours reference back h w
+
+  abbrev next : List ℕ
+  next = passOf colours reference back h w
+
   -- a pass without a join leaves the background as it is
-  stays : someBelow (h * w) (isJoining colours reference back h w) ≡ false → maskOf (h * w) (isOn back) ≡ maskOf (h * w) (isOn (passOf colours reference back h w))
+  stays : someBelow (h * w) joining ≡ false → maskOf (h * w) (isOn back) ≡ maskOf (h * w) (isOn next)
   unfolding passOf
   stays e =
-      mask-same (h * w) (isOn back) (isOn (passOf colours reference back h w))
-      (λ i l.
-      sym
-      (mask-on (h * w) (λ (k : ℕ). isOn back k || isJoining colours reference back h w k) i l
-      ∙ ap (λ (t : Bool). isOn back i || t) (none-found (isJoining colours reference back h w) (h * w) e i l)
-      ∙ or-no (isOn back i)))
+      mask-same (h * w) (isOn back) (isOn next)
+      (λ i l. rw (mask-on (h * w) (λ (k : ℕ). isOn back k || joining k) i l, none-found joining (h * w) e i l, or-no))
 
   -- one pass, and those that are left
-  pub growth-step : (p : ℕ) (joined : Bool) (new : List ℕ) → 0 < p → joined ≡ someBelow (h * w) (isJoining colours reference back h w) → new ≡ passOf colours reference back h w
-      → growthOf colours reference h w p back ≡ growthOf colours reference h w (cond joined (p - 1) 0) new
+  pub growth-step : (p left : ℕ) (joined : Bool) (new : List ℕ) → 0 < p → left ≡ cond joined (p - 1) 0
+      → joined ≡ someBelow (h * w) joining → new ≡ next → growthOf colours reference h w p back ≡ growthOf colours reference h w left new
   unfolding growthOf
-  growth-step zero joined new l e f = absurd (omega arith)
-  growth-step (suc p) true new l e f = let q : suc p - 1 ≡ p = omega arith in rw (sym e, q, f)
-  growth-step (suc p) false new l e f = rw (sym e, f) (stays (sym e))
+  growth-step zero left joined new l r e f = absurd (omega arith)
+  growth-step (suc p) left true new l r e f = let q : suc p - 1 ≡ p = omega arith in rw (sym e, r, q, f)
+  growth-step (suc p) left false new l r e f = rw (sym e, r, f) (stays (sym e))
 
   -- none is left
   pub growth-done : (p n : ℕ) → p ≡ 0 → n ≡ h * w → maskOf n (isOn back) ≡ growthOf colours reference h w p back

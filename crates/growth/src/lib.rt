@@ -77,33 +77,7 @@ fn joins_with(colours: &[f64], reference: colour::Rgb, b: usize, i: usize) -> bo
     colour::joins(full, mixed)
 }
 
-// The mark of a marked pixel after the search for its deep pixel; `some` says whether there is one at all.
-fn near_mark(
-    colours: &[f64],
-    h: usize,
-    w: usize,
-    reference: colour::Rgb,
-    deep: &[u8],
-    nearest: &[u32],
-    made: bool,
-    some: bool,
-    i: usize,
-) -> u8
-    requires { ⌜ Searches (now colours) h w (now deep) (now nearest) made some ⌝ }
-    requires { ⌜ i < h * w ⌝ }
-    ensures { λ r. ⌜ r ≡ nearMark (now (colours .entry)) reference (now (deep .entry)) h w i ⌝ }
-{
-    if !some {
-        return WAITS;
-    }
-    let b = window::near_pixel(deep, nearest, made, h, w, i);
-    if b < deep.len() {
-        return byte(joins_with(colours, reference, b, i));
-    }
-    WAITS
-}
-
-// The same for any pixel: one that is not marked stays so.
+// The mark of a pixel after the search for its deep pixel: one that is not marked stays so; `some` says whether there is a deep pixel.
 fn search_mark(
     colours: &[f64],
     h: usize,
@@ -123,7 +97,14 @@ fn search_mark(
     if mark == 0 {
         return 0;
     }
-    near_mark(colours, h, w, reference, deep, nearest, made, some, i)
+    if !some {
+        return WAITS;
+    }
+    let b = window::near_pixel(deep, nearest, made, h, w, i);
+    if b < deep.len() {
+        return byte(joins_with(colours, reference, b, i));
+    }
+    WAITS
 }
 
 // The marks after the search for deep pixels; whether a pixel waits.

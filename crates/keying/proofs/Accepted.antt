@@ -31,7 +31,8 @@ use Rattle.keying.specs.Calls.{GrowthBuffers, growthRefusalIn, GrowthCal
 
 -- ---- answers
 
-pub ground-declined : (n : ℕ) (colours : List Float) (h w : ℕ) (reference : Rgb) (t : Float) → (n ≡ 0 → ⊥) → ground.Refused n ≡ groundFor n colours h w reference t
+pub ground-declined : (n : ℕ) (colours : List Float) (h w : ℕ) (reference : Rgb) (t : Float) → (n ≡ 0 → ⊥)
+    → ground.Refused n ≡ groundFor n colours h w reference t
 unfolding groundFor
 ground-declined n colours h w reference t e = rw (ne-eqb n 0 e)
 
@@ -56,7 +57,8 @@ pub record GroundOk (colours : List Float) (h w out work : ℕ) : Type 0 where
   pub room : roomFor h w ≤ work
   pub range : coloursOk colours ≡ true
 
-pub ground-ok : (colours : List Float) (h w : ℕ) (t : Float) (out work : ℕ) → groundRefusal colours h w t out work ≡ 0 → GroundOk colours h w out work
+pub ground-ok : (colours : List Float) (h w : ℕ) (t : Float) (out work : ℕ) → groundRefusal colours h w t out work ≡ 0
+    → GroundOk colours h w out work
 unfolding groundRefusal groundLengths pictureTests
 ground-ok colours h w t out work e =
     let p = passed _ refl e in
@@ -134,7 +136,8 @@ growth-refused colours background h w reference p b n e bad =
     record { answer = ap answer.Refused e ∙ declined _ bad′; out-is = sym (kept _ _ _ bad′); kept = λ _. refl }
 
 -- growth that is accepted has carried a copy of the background through its passes
-pub growth-made : (colours : List Float) (background : List ℕ) (h w : ℕ) (reference : Rgb) (p : ℤ) (b b′ : GrowthBuffers) (n : ℕ) (copy : List ℕ)
+pub growth-made : (colours : List Float) (background : List ℕ) (h w : ℕ) (reference : Rgb) (p : ℤ)
+    (b b′ : GrowthBuffers) (n : ℕ) (copy : List ℕ)
     → growthRefusalIn colours background h w reference b ≡ 0 → n ≡ atLeastZero p → copy ≡ background
     → b′ .out ≡ growthOf colours reference h w n copy → GrowthCalled colours background h w reference p b answer.Done b′
 growth-made colours background h w reference p b b′ n copy z e c o =

@@ -8,6 +8,7 @@ use mathlib.Core.Logic.{⊎-elim}
 use lib.Dec.{eqb}
 use lib.Ieee.{Float}
 use borrow.Author.Tests.{eqb-true, eqb-false}
+use Rattle.plane.specs.Refusal.{after}
 use Rattle.plane.proofs.Search.{either}
 use Rattle.plane.proofs.Refusal.{written}
 use Rattle.colour.specs.declared.Settings.{Settings}
@@ -30,13 +31,16 @@ module _ (one two : List Float) (alpha : List ℕ) (h w : ℕ) (s t : Settings) 
 
   answers : r ≡ q
   answers =
+      let n = refusalIn one alpha h w s b in
+      let x = cutIn one alpha h w s in
+      let y = cutIn two alpha h w t in
       first .answer
-      ∙ ⊎-elim {C = outcomeFor (refusalIn one alpha h w s b) (cutIn one alpha h w s) ≡ outcomeFor (refusalIn two alpha h w t c) (cutIn two alpha h w t)}
-      (λ (e : eqb (refusalIn one alpha h w s b) 0 ≡ true). (let z = eqb-true _ 0 e in rw (cuts z, refusals)))
-      (λ (e : eqb (refusalIn one alpha h w s b) 0 ≡ false).
+      ∙ ⊎-elim {C = outcomeFor n x ≡ outcomeFor (refusalIn two alpha h w t c) y}
+      (λ (e : eqb n 0 ≡ true). (let z = eqb-true _ 0 e in rw (cuts z, refusals)))
+      (λ (e : eqb n 0 ≡ false).
       let bad = eqb-false _ 0 e in
-      sym (cut-declined _ (cutIn one alpha h w s) bad) ∙ cut-declined _ (cutIn two alpha h w t) bad ∙ ap (λ (n : ℕ). outcomeFor n (cutIn two alpha h w t)) refusals)
-      (either (eqb (refusalIn one alpha h w s b) 0))
+      sym (cut-declined _ x bad) ∙ cut-declined _ y bad ∙ ap (λ (k : ℕ). outcomeFor k y) refusals)
+      (either (eqb n 0))
       ∙ sym (second .answer)
 
   -- Demand 3 (R66), for any two calls: whatever the buffers held before, both calls answer the same, that is, the same number by which they
@@ -45,9 +49,21 @@ module _ (one two : List Float) (alpha : List ℕ) (h w : ℕ) (s t : Settings) 
   one-outline =
       record {
         answers = answers;
-        masks = λ e. (let z = accepted e in first .mask-is ∙ written _ _ _ z ∙ ap (λ (x : Cut). x .mask) (cuts z) ∙ sym (second .mask-is ∙ written _ _ _ (sym refusals ∙ z)));
-        weights = λ e. (let z = accepted e in first .weights-is ∙ written _ _ _ z ∙ ap (λ (x : Cut). x .weights) (cuts z) ∙ sym (second .weights-is ∙ written _ _ _ (sym refusals ∙ z)));
+        masks =
+            λ e.
+            let z = accepted e in
+            kept-alike _ _ z (first .mask-is) (second .mask-is) (ap (λ (x : Cut). x .mask) (cuts z));
+        weights =
+            λ e.
+            let z = accepted e in
+            kept-alike _ _ z (first .weights-is) (second .weights-is) (ap (λ (x : Cut). x .weights) (cuts z));
       }
     where
+      -- two outputs of accepted calls are equal where what is written to them is
+      kept-alike : {A : Type 0} {new₁ new₂ out₁ out₂ : A} (old₁ old₂ : A) → refusalIn one alpha h w s b ≡ 0
+          → out₁ ≡ after (refusalIn one alpha h w s b) new₁ old₁ → out₂ ≡ after (refusalIn two alpha h w t c) new₂ old₂
+          → new₁ ≡ new₂ → out₁ ≡ out₂
+      kept-alike _ _ z p q e = p ∙ written _ _ _ z ∙ e ∙ sym (q ∙ written _ _ _ (sym refusals ∙ z))
+
       accepted : refusalOfOutcome r ≡ 0 → refusalIn one alpha h w s b ≡ 0
       accepted e = sym (ap refusalOfOutcome (first .answer) ∙ refusal-of-outcome _ (cutIn one alpha h w s)) ∙ e

@@ -55,10 +55,20 @@ pub fn unmix_fringe(
     out: &mut [u8],
 ) -> Answer
     ensures { λ r. ⌜ GrowthCalled (now (colours .entry)) (now (background .entry)) h w reference p
-        (record { out = now (out .entry); nearest = now (nearest .entry); shallow = now (shallow .entry);
-            deep = now (deep .entry); marks = now (marks .entry) }) r
-        (record { out = now (out .exit); nearest = now (nearest .exit); shallow = now (shallow .exit);
-            deep = now (deep .exit); marks = now (marks .exit) }) ⌝ }
+        (record {
+          out = now (out .entry);
+          nearest = now (nearest .entry);
+          shallow = now (shallow .entry);
+          deep = now (deep .entry);
+          marks = now (marks .entry);
+        }) r
+        (record {
+          out = now (out .exit);
+          nearest = now (nearest .exit);
+          shallow = now (shallow .exit);
+          deep = now (deep .exit);
+          marks = now (marks .exit);
+        }) ⌝ }
 {
     let refusal = refusals::growth_refusal(
         colours,
@@ -107,10 +117,22 @@ pub fn subject(
     weights: &mut [f64],
 ) -> Outcome
     ensures { λ r. ⌜ Called (now (colours .entry)) (now (alpha .entry)) h w s
-        (record { mask = now (mask .entry); weights = now (weights .entry); nearest = now (nearest .entry);
-            shallow = now (shallow .entry); deep = now (deep .entry); marks = now (marks .entry) }) r
-        (record { mask = now (mask .exit); weights = now (weights .exit); nearest = now (nearest .exit);
-            shallow = now (shallow .exit); deep = now (deep .exit); marks = now (marks .exit) }) ⌝ }
+        (record {
+          mask = now (mask .entry);
+          weights = now (weights .entry);
+          nearest = now (nearest .entry);
+          shallow = now (shallow .entry);
+          deep = now (deep .entry);
+          marks = now (marks .entry);
+        }) r
+        (record {
+          mask = now (mask .exit);
+          weights = now (weights .exit);
+          nearest = now (nearest .exit);
+          shallow = now (shallow .exit);
+          deep = now (deep .exit);
+          marks = now (marks .exit);
+        }) ⌝ }
 {
     let refusal = refusals::cut_refusal(
         colours,
@@ -128,18 +150,7 @@ pub fn subject(
     if refusal != 0 {
         return Outcome::Refused(refusal);
     }
-    let keyed = cutting::cut_mask(
-        colours,
-        alpha,
-        h,
-        w,
-        s,
-        nearest,
-        shallow,
-        deep,
-        marks,
-        mask,
-    );
+    let keyed = cutting::cut_mask(colours, alpha, h, w, s, nearest, shallow, deep, marks, mask);
     weights::weights(mask, alpha, weights);
     let crop = cutting::crop_of(mask, h, w, s.crop_to_alpha);
     Outcome::Done(keyed, crop)

@@ -17,19 +17,8 @@ use Rattle.line.proofs.Squares.{apart-zero, square-le, square-lt}
 use Rattle.line.proofs.Walk.{clash, same, walk-answers}
 use Rattle.line.proofs.Grid.{columnBest, columnCost, walk-line, compose}
 use Rattle.nearest.specs.Nearest.{rowCost, nearest, away, distanceTo, distance}
+use Rattle.nearest.specs.IsNearest.{IsNearest}
 use Rattle.nearest.specs.steps.Towards.{towards}
-
--- (j, i) is the nearest on-pixel of (y, x)
-pub record IsNearest (mask : List ℕ) (h w y x i j : ℕ) : Type 0 where
-  pub row-inside : j < h
-  pub column-inside : i < w
-  pub is-on : onAt mask w j i ≡ true
-  -- no on-pixel is nearer
-  pub least : (k l : ℕ) → k < h → l < w → onAt mask w k l ≡ true → away y x j i ≤ away y x k l
-  -- each in a column before is farther
-  pub first-column : (k l : ℕ) → k < h → l < i → onAt mask w k l ≡ true → away y x j i < away y x k l
-  -- and each above it in its own column
-  pub first-row : (k : ℕ) → k < j → onAt mask w k i ≡ true → away y x j i < away y x k i
 
 module _ (mask : List ℕ) (h w y x : ℕ) where
   -- the number of a pixel in the walk
@@ -97,7 +86,7 @@ module _ (mask : List ℕ) (h w y x : ℕ) where
         column-inside = a .inside;
         is-on = d .0;
         least = λ k l g m t. (let z = bound l k g t in let n = a .least l (z .0) m (z .1) in let q = z .2 in omega arith);
-        first-column = λ k l g m t. (let z = bound l k g t in let n = a .first l (z .0) m (z .1) in let q = z .2 in omega arith);
+        first-column = λ k l g m t. (let z = bound l k (omega arith) t in let n = a .first l (z .0) m (z .1) in let q = z .2 in omega arith);
         first-row = λ k g t. (let n = c .1 .first k (away y x k i) g (on-far i k t) in omega arith);
       }
 

@@ -1,9 +1,9 @@
 -- Laws of the border list: it lies in the plane, and what is alike on it gives one reference and one count.
 -- Assumes nothing.
 use mathlib.Core.Path.{_≡_, refl, sym, _∙_}
-use mathlib.Core.Bool.{true, false, _||_}
+use mathlib.Core.Bool.{true, false}
 use mathlib.Core.List.{List, [], _∷_, _++_, map}
-use mathlib.Core.Logic.{_⊎_, inl, inr, ⊎-elim}
+use mathlib.Core.Logic.{⊎-elim}
 use Prim.Native.Nat.{ℕ, zero, suc, _+_, _*_, _-_, _≤_, _<_}
 use native.Mathlib.Nat.{not-suc-le-zero, le-of-suc-le-suc}
 use native.Mathlib.Omega.{arith}
@@ -19,23 +19,20 @@ use Rattle.colour.proofs.Zero.{Alike}
 use Rattle.colour.proofs.Same.{SameColour}
 use Rattle.median.specs.Median.{medianOf}
 use Rattle.median.proofs.Laws.{median-alike}
-use Rattle.outline.specs.Border.{rowPixels, innerColumn, borderList, listed, onBorder, channelAt, colourAt, referenceChannel, referenceOf}
+use Rattle.outline.specs.Border.{rowPixels, innerColumn, borderList, listed, onBorder}
+use Rattle.outline.specs.Border.{channelAt, colourAt, referenceChannel, referenceOf}
 use Rattle.outline.specs.Ground.{countOn}
 
 -- ---- lists of pixels
 
--- a number that is in one of two lists
-listed-append : (i : ℕ) (l m : List ℕ) → listed i (l ++ m) ≡ true → (listed i l ≡ true) ⊎ (listed i m ≡ true)
+-- what follows for a number in each of two lists follows for one in both together
+in-either : {R : Type 0} (i : ℕ) (l m : List ℕ) → (listed i l ≡ true → R) → (listed i m ≡ true → R) → listed i (l ++ m) ≡ true → R
 unfolding listed
-listed-append i [] m e = inr e
-listed-append i (j ∷ l) m e =
-    ⊎-elim {C = (eqb i j || listed i l ≡ true) ⊎ (listed i m ≡ true)}
-    (λ (a : eqb i j ≡ true). inl (or-left (eqb i j) (listed i l) a))
-    (λ (a : listed i (l ++ m) ≡ true).
-    ⊎-elim {C = (eqb i j || listed i l ≡ true) ⊎ (listed i m ≡ true)}
-    (λ (b : listed i l ≡ true). inl (or-right (eqb i j) (listed i l) b))
-    (λ (b : listed i m ≡ true). inr b)
-    (listed-append i l m a))
+in-either i [] m f g e = g e
+in-either {R} i (j ∷ l) m f g e =
+    ⊎-elim {C = R}
+    (λ (a : eqb i j ≡ true). f (or-left (eqb i j) (listed i l) a))
+    (in-either i l m (λ b. f (or-right (eqb i j) (listed i l) b)) g)
     (or-true (eqb i j) (listed i (l ++ m)) e)
 
 -- every entry of a list is in it
@@ -52,7 +49,8 @@ listed-table f i k zero e = not-both false e refl
 listed-table f i k (suc n) e =
     ⊎-elim {C = (x : ℕ) × (k ≤ x) × (x < k + suc n) × (i ≡ f x)}
     (λ (a : eqb i (f k) ≡ true). (k, omega arith, omega arith, eqb-true i (f k) a))
-    (λ (a : listed i (table f (suc k) n) ≡ true). (let z = listed-table f i (suc k) n a in (z .0, omega (arith, z .1), omega (arith, z .2), z .3)))
+    (λ (a : listed i (table f (suc k) n) ≡ true).
+    (let z = listed-table f i (suc k) n a in (z .0, omega (arith, z .1), omega (arith, z .2), z .3)))
     (or-true (eqb i (f k)) (listed i (table f (suc k) n)) e)
 
 -- ---- the border lies in the plane
@@ -60,24 +58,25 @@ listed-table f i k (suc n) e =
 module _ (h w : ℕ) (tall : 0 < h) (wide : 0 < w) where
   row-inside : (y i : ℕ) → y < h → listed i (rowPixels w y) ≡ true → i < h * w
   unfolding rowPixels
-  row-inside y i a e = let z = listed-table (λ (x : ℕ). y * w + x) i 0 w e in rw (z .3) (pixel-in y (z .0) h w a (omega (arith, z .2)))
+  row-inside y i a e =
+      let z = listed-table (λ (x : ℕ). y * w + x) i 0 w e in
+      rw (z .3) (pixel-in y (z .0) h w a (omega (arith, z .2)))
 
   column-inside : (k x i : ℕ) → k ≤ h → x < w → listed i (innerColumn k w x) ≡ true → i < h * w
   unfolding innerColumn
-  column-inside k x i l a e = let z = listed-table (λ (y : ℕ). y * w + x) i 1 (k - 2) e in rw (z .3) (pixel-in (z .0) x h w (omega (arith, z .1, z .2)) a)
+  column-inside k x i l a e =
+      let z = listed-table (λ (y : ℕ). y * w + x) i 1 (k - 2) e in
+      rw (z .3) (pixel-in (z .0) x h w (omega (arith, z .1, z .2)) a)
 
   pub border-inside : (i : ℕ) → onBorder h w i ≡ true → i < h * w
   unfolding onBorder borderList
-  border-inside i e =
-      ⊎-elim {C = i < h * w}
-      (λ (a : listed i (rowPixels w 0 ++ rowPixels w (h - 1) ++ innerColumn h w 0) ≡ true).
-      ⊎-elim {C = i < h * w}
-      (λ (b : listed i (rowPixels w 0 ++ rowPixels w (h - 1)) ≡ true).
-      ⊎-elim {C = i < h * w} (row-inside 0 i tall) (row-inside (h - 1) i (omega arith)) (listed-append i (rowPixels w 0) (rowPixels w (h - 1)) b))
-      (column-inside _ 0 i (omega arith) wide)
-      (listed-append i (rowPixels w 0 ++ rowPixels w (h - 1)) (innerColumn h w 0) a))
+  border-inside i =
+      let rows = rowPixels w 0 ++ rowPixels w (h - 1) in
+      in-either i (rows ++ innerColumn h w 0) _
+      (in-either i rows (innerColumn h w 0)
+      (in-either i (rowPixels w 0) (rowPixels w (h - 1)) (row-inside 0 i tall) (row-inside (h - 1) i (omega arith)))
+      (column-inside _ 0 i (omega arith) wide))
       (column-inside _ (w - 1) i (omega arith) (omega arith))
-      (listed-append i (rowPixels w 0 ++ rowPixels w (h - 1) ++ innerColumn h w 0) _ e)
 
 -- ---- masks that are alike on a list have as many entries of it on
 
@@ -103,7 +102,8 @@ median-same f g l h =
     rw (mapped-at f l k b, mapped-at g l k b) (h (getD l k 0) (listed-at l k b))))
 
 -- pictures with equal borders, as numbers, have one reference, bit for bit
-pub reference-same : (one two : List Float) (h w : ℕ) → ((i : ℕ) → onBorder h w i ≡ true → SameColour (colourAt one i) (colourAt two i)) → referenceOf one h w ≡ referenceOf two h w
+pub reference-same : (one two : List Float) (h w : ℕ)
+    → ((i : ℕ) → onBorder h w i ≡ true → SameColour (colourAt one i) (colourAt two i)) → referenceOf one h w ≡ referenceOf two h w
 unfolding referenceOf referenceChannel onBorder colourAt
 reference-same one two h w e =
     rw (

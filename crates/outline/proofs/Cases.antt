@@ -14,14 +14,16 @@ use Rattle.line.specs.Grid.{valueOf, walk, upto, grid, plus}
 use Rattle.nearest.specs.Nearest.{rowCost, nearest, rowOf, columnOf, rowsPlane, columnsPlane, away, distanceTo}
 use Rattle.squares.specs.Squares.{larger, reach, inSquare, squaresPlane}
 use Rattle.plane.specs.Mask.{isOn, maskOf, someOff}
-use Rattle.labels.specs.Labels.{beside, lesser, renamed, merge, joinTwo, joinWith, joinUpto, firstPixel, isFirst, parts, labelOf, labelAt, labelsPlane}
+use Rattle.labels.specs.Labels.{beside, lesser, renamed, merge, joinTwo, joinWith, joinUpto, firstPixel, isFirst, parts, labelOf, labelAt}
+use Rattle.labels.specs.Labels.{labelsPlane}
 use Rattle.colour.specs.declared.Settings.{Settings}
 use Rattle.colour.specs.Number.{zero64, one64, absOf, plusZero, halfOf}
 use Rattle.colour.specs.Colour.{differenceOf, closeTo}
 use Rattle.colour.specs.Join.{joinsOf}
 use Rattle.colour.specs.Settings.{passesOf, onOf}
 use Rattle.median.specs.Median.{insert, sorted, placed, lowerMiddle, upperMiddle, medianOf}
-use Rattle.outline.specs.Border.{rowPixels, innerColumn, borderList, listed, onBorder, channelAt, colourAt, referenceChannel, referenceOf}
+use Rattle.outline.specs.Border.{rowPixels, innerColumn, borderList, listed, onBorder, channelAt, colourAt, referenceChannel}
+use Rattle.outline.specs.Border.{referenceOf}
 use Rattle.outline.specs.Ground.{isClose, closePlane, isGround, groundFrom, groundOf, countOn, foundFrom, isFound}
 use Rattle.outline.specs.Growth.{nearGround, isEdge, isShallow, isDeep, isReach, bodyFrom, joinsFrom, isJoining, passOf, growthOf}
 use Rattle.plane.specs.Box.{rowHas, columnHas, lesserOf, boxOf, wholeOf}
@@ -78,7 +80,8 @@ middle = fin false 1 (negsuc 0)
 
 -- the settings 128, yes, p, tolerance 0, yes
 abbrev settings : ℕ → Settings
-settings p = record { «alpha_threshold» = pos 128; «key_bg» = true; «key_bg_fringe» = pos p; «key_bg_tolerance» = zero64; «crop_to_alpha» = true }
+settings p =
+    record { «alpha_threshold» = pos 128; «key_bg» = true; «key_bg_fringe» = pos p; «key_bg_tolerance» = zero64; «crop_to_alpha» = true }
 
 opaque255 : ℕ → ℕ → List ℕ
 opaque255 h w = replicate (h * w) 255
@@ -141,5 +144,12 @@ cases =
     ∷ []
 
 pub cases-hold : T (all cases)
-unfolding cases all same sameZ gets labelled greys opaque255 cutWith cutTo cutMaskIs found row30 on bit onAt apart within table rowsUpto planeOf someBelow countBelow lower valueOf walk upto grid plus rowCost nearest rowOf columnOf rowsPlane columnsPlane away distanceTo larger reach inSquare squaresPlane isOn beside lesser renamed merge joinTwo joinWith joinUpto firstPixel isFirst parts labelOf labelAt labelsPlane absOf Rattle.colour.specs.Number.larger plusZero halfOf differenceOf closeTo joinsOf passesOf onOf insert sorted placed lowerMiddle upperMiddle medianOf rowPixels innerColumn borderList listed onBorder channelAt colourAt referenceChannel referenceOf isClose closePlane isGround groundFrom groundOf countOn someOff foundFrom isFound nearGround isEdge isShallow isDeep maskOf indexOf isReach bodyFrom joinsFrom isJoining passOf growthOf alphaMask isSought isKeyed grownGround cutMask firstBelow lastBelow rowHas columnHas lesserOf boxOf wholeOf cropOf cutOf lt le eq add sub mul div neg ofInt ofBits
+unfolding cases all same sameZ gets labelled greys opaque255 cutWith cutTo cutMaskIs found row30 on bit onAt apart within table rowsUpto
+    planeOf someBelow countBelow lower valueOf walk upto grid plus rowCost nearest rowOf columnOf rowsPlane columnsPlane away distanceTo
+    larger reach inSquare squaresPlane isOn beside lesser renamed merge joinTwo joinWith joinUpto firstPixel isFirst parts labelOf
+    labelAt labelsPlane absOf Rattle.colour.specs.Number.larger plusZero halfOf differenceOf closeTo joinsOf passesOf onOf insert sorted
+    placed lowerMiddle upperMiddle medianOf rowPixels innerColumn borderList listed onBorder channelAt colourAt referenceChannel
+    referenceOf isClose closePlane isGround groundFrom groundOf countOn someOff foundFrom isFound nearGround isEdge isShallow isDeep
+    maskOf indexOf isReach bodyFrom joinsFrom isJoining passOf growthOf alphaMask isSought isKeyed grownGround cutMask firstBelow
+    lastBelow rowHas columnHas lesserOf boxOf wholeOf cropOf cutOf lt le eq add sub mul div neg ofInt ofBits
 cases-hold = tt

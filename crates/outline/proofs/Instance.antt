@@ -1,7 +1,7 @@
 -- The premises of the theorem about two pictures can be met, and at the bound: two pictures of 13 by 13, cut with p = 1, that differ at the
 -- middle pixel alone, which lies exactly p + 5 from the ground and from the border. The prover computes it from the definitions.
 -- Assumes nothing.
-use mathlib.Core.Path.{_≡_, refl, sym}
+use mathlib.Core.Path.{_≡_, refl}
 use mathlib.Core.Bool.{Bool, true, false, cond, not, _&&_, _||_}
 use mathlib.Core.List.{List}
 use mathlib.Core.Logic.{_⊎_, inl, inr, ⊎-elim}
@@ -11,10 +11,12 @@ use lib.Dec.{eqb}
 use lib.IntN.{pos}
 use lib.ListN.{length, replicate}
 use lib.Ieee.{Float, lt, le, eq, add, sub, mul, div, neg}
+use borrow.Author.Tests.{not-true, not-false}
 use Rattle.plane.specs.Plane.{on, bit, onAt, apart, within, table}
 use Rattle.plane.specs.Search.{someBelow}
 use Rattle.plane.specs.Mask.{isOn, maskOf}
 use Rattle.plane.specs.Refusal.{refusalOf}
+use Rattle.plane.proofs.Refusal.{and-true}
 use Rattle.plane.proofs.Search.{none-found, or-true, not-both}
 use Rattle.squares.specs.Squares.{inSquare}
 use Rattle.colour.specs.declared.Settings.{Settings}
@@ -22,14 +24,15 @@ use Rattle.colour.specs.Number.{zero64, one64, absOf, plusZero, halfOf}
 use Rattle.colour.specs.Colour.{differenceOf, closeTo, colourOk, coloursOk, sameColour}
 use Rattle.colour.specs.Settings.{onOf, passesOf}
 use Rattle.median.specs.Median.{insert, sorted, placed, lowerMiddle, upperMiddle, medianOf}
-use Rattle.outline.specs.Border.{rowPixels, innerColumn, borderList, listed, onBorder, channelAt, colourAt, referenceChannel, referenceOf}
+use Rattle.outline.specs.Border.{rowPixels, innerColumn, borderList, listed, onBorder, channelAt, colourAt, referenceChannel}
+use Rattle.outline.specs.Border.{referenceOf}
 use Rattle.outline.specs.Ground.{isClose, closePlane, groundOf}
 use Rattle.outline.specs.Growth.{nearGround}
 use Rattle.outline.specs.Cut.{alphaMask}
 use Rattle.outline.specs.Refusal.{workTests, cutLengths, pictureTests, cutRefusal}
 use Rattle.outline.specs.Calls.{Buffers, refusalIn}
 use Rattle.outline.specs.Premises.{sameTolerance, SameSettings, AgreeAt, reachOf, Agree, SameLengths, TwoCalls, TwoPictures}
-use Rattle.outline.proofs.Masks.{near-found, near-is}
+use Rattle.outline.proofs.Masks.{near-mono}
 use Rattle.outline.proofs.GroundLaws.{ground-close}
 use Rattle.outline.proofs.TwoPictures.{two-pictures}
 
@@ -58,13 +61,16 @@ alpha = replicate (side * side) 255
 
 -- threshold 128, keying, p = 1, tolerance 0, cropping
 abbrev pub settings : Settings
-settings = record { «alpha_threshold» = pos 128; «key_bg» = true; «key_bg_fringe» = pos 1; «key_bg_tolerance» = zero64; «crop_to_alpha» = true }
+settings =
+    record { «alpha_threshold» = pos 128; «key_bg» = true; «key_bg_fringe» = pos 1; «key_bg_tolerance» = zero64; «crop_to_alpha» = true }
 
 abbrev pub lines : List ℕ
 lines = replicate (2 * (side * side) + 2 * (side + side) + 16) 0
 
 pub buffers : Buffers
-buffers = record { mask = replicate (side * side) 0; weights = replicate (side * side) zero64; nearest = lines; shallow = lines; deep = lines; marks = lines }
+buffers =
+    let n = side * side in
+    record { mask = replicate n 0; weights = replicate n zero64; nearest = lines; shallow = lines; deep = lines; marks = lines }
 
 -- the close pixels of the first picture
 close : List ℕ
@@ -74,7 +80,8 @@ close = closePlane one side side (referenceOf one side side) zero64
 
 -- the call is accepted
 accepted : refusalIn one alpha side side settings buffers ≡ 0
-unfolding grey pictureOf alpha buffers table cutRefusal cutLengths workTests pictureTests refusalOf coloursOk colourOk someBelow isOn maskOf alphaMask onOf on bit le lt rowPixels innerColumn borderList listed onBorder
+unfolding grey pictureOf alpha buffers table cutRefusal cutLengths workTests pictureTests refusalOf coloursOk colourOk someBelow isOn
+    maskOf alphaMask onOf on bit le lt rowPixels innerColumn borderList listed onBorder
 accepted = refl
 
 ranges : coloursOk two ≡ true
@@ -83,10 +90,14 @@ ranges = refl
 
 -- a pixel where the pictures differ is neither on the border nor within the reach of a close pixel
 apartAt : ℕ → Bool
-apartAt i = sameColour (colourAt one i) (colourAt two i) || (not (onBorder side side i) && not (nearGround close side side (reachOf settings) i))
+apartAt i =
+    sameColour (colourAt one i) (colourAt two i) || (not (onBorder side side i) && not (nearGround close side side (reachOf settings) i))
 
 all-apart : someBelow (side * side) (λ (i : ℕ). not (apartAt i)) ≡ false
-unfolding apartAt grey pictureOf close table someBelow sameColour colourAt channelAt onBorder listed borderList rowPixels innerColumn nearGround inSquare onAt apart within on bit closePlane isClose closeTo differenceOf absOf Rattle.colour.specs.Number.larger passesOf referenceOf referenceChannel medianOf sorted insert placed lowerMiddle upperMiddle plusZero halfOf lt le eq add sub mul div neg
+unfolding apartAt grey pictureOf close table someBelow sameColour colourAt channelAt onBorder listed borderList rowPixels innerColumn
+    nearGround inSquare onAt apart within on bit closePlane isClose closeTo differenceOf absOf Rattle.colour.specs.Number.larger
+    passesOf referenceOf referenceChannel medianOf sorted insert placed lowerMiddle upperMiddle plusZero halfOf lt le eq add sub mul div
+    neg
 all-apart = refl
 
 -- they differ at the middle pixel, which is exactly p + 5 from a close pixel
@@ -95,39 +106,30 @@ unfolding grey pictureOf table sameColour colourAt channelAt onBorder listed bor
 differ = refl
 
 exactly : nearGround close side side (reachOf settings + 1) middle ≡ true
-unfolding grey pictureOf close table someBelow colourAt channelAt onBorder listed borderList rowPixels innerColumn nearGround inSquare onAt apart within on bit closePlane isClose closeTo differenceOf absOf Rattle.colour.specs.Number.larger passesOf referenceOf referenceChannel medianOf sorted insert placed lowerMiddle upperMiddle plusZero halfOf lt le eq add sub mul div neg
+unfolding grey pictureOf close table someBelow colourAt channelAt onBorder listed borderList rowPixels innerColumn nearGround inSquare
+    onAt apart within on bit closePlane isClose closeTo differenceOf absOf Rattle.colour.specs.Number.larger passesOf referenceOf
+    referenceChannel medianOf sorted insert placed lowerMiddle upperMiddle plusZero halfOf lt le eq add sub mul div neg
 exactly = refl
 
 -- ---- the premises are met
 
-not-not : (t : Bool) → not t ≡ false → t ≡ true
-not-not true e = refl
-not-not false e = not-both false (sym e) refl
-
-apart-at : (i : ℕ) → i < side * side → apartAt i ≡ true
-apart-at i l = not-not (apartAt i) (none-found (λ (k : ℕ). not (apartAt k)) (side * side) all-apart i l)
-
 -- the ground is close, so what is near the ground is near a close pixel
-near-close : (k i : ℕ) → nearGround (groundOf one side side (referenceOf one side side) zero64) side side k i ≡ true → nearGround close side side k i ≡ true
+near-close : (k i : ℕ) → nearGround (groundOf one side side (referenceOf one side side) zero64) side side k i ≡ true
+    → nearGround close side side k i ≡ true
 unfolding groundOf close
-near-close k i e =
-    let s = near-found e in
-    near-is (omega arith) (record { site = s .site; inside = s .inside; lit = ground-close _ side side (s .site) (s .lit); rows = s .rows; columns = s .columns })
+near-close = near-mono _ _ side side (omega arith) (λ j l t. ground-close _ side side j t)
 
-both : (a b : Bool) → not a && not b ≡ true → (a ≡ false) × (b ≡ false)
-both true b e = not-both false e refl
-both false true e = not-both false e refl
-both false false e = (refl, refl)
-
-agrees : (i : ℕ) → i < side * side → (onBorder side side i ≡ true) ⊎ (nearGround close side side (reachOf settings) i ≡ true) → AgreeAt one two i
+agrees : (i : ℕ) → i < side * side → (onBorder side side i ≡ true) ⊎ (nearGround close side side (reachOf settings) i ≡ true)
+    → AgreeAt one two i
 unfolding apartAt
 agrees i l t =
     ⊎-elim {C = AgreeAt one two i}
     (λ (e : sameColour (colourAt one i) (colourAt two i) ≡ true). e)
     (λ (e : not (onBorder side side i) && not (nearGround close side side (reachOf settings) i) ≡ true).
-    let z = both (onBorder side side i) (nearGround close side side (reachOf settings) i) e in
-    ⊎-elim {C = AgreeAt one two i} (λ (b : onBorder side side i ≡ true). not-both _ b (z .0)) (λ (b : nearGround close side side (reachOf settings) i ≡ true). not-both _ b (z .1)) t)
-    (or-true (sameColour (colourAt one i) (colourAt two i)) _ (apart-at i l))
+    let z = and-true _ _ e in
+    ⊎-elim {C = AgreeAt one two i} (λ b. not-both _ b (not-true _ (z .0))) (λ b. not-both _ b (not-true _ (z .1))) t)
+    (or-true (sameColour (colourAt one i) (colourAt two i)) _
+    (not-false (apartAt i) (none-found (λ (k : ℕ). not (apartAt k)) (side * side) all-apart i l)))
 
 agree : Agree one two side side settings
 agree = record { border = λ i l e. agrees i l (inl e); around = λ i l e. agrees i l (inr (near-close (reachOf settings) i e)) }

@@ -2,23 +2,21 @@
 -- last in this file.
 -- Assumes nothing.
 use mathlib.Core.Path.{_≡_, refl, sym, ap, _∙_}
-use mathlib.Core.Bool.{Bool, true, false, cond, not, _&&_}
+use mathlib.Core.Bool.{true, false, _&&_}
 use mathlib.Core.List.{List}
 use mathlib.Core.Logic.{⊎-elim}
 use Prim.Native.Nat.{ℕ, _+_, _*_, _≤_, _<_}
 use native.Mathlib.Omega.{arith}
-use lib.IntN.{ℤ}
 use lib.Dec.{T}
-use lib.ListN.{length, getD}
+use lib.ListN.{length}
 use lib.Ieee.{Float, nan, inf, fin, binary64, eq, isNan, fits}
 use lib.Ieee.Scale.{finite}
 use Rattle.plane.proofs.Search.{or-true, not-both}
 use Rattle.plane.proofs.Refusal.{and-true}
-use Rattle.plane.specs.Mask.{isOn, maskOf}
 use Rattle.colour.specs.declared.Rgb.{Rgb}
 use Rattle.colour.specs.declared.Settings.{Settings}
 use Rattle.colour.specs.Number.{Binary64}
-use Rattle.colour.specs.Settings.{onOf, passesOf}
+use Rattle.colour.specs.Settings.{passesOf}
 use Rattle.colour.proofs.Range.{is}
 use Rattle.colour.proofs.Zero.{plus0, Alike, eq-alike}
 use Rattle.colour.proofs.Same.{Held, same-colour}
@@ -30,9 +28,9 @@ use Rattle.outline.specs.Refusal.{workTests, cutLengths, pictureTests, c
 use Rattle.outline.specs.Calls.{Buffers, refusalIn, HeldIn}
 use Rattle.outline.specs.Premises.{sameTolerance, AgreeAt, TwoCalls, TwoPictures}
 use Rattle.outline.proofs.Masks.{near-found, near-is, within-more}
-use Rattle.outline.proofs.Borders.{border-inside}
+use Rattle.outline.proofs.Borders.{border-inside, reference-same}
 use Rattle.outline.proofs.CutLaws.{Taken, taken}
-use Rattle.outline.proofs.Pictures.{Same, references, grounds, found-alike, growths}
+use Rattle.outline.proofs.Pictures.{Same, grounds, found-alike, growths}
 
 -- ---- tolerances
 
@@ -42,17 +40,17 @@ no-number nan q = refl
 no-number (inf s) q = absurd (is (isNan (inf s)) q)
 no-number (fin s m d) q = absurd (is (isNan (fin s m d)) q)
 
-both-no-number : (t u : Float) → isNan t && isNan u ≡ true → t ≡ u
-both-no-number t u q = let z = and-true (isNan t) (isNan u) q in no-number t (z .0) ∙ sym (no-number u (z .1))
-
--- equal tolerances that are held as binary64 numbers are the same number, up to the sign of a zero
-tolerance-alike : (t u : Float) → T (fits binary64 t) → T (fits binary64 u) → sameTolerance t u ≡ true → Alike t u
+-- equal tolerances are equal as numbers, or both no number
+same-cases : {C : Type 0} (t u : Float) → (eq t u ≡ true → C) → (t ≡ u → C) → sameTolerance t u ≡ true → C
 unfolding sameTolerance
-tolerance-alike t u a b e =
-    ⊎-elim {C = Alike t u}
-    (λ (q : eq t u ≡ true). eq-alike binary64 t u a b (is (eq t u) q))
-    (λ (q : isNan t && isNan u ≡ true). ap plus0 (both-no-number t u q))
+same-cases {C} t u f g e =
+    ⊎-elim {C = C} f
+    (λ (q : isNan t && isNan u ≡ true). (let z = and-true _ _ q in g (no-number t (z .0) ∙ sym (no-number u (z .1)))))
     (or-true (eq t u) (isNan t && isNan u) e)
+
+-- held as binary64 numbers they are the same number, up to the sign of a zero
+tolerance-alike : (t u : Float) → T (fits binary64 t) → T (fits binary64 u) → sameTolerance t u ≡ true → Alike t u
+tolerance-alike t u a b = same-cases t u (λ q. eq-alike binary64 t u a b (is (eq t u) q)) (ap plus0)
 
 -- equal tolerances are finite alike
 eq-finite : (t u : Float) → eq t u ≡ true → finite t ≡ finite u
@@ -66,9 +64,7 @@ eq-finite (fin s m d) (inf r) e = not-both false e refl
 eq-finite (fin s m d) (fin r n k) e = refl
 
 finite-alike : (t u : Float) → sameTolerance t u ≡ true → finite t ≡ finite u
-unfolding sameTolerance
-finite-alike t u e =
-    ⊎-elim {C = finite t ≡ finite u} (eq-finite t u) (λ (q : isNan t && isNan u ≡ true). ap finite (both-no-number t u q)) (or-true (eq t u) (isNan t && isNan u) e)
+finite-alike t u = same-cases t u (eq-finite t u) (ap finite)
 
 -- ---- agreeing pictures have the same colours, as numbers
 
@@ -78,14 +74,8 @@ colour-held colours n i a e l = record { r = a (3 * i + 0) (omega arith); g = a 
 
 -- ---- the cut
 
-cond-same : {A : Type 0} (b c : Bool) (x x′ y y′ : A) → b ≡ c → x ≡ x′ → y ≡ y′ → cond b x y ≡ cond c x′ y′
-cond-same b c x x′ y y′ e p q = rw (e, p, q)
-
-alpha-same : (alpha : List ℕ) (n : ℕ) (s t : Settings) → s .«alpha_threshold» ≡ t .«alpha_threshold» → alphaMask alpha n s ≡ alphaMask alpha n t
-unfolding alphaMask
-alpha-same alpha n s t e = ap (λ (z : ℤ). maskOf n (λ (i : ℕ). onOf (getD alpha i 0) z)) e
-
-module _ (one two : List Float) (alpha : List ℕ) (h w : ℕ) (s t : Settings) (b c : Buffers) (calls : TwoCalls one two alpha h w s t b c) where
+module _ (one two : List Float) (alpha : List ℕ) (h w : ℕ) (s t : Settings) (b c : Buffers)
+    (calls : TwoCalls one two alpha h w s t b c) where
   abbrev tol : Float
   tol = s .«key_bg_tolerance»
 
@@ -96,7 +86,8 @@ module _ (one two : List Float) (alpha : List ℕ) (h w : ℕ) (s t : Settings) 
   ref = referenceOf one h w
 
   alphas : alphaMask alpha (h * w) s ≡ alphaMask alpha (h * w) t
-  alphas = alpha-same alpha (h * w) s t (calls .settings .threshold)
+  unfolding alphaMask
+  alphas = rw (calls .settings .threshold)
 
   -- the numbers are equal, whatever the pictures show
   refusals : refusalIn one alpha h w s b ≡ refusalIn two alpha h w t c
@@ -104,8 +95,17 @@ module _ (one two : List Float) (alpha : List ℕ) (h w : ℕ) (s t : Settings) 
   refusals =
       let l = calls .lengths in
       rw (
-        calls .sizes, calls .in-range, calls .in-range′, finite-alike tol tol′ (calls .settings .tolerance), alphas,
-        l .mask, l .weights, l .nearest, l .shallow, l .deep, l .marks,
+        calls .sizes,
+        calls .in-range,
+        calls .in-range′,
+        finite-alike tol tol′ (calls .settings .tolerance),
+        alphas,
+        l .mask,
+        l .weights,
+        l .nearest,
+        l .shallow,
+        l .deep,
+        l .marks,
       )
 
   -- where the first call is accepted, and both are lent binary64 numbers, as every accepted call is
@@ -131,16 +131,13 @@ module _ (one two : List Float) (alpha : List ℕ) (h w : ℕ) (s t : Settings) 
     border : (i : ℕ) → onBorder h w i ≡ true → Same one two h w tall wide i
     border i e = let l = border-inside h w tall wide i e in agreed i l (calls .agree good .border i l e)
 
-    around : (k : ℕ) → k ≤ passesOf s + 4 → (i : ℕ) → i < h * w → nearGround (groundOf one h w ref tol) h w k i ≡ true → Same one two h w tall wide i
+    around : (k : ℕ) → k ≤ passesOf s + 4 → (i : ℕ) → i < h * w → nearGround (groundOf one h w ref tol) h w k i ≡ true
+        → Same one two h w tall wide i
     around k m i l e = agreed i l (calls .agree good .around i l (near-is wide (within-more (omega arith) (near-found e))))
 
-    sought : isSought alpha (h * w) s ≡ isSought alpha (h * w) t
-    unfolding isSought
-    sought = rw (alphas, calls .settings .keying)
-
     keyed : isKeyed one alpha h w ref s ≡ isKeyed two alpha h w ref t
-    unfolding isKeyed
-    keyed = rw (sought, found-alike one two h w tall wide ref tol tol′ tolerances border (around 1 (omega arith)))
+    unfolding isKeyed isSought
+    keyed = rw (alphas, calls .settings .keying, found-alike one two h w tall wide ref tol tol′ tolerances border (around 1 (omega arith)))
 
     grown : grownGround one h w ref s ≡ grownGround two h w ref t
     unfolding grownGround
@@ -151,11 +148,11 @@ module _ (one two : List Float) (alpha : List ℕ) (h w : ℕ) (s t : Settings) 
 
     masks : cutMask one alpha h w ref s ≡ cutMask two alpha h w ref t
     unfolding cutMask
-    masks = cond-same _ _ _ _ _ _ keyed (ap (λ (g : List ℕ). maskOf (h * w) (λ (i : ℕ). not (isOn g i))) grown) alphas
+    masks = rw (keyed, grown, alphas)
 
     cuts : cutOf one alpha h w (referenceOf one h w) s ≡ cutOf two alpha h w (referenceOf two h w) t
     unfolding cutOf
-    cuts = rw (← references one two h w tall wide border, masks, keyed, calls .settings .cropping)
+    cuts = rw (← reference-same one two h w border, masks, keyed, calls .settings .cropping)
 
 -- ---- the theorem
 

@@ -7,7 +7,8 @@ use lib.Dec.{T, eqb}
 use lib.ListN.{replicate}
 use Rattle.plane.specs.Refusal.{refusalOf}
 use Rattle.text.specs.Decimal.{isDigit, digitsUpto, valueFrom, numberUpto}
-use Rattle.pam.specs.Header.{widthText, heightText, startsAt, isNumber, middleAt, heightAt, tailAt, bodyAt, widthOf, heightOf, headerOk}
+use Rattle.pam.specs.Header.{widthText, heightText, startsAt, isNumber, middleAt, heightAt, tailAt, bodyAt}
+use Rattle.pam.specs.Header.{widthOf, heightOf, headerOk}
 use Rattle.pam.specs.HeaderText.{headerText}
 use Rattle.pam.specs.Picture.{pixelsOf}
 use Rattle.pam.specs.steps.File.{fileRefusal}
@@ -42,5 +43,6 @@ cases =
     ∷ []
 
 cases-hold : T (all cases)
-unfolding cases all white five refusalOf isDigit digitsUpto valueFrom numberUpto startsAt isNumber middleAt heightAt tailAt bodyAt widthOf heightOf headerOk headerText pixelsOf fileRefusal
+unfolding cases all white five isDigit digitsUpto valueFrom numberUpto
+    startsAt isNumber middleAt heightAt tailAt bodyAt widthOf heightOf headerOk headerText pixelsOf refusalOf fileRefusal
 cases-hold = tt

@@ -10,13 +10,14 @@ use native.Mathlib.Omega.{arith}
 use lib.Dec.{eqb, leb}
 use lib.ListN.{length, getD, take, drop, length-take}
 use lib.Seq.{drop-cons, length-take-le, getD-take}
-use borrow.Author.Tests.{eq-eqb, ne-eqb, le-leb, lt-leb, leb-true, eqb-true, eqb-false, not-true}
+use borrow.Author.Tests.{ne-eqb, leb-true, eqb-true, eqb-false, not-true}
 use Rattle.plane.specs.Refusal.{refusalOf}
 use Rattle.plane.proofs.Search.{either}
 use Rattle.plane.proofs.Refusal.{and-true, passed}
 use Rattle.text.specs.Decimal.{isDigit, valueFrom, valueOf, digitsUpto, numberUpto}
 use Rattle.text.proofs.Decimal.{digit-is, digit-inside, digits-most, value-below, stand}
-use Rattle.pam.specs.Header.{widthText, heightText, tailText, startsAt, mostDigits, digitsAt, isNumber, widthAt, middleAt, heightAt, tailAt, bodyAt, widthOf, heightOf, headerOk}
+use Rattle.pam.specs.Header.{widthText, heightText, tailText, startsAt, mostDigits, digitsAt, isNumber}
+use Rattle.pam.specs.Header.{widthAt, middleAt, heightAt, tailAt, bodyAt, widthOf, heightOf, headerOk}
 use Rattle.pam.specs.Picture.{mostPixels, mostInput, pixelsOf, fileTests}
 use Rattle.pam.specs.steps.File.{fileRefusal}
 
@@ -67,24 +68,6 @@ unfolding fileRefusal
 file-ok input e =
     let t = passed (fileTests input) refl e in
     record { header-ok = t .0; few = leb-true _ _ (t .1 .0); long = eqb-true _ _ (t .1 .1 .0) }
-
--- the number, test by test
-module _ (input : List ℕ) where
-  pub number-8 : headerOk input ≡ false → 8 ≡ fileRefusal input
-  unfolding fileRefusal refusalOf
-  number-8 e = rw e
-
-  pub number-10 : headerOk input ≡ true → mostPixels < pixelsOf input → 10 ≡ fileRefusal input
-  unfolding fileRefusal refusalOf
-  number-10 e l = rw (e, lt-leb _ _ l)
-
-  pub number-9 : headerOk input ≡ true → pixelsOf input ≤ mostPixels → (length input ≡ bodyAt input + 4 * pixelsOf input → ⊥) → 9 ≡ fileRefusal input
-  unfolding fileRefusal refusalOf
-  number-9 e l d = rw (e, le-leb _ _ l, ne-eqb _ _ d)
-
-  pub number-0 : headerOk input ≡ true → pixelsOf input ≤ mostPixels → length input ≡ bodyAt input + 4 * pixelsOf input → 0 ≡ fileRefusal input
-  unfolding fileRefusal refusalOf
-  number-0 e l d = rw (e, le-leb _ _ l, eq-eqb _ _ d)
 
 -- the parts of a header
 pub record HeaderParts (input : List ℕ) : Type 0 where
@@ -230,7 +213,8 @@ unfolding fileRefusal longRefusal refusalOf
 long-number input l =
     ⊎-elim {C = fileRefusal input ≡ longRefusal input}
     (λ (t : leb (pixelsOf input) mostPixels ≡ true).
-    rw (ne-eqb (length input) (bodyAt input + 4 * pixelsOf input) (λ e. omega (arith, e, body-most input, leb-true (pixelsOf input) mostPixels t))))
+    let few = leb-true (pixelsOf input) mostPixels t in
+    rw (ne-eqb (length input) (bodyAt input + 4 * pixelsOf input) (λ e. omega (arith, e, body-most input))))
     (λ (t : leb (pixelsOf input) mostPixels ≡ false). rw t)
     (either (leb (pixelsOf input) mostPixels))
 

@@ -15,7 +15,8 @@ use Rattle.plane.proofs.Search.{which}
 use Rattle.plane.proofs.Refusal.{and-true}
 use Rattle.text.specs.Decimal.{isDigit, allDigits, valueOf, digitsUpto, numberUpto}
 use Rattle.text.proofs.Decimal.{digits-most, stand}
-use Rattle.pam.specs.Header.{widthText, heightText, tailText, startsAt, mostDigits, digitsAt, isNumber, widthAt, middleAt, heightAt, tailAt, bodyAt, widthOf, heightOf, headerOk}
+use Rattle.pam.specs.Header.{widthText, heightText, tailText, startsAt, mostDigits, digitsAt, isNumber}
+use Rattle.pam.specs.Header.{widthAt, middleAt, heightAt, tailAt, bodyAt, widthOf, heightOf, headerOk}
 use Rattle.pam.specs.HeaderText.{Numeral, headerText}
 use Rattle.pam.proofs.Files.{header-parts}
 
@@ -40,9 +41,11 @@ module _ (input : List ℕ) where
   starts-is : (text rest : List ℕ) (at : ℕ) → drop at input ≡ text ++ rest → startsAt input at text ≡ true
   unfolding startsAt
   starts-is [] rest at e = refl
-  starts-is (b ∷ text) rest at e = rw (eq-eqb _ _ (byte-is at b (text ++ rest) e)) (starts-is text rest (suc at) (drop-one at b (text ++ rest) e))
+  starts-is (b ∷ text) rest at e =
+      rw (eq-eqb _ _ (byte-is at b (text ++ rest) e)) (starts-is text rest (suc at) (drop-one at b (text ++ rest) e))
 
-  digits-is : (k : ℕ) (l rest : List ℕ) (at : ℕ) → drop at input ≡ l ++ rest → allDigits l ≡ true → length l ≤ k → isDigit (getD rest 0 0) ≡ false → digitsUpto k input at ≡ length l
+  digits-is : (k : ℕ) (l rest : List ℕ) (at : ℕ) → drop at input ≡ l ++ rest → allDigits l ≡ true → length l ≤ k
+      → isDigit (getD rest 0 0) ≡ false → digitsUpto k input at ≡ length l
   unfolding digitsUpto allDigits
   digits-is zero [] rest at e d f z = refl
   digits-is (suc k) [] rest at e d f z = rw (byte-first at ∙ ap (λ (q : List ℕ). getD q 0 0) e, z)
@@ -83,32 +86,6 @@ split w h rest =
     ∙ append-assoc (widthText ++ w) heightText (h ++ (tailText ++ rest))
     ∙ append-assoc widthText w (heightText ++ (h ++ (tailText ++ rest)))
 
--- the places and the numbers, opened
-module _ (input : List ℕ) where
-  middle-place : middleAt input ≡ widthAt + digitsAt input widthAt
-  unfolding middleAt
-  middle-place = refl
-
-  height-place : heightAt input ≡ middleAt input + 8
-  unfolding heightAt
-  height-place = refl
-
-  tail-place : tailAt input ≡ heightAt input + digitsAt input (heightAt input)
-  unfolding tailAt
-  tail-place = refl
-
-  body-place : bodyAt input ≡ tailAt input + 46
-  unfolding bodyAt
-  body-place = refl
-
-  width-value : widthOf input ≡ numberUpto mostDigits input widthAt
-  unfolding widthOf
-  width-value = refl
-
-  height-value : heightOf input ≡ numberUpto mostDigits input (heightAt input)
-  unfolding heightOf
-  height-value = refl
-
 -- a line's end is no digit
 newline-ends : isDigit 10 ≡ false
 unfolding isDigit
@@ -118,17 +95,8 @@ header-long : (w h : List ℕ) → length (headerText w h) ≡ 63 + length w + l
 unfolding headerText
 header-long w h = simp length-append (omega arith)
 
-all-five : (input : List ℕ)
-    → startsAt input 0 widthText ≡ true
-    → isNumber input widthAt ≡ true
-    → startsAt input (middleAt input) heightText ≡ true
-    → isNumber input (heightAt input) ≡ true
-    → startsAt input (tailAt input) tailText ≡ true
-    → headerOk input ≡ true
-unfolding headerOk
-all-five input a b c d e = rw (a, b, c, d, e)
-
 pub header-accepted : (w h rest : List ℕ) → Numeral w → Numeral h → HeaderIs (headerText w h ++ rest) w h
+unfolding headerOk middleAt heightAt tailAt bodyAt widthOf heightOf
 header-accepted w h rest m n =
     let input = headerText w h ++ rest in
     let r4 = tailText ++ rest in
@@ -137,18 +105,22 @@ header-accepted w h rest m n =
     let e0 : drop 0 input ≡ widthText ++ (w ++ r2) = split w h rest in
     let e1 : drop widthAt input ≡ w ++ r2 = drop-more input 0 widthText (w ++ r2) e0 in
     let c1 = count-is input w r2 widthAt e1 m newline-ends in
-    let a2 : middleAt input ≡ widthAt + length w = middle-place input ∙ ap (λ (k : ℕ). widthAt + k) c1 in
-    let e2 : drop (middleAt input) input ≡ heightText ++ r3 = ap (λ (k : ℕ). drop k input) a2 ∙ drop-more input widthAt w r2 e1 in
-    let e3 : drop (heightAt input) input ≡ h ++ r4 = ap (λ (k : ℕ). drop k input) (height-place input) ∙ drop-more input (middleAt input) heightText r3 e2 in
+    let e2 : drop (middleAt input) input ≡ heightText ++ r3 = rw c1 (drop-more input widthAt w r2 e1) in
+    let e3 : drop (heightAt input) input ≡ h ++ r4 = drop-more input (middleAt input) heightText r3 e2 in
     let c3 = count-is input h r4 (heightAt input) e3 n newline-ends in
-    let a4 : tailAt input ≡ heightAt input + length h = tail-place input ∙ ap (λ (k : ℕ). heightAt input + k) c3 in
-    let e4 : drop (tailAt input) input ≡ tailText ++ rest = ap (λ (k : ℕ). drop k input) a4 ∙ drop-more input (heightAt input) h r4 e3 in
+    let e4 : drop (tailAt input) input ≡ tailText ++ rest = rw c3 (drop-more input (heightAt input) h r4 e3) in
     record {
       accepted =
-          all-five input (starts-is input widthText (w ++ r2) 0 e0) (number-is input w r2 widthAt e1 m newline-ends) (starts-is input heightText r3 (middleAt input) e2) (number-is input h r4 (heightAt input) e3 n newline-ends) (starts-is input tailText rest (tailAt input) e4);
-      width-is = width-value input ∙ number-value input w r2 widthAt e1 m newline-ends;
-      height-is = height-value input ∙ number-value input h r4 (heightAt input) e3 n newline-ends;
-      body-is = omega (arith, header-long w h, height-place input, body-place input);
+          rw (
+            starts-is input widthText (w ++ r2) 0 e0,
+            number-is input w r2 widthAt e1 m newline-ends,
+            starts-is input heightText r3 (middleAt input) e2,
+            number-is input h r4 (heightAt input) e3 n newline-ends,
+            starts-is input tailText rest (tailAt input) e4,
+          );
+      width-is = number-value input w r2 widthAt e1 m newline-ends;
+      height-is = number-value input h r4 (heightAt input) e3 n newline-ends;
+      body-is = omega (arith, header-long w h);
     }
 
 -- ---- an input that is accepted starts with a header
@@ -161,9 +133,13 @@ module _ (input : List ℕ) where
   -- past the end there is no byte but 0
   inside : (at b : ℕ) → getD input at 0 ≡ b → (b ≡ 0 → ⊥) → at < length input
   inside at b e z =
-      ⊎-elim {C = at < length input} (λ (l : at < length input). l) (λ (l : length input ≤ at). absurd (z (sym e ∙ List·getD-eq-default input 0 l))) (which at (length input))
+      ⊎-elim {C = at < length input}
+      (λ (l : at < length input). l)
+      (λ (l : length input ≤ at). absurd (z (sym e ∙ List·getD-eq-default input 0 l)))
+      (which at (length input))
 
-  starts-split : (text : List ℕ) (at : ℕ) → noZero text ≡ true → startsAt input at text ≡ true → drop at input ≡ text ++ drop (at + length text) input
+  starts-split : (text : List ℕ) (at : ℕ) → noZero text ≡ true → startsAt input at text ≡ true
+      → drop at input ≡ text ++ drop (at + length text) input
   unfolding noZero startsAt
   starts-split [] at t e = ap (λ (k : ℕ). drop k input) (sym (add-zero at))
   starts-split (b ∷ text) at t e =
@@ -183,7 +159,8 @@ module _ (input : List ℕ) where
   there-split : (at : ℕ) → drop at input ≡ there at ++ drop (at + digitsAt input at) input
   unfolding there
   there-split at =
-      sym (take-append-drop (digitsAt input at) (drop at input)) ∙ ap (λ (q : List ℕ). there at ++ q) (drop-drop (digitsAt input at) at input)
+      let n = digitsAt input at in
+      sym (take-append-drop n (drop at input)) ∙ ap (λ (q : List ℕ). there at ++ q) (drop-drop n at input)
 
   there-long : (at : ℕ) → 1 ≤ digitsAt input at → length (there at) ≡ digitsAt input at
   unfolding there
@@ -196,8 +173,8 @@ module _ (input : List ℕ) where
       let n = leb-true 1 (digitsAt input at) (a .0) in
       let m = there-long at n in
       let l : 1 ≤ length (there at) = rw m n in
-      let b : getD input at 0 ≡ getD (there at) 0 0 =
-      byte-first input at ∙ ap (λ (q : List ℕ). getD q 0 0) (there-split at) ∙ List·getD-append (there at) (drop (at + digitsAt input at) input) 0 0 l in
+      let first = ap (λ (q : List ℕ). getD q 0 0) (there-split at) ∙ List·getD-append (there at) _ 0 0 l in
+      let b : getD input at 0 ≡ getD (there at) 0 0 = byte-first input at ∙ first in
       record {
         digits = stand input mostDigits at .all;
         some = l;
@@ -219,6 +196,7 @@ unfolding noZero
 texts-some = (refl, refl, refl)
 
 pub header-means : (input : List ℕ) → headerOk input ≡ true → HasHeader input
+unfolding middleAt heightAt tailAt
 header-means input o =
     let p = header-parts input o in
     let w = there input widthAt in
@@ -226,18 +204,17 @@ header-means input o =
     let rest = drop (tailAt input + 46) input in
     let e4 : drop (tailAt input) input ≡ tailText ++ rest = starts-split input tailText (tailAt input) (texts-some .2) (p .last-text) in
     let e3 : drop (heightAt input) input ≡ h ++ (tailText ++ rest) =
-    there-split input (heightAt input) ∙ ap (λ (k : ℕ). h ++ drop k input) (sym (tail-place input)) ∙ ap (λ (q : List ℕ). h ++ q) e4 in
+    there-split input (heightAt input) ∙ ap (λ (q : List ℕ). h ++ q) e4 in
     let e2 : drop (middleAt input) input ≡ heightText ++ (h ++ (tailText ++ rest)) =
-    starts-split input heightText (middleAt input) (texts-some .1) (p .middle-text)
-    ∙ ap (λ (k : ℕ). heightText ++ drop k input) (sym (height-place input))
-    ∙ ap (λ (q : List ℕ). heightText ++ q) e3 in
+    starts-split input heightText (middleAt input) (texts-some .1) (p .middle-text) ∙ ap (λ (q : List ℕ). heightText ++ q) e3 in
     let e1 : drop widthAt input ≡ w ++ (heightText ++ (h ++ (tailText ++ rest))) =
-    there-split input widthAt ∙ ap (λ (k : ℕ). w ++ drop k input) (sym (middle-place input)) ∙ ap (λ (q : List ℕ). w ++ q) e2 in
+    there-split input widthAt ∙ ap (λ (q : List ℕ). w ++ q) e2 in
+    let e0 = starts-split input widthText 0 (texts-some .0) (p .first-text) ∙ ap (λ (q : List ℕ). widthText ++ q) e1 in
     record {
       width = w;
       height = h;
       rest = rest;
       width-numeral = numeral input widthAt (p .width-there);
       height-numeral = numeral input (heightAt input) (p .height-there);
-      input-is = starts-split input widthText 0 (texts-some .0) (p .first-text) ∙ ap (λ (q : List ℕ). widthText ++ q) e1 ∙ sym (split w h rest);
+      input-is = e0 ∙ sym (split w h rest);
     }

@@ -12,7 +12,8 @@ use borrow.Author.Tests.{eq-eqb, ne-eqb}
 use Rattle.pam.specs.Header.{startsAt}
 
 module _ (input text : List ℕ) (at i : ℕ) where
-  pub starts-more : i < length text → getD input (at + i) 0 ≡ getD text i 0 → startsAt input (at + i) (drop i text) ≡ startsAt input (at + (i + 1)) (drop (i + 1) text)
+  pub starts-more : i < length text → getD input (at + i) 0 ≡ getD text i 0
+      → startsAt input (at + i) (drop i text) ≡ startsAt input (at + (i + 1)) (drop (i + 1) text)
   unfolding startsAt
   starts-more l e =
       ap (startsAt input (at + i)) (drop-cons text i 0 l)

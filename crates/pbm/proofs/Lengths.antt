@@ -16,7 +16,8 @@ pub pair-long : (a b : ℕ) → length (pairText a b) ≡ length (decimal a) + 1
 unfolding pairText
 pair-long a b = simp length-append (omega arith)
 
-pub crop-long : (b : Box) (keyed : Bool) → length (cropLines b keyed) ≡ length (pairText (b .y0) (b .y1)) + length (pairText (b .x0) (b .x1)) + 20
+pub crop-long : (b : Box) (keyed : Bool)
+    → length (cropLines b keyed) ≡ length (pairText (b .y0) (b .y1)) + length (pairText (b .x0) (b .x1)) + 20
 unfolding cropLines keyedEnd
 crop-long b keyed = simp length-append (omega arith)
 

@@ -31,7 +31,8 @@ module _ {A : Type 0} (d : A) (f : ℕ → A) (old : List A) where
   }
 
   -- at the end, or where f is already there behind x, the buffer is the table of f
-  pub changed-all : (new : List A) (x : ℕ) → Changed new x → ((i : ℕ) → x ≤ i → i < length old → getD old i d ≡ f i) → new ≡ table f 0 (length old)
+  pub changed-all : (new : List A) (x : ℕ) → Changed new x → ((i : ℕ) → x ≤ i → i < length old → getD old i d ≡ f i)
+      → new ≡ table f 0 (length old)
   changed-all new x p h =
       table-is f (length old) new d (p .size)
       (λ i l. ⊎-elim {C = getD new i d ≡ f i} (λ (a : i < x). p .front i a) (λ (a : x ≤ i). p .back i a ∙ h i a l) (which i x))

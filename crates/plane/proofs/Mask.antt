@@ -76,5 +76,6 @@ unfolding onAt isOn
 row-on mask w y x = refl
 
 -- masks with the same pixels on, by index, have them on by row and column
-pub rows-alike : (a b : List ℕ) (h w : ℕ) → ((i : ℕ) → i < h * w → isOn a i ≡ isOn b i) → (y x : ℕ) → y < h → x < w → onAt a w y x ≡ onAt b w y x
+pub rows-alike : (a b : List ℕ) (h w : ℕ) → ((i : ℕ) → i < h * w → isOn a i ≡ isOn b i)
+    → (y x : ℕ) → y < h → x < w → onAt a w y x ≡ onAt b w y x
 rows-alike a b h w e y x r c = row-on a w y x ∙ e (y * w + x) (pixel-in y x h w r c) ∙ sym (row-on b w y x)

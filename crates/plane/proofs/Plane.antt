@@ -5,7 +5,8 @@ use mathlib.Core.Bool.{Bool, true, false}
 use mathlib.Core.List.{List, _++_, append-assoc}
 use mathlib.Core.Logic.{⊎-elim}
 use Prim.Native.Nat.{ℕ, zero, suc, _+_, _*_, _-_, _/_, _%_, _≤_, _<_}
-use native.Mathlib.Nat.{zero-mul, mul-zero, suc-mul, add-mul, one-mul, mul-le-mul, mul-le-mul-right, add-zero, zero-add, ne-of-lt, not-suc-le-zero, le-of-suc-le-suc, div-add-mod', div-lt-iff-lt-mul, mod-lt}
+use native.Mathlib.Nat.{zero-mul, mul-zero, suc-mul, add-mul, one-mul, mul-le-mul, mul-le-mul-right, add-zero, zero-add}
+use native.Mathlib.Nat.{ne-of-lt, not-suc-le-zero, le-of-suc-le-suc, div-add-mod', div-lt-iff-lt-mul, mod-lt}
 use native.Mathlib.Numerals.{add-one}
 use native.Mathlib.Omega.{arith}
 use lib.ListN.{length, getD, take, drop, set, length-append, List·getD-append}
@@ -77,12 +78,15 @@ module _ {A : Type 0} (f : ℕ → A) where
 
   -- a list is a table where its elements are
   pub table-is : (n : ℕ) (out : List A) (d : A) → length out ≡ n → ((k : ℕ) → k < n → getD out k d ≡ f k) → out ≡ table f 0 n
-  table-is n out d e h = ext-getD d out (table f 0 n) (e ∙ sym (table-length 0 n)) (λ k l. h k (omega arith) ∙ sym (table-at n k d (omega arith)))
+  table-is n out d e h =
+      ext-getD d out (table f 0 n) (e ∙ sym (table-length 0 n)) (λ k l. h k (omega arith) ∙ sym (table-at n k d (omega arith)))
 
   -- a store at i: one element more is right
-  pub filled : (out : List A) (i : ℕ) (v d : A) → i < length out → ((k : ℕ) → k < i → getD out k d ≡ f k) → v ≡ f i → (k : ℕ) → k < i + 1 → getD (set out i v) k d ≡ f k
+  pub filled : (out : List A) (i : ℕ) (v d : A) → i < length out → ((k : ℕ) → k < i → getD out k d ≡ f k) → v ≡ f i
+      → (k : ℕ) → k < i + 1 → getD (set out i v) k d ≡ f k
   filled out i v d l h e =
-      below-more (λ (k : ℕ). getD (set out i v) k d ≡ f k) i (λ k g. getD-set-other out i k v d (ne-of-lt g) ∙ h k g) (getD-set-same out i v d l ∙ e)
+      let right : ℕ → Type 0 = λ (k : ℕ). getD (set out i v) k d ≡ f k in
+      below-more right i (λ k g. getD-set-other out i k v d (ne-of-lt g) ∙ h k g) (getD-set-same out i v d l ∙ e)
 
 -- tables of equal elements are equal
 pub table-same : {A : Type 0} (f g : ℕ → A) (n : ℕ) (d : A) → ((k : ℕ) → k < n → f k ≡ g k) → table f 0 n ≡ table g 0 n
@@ -160,14 +164,16 @@ module _ {A : Type 0} (h w : ℕ) (f : ℕ → ℕ → A) where
       ap (λ (k : ℕ). getD (planeOf h w f) k d) (sym (index-of i w)) ∙ plane-at (i / w) (i % w) d (row-of i h w p l) (column-of i w p)
 
   -- a list is the plane where its elements are, by row and column
-  pub plane-is : (out : List A) (d : A) → length out ≡ h * w → ((y x : ℕ) → y < h → x < w → getD out (y * w + x) d ≡ f y x) → out ≡ planeOf h w f
+  pub plane-is : (out : List A) (d : A) → length out ≡ h * w → ((y x : ℕ) → y < h → x < w → getD out (y * w + x) d ≡ f y x)
+      → out ≡ planeOf h w f
   plane-is out d e p =
       ext-getD d out (planeOf h w f) (e ∙ sym plane-length)
       (λ i l.
       ⊎-elim {C = getD out i d ≡ getD (planeOf h w f) i d}
       (λ (z : 0 < w).
       let m : i < h * w = omega arith in
-      ap (λ (k : ℕ). getD out k d) (sym (index-of i w)) ∙ p (i / w) (i % w) (row-of i h w z m) (column-of i w z) ∙ sym (plane-index i d z m))
+      let q = p (i / w) (i % w) (row-of i h w z m) (column-of i w z) in
+      ap (λ (k : ℕ). getD out k d) (sym (index-of i w)) ∙ q ∙ sym (plane-index i d z m))
       (λ (z : w ≤ 0).
       let q : w ≡ 0 = omega arith in
       let r : h * w ≡ 0 = ap (λ (k : ℕ). h * k) q ∙ mul-zero h in
@@ -175,7 +181,8 @@ module _ {A : Type 0} (h w : ℕ) (f : ℕ → ℕ → A) where
       (which 0 w))
 
 -- planes with equal elements are equal
-pub plane-same : {A : Type 0} (h w : ℕ) (f g : ℕ → ℕ → A) (d : A) → ((y x : ℕ) → y < h → x < w → f y x ≡ g y x) → planeOf h w f ≡ planeOf h w g
+pub plane-same : {A : Type 0} (h w : ℕ) (f g : ℕ → ℕ → A) (d : A) → ((y x : ℕ) → y < h → x < w → f y x ≡ g y x)
+    → planeOf h w f ≡ planeOf h w g
 plane-same h w f g d p = plane-is h w g (planeOf h w f) d (plane-length h w f) (λ y x a b. plane-at h w f y x d a b ∙ p y x a b)
 
 -- the element of row y's part of a plane

@@ -49,7 +49,8 @@ unfolding refusalOf
 declined-first [] us bad = absurd (bad refl)
 declined-first (t ∷ ts) us bad = go (t .1) bad (λ n. declined-first ts us n)
   where
-    go : (b : Bool) → (cond b (refusalOf ts) (t .0) ≡ 0 → ⊥) → ((refusalOf ts ≡ 0 → ⊥) → refusalOf (ts ++ us) ≡ refusalOf ts) → cond b (refusalOf (ts ++ us)) (t .0) ≡ cond b (refusalOf ts) (t .0)
+    go : (b : Bool) → (cond b (refusalOf ts) (t .0) ≡ 0 → ⊥) → ((refusalOf ts ≡ 0 → ⊥) → refusalOf (ts ++ us) ≡ refusalOf ts)
+        → cond b (refusalOf (ts ++ us)) (t .0) ≡ cond b (refusalOf ts) (t .0)
     go true n f = f n
     go false n f = refl
 
@@ -60,6 +61,11 @@ passed-first (t ∷ ts) us p e =
     let q = and-true (leb 1 (t .0)) (numbered ts) p in
     let r = one-passed (t .1) (t .0) (refusalOf ts) (q .0) e in
     rw (r .0) (passed-first ts us (q .1) (r .1))
+
+-- two tests with one number, one after the other, are one test: that both hold
+pub joined : (s t : Bool) (m n : ℕ) → cond s (cond t m n) n ≡ cond (s && t) m n
+joined true t m n = refl
+joined false t m n = refl
 
 -- ---- buffers
 

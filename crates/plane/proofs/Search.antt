@@ -96,7 +96,10 @@ module _ (p : ℕ → Bool) where
   -- a place is found
   pub some-is : (n i : ℕ) → i < n → p i ≡ true → someBelow n p ≡ true
   some-is n i l e =
-      ⊎-elim {C = someBelow n p ≡ true} (λ (a : someBelow n p ≡ true). a) (λ (a : someBelow n p ≡ false). not-both (p i) e (none-found n a i l)) (either (someBelow n p))
+      ⊎-elim {C = someBelow n p ≡ true}
+      (λ (a : someBelow n p ≡ true). a)
+      (λ (a : someBelow n p ≡ false). not-both (p i) e (none-found n a i l))
+      (either (someBelow n p))
 
   -- and where there is none, nothing is
   pub none-is : (n : ℕ) → ((i : ℕ) → i < n → p i ≡ false) → someBelow n p ≡ false
@@ -110,7 +113,12 @@ module _ (p : ℕ → Bool) where
   pub count-most : (n : ℕ) → countBelow n p ≤ n
   unfolding countBelow
   count-most zero = omega arith
-  count-most (suc n) = let z = count-most n in ⊎-elim {C = countBelow n p + cond (p n) 1 0 ≤ suc n} (λ (a : p n ≡ true). rw a (omega arith)) (λ (a : p n ≡ false). rw a (omega arith)) (either (p n))
+  count-most (suc n) =
+      let z = count-most n in
+      ⊎-elim {C = countBelow n p + cond (p n) 1 0 ≤ suc n}
+      (λ (a : p n ≡ true). rw a (omega arith))
+      (λ (a : p n ≡ false). rw a (omega arith))
+      (either (p n))
 
 -- equal tests find alike, and count alike
 pub some-same : (p q : ℕ → Bool) (n : ℕ) → ((i : ℕ) → i < n → p i ≡ q i) → someBelow n p ≡ someBelow n q

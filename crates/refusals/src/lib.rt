@@ -1,10 +1,12 @@
-// What ground, growth and cut decline: the tests in order; each function returns at the first that fails. Sides and lengths
-// come first, so that nothing is read behind a wrong length, and colours are read no further than the first block with a wrong one.
+// What ground, growth and cut decline: the tests in order; each function returns at the first that fails, and tests with one number are
+// made at once. Sides and lengths come first, so that nothing is read behind a wrong length, and colours are read no further
+// than the first block with a wrong one.
 ghost use mathlib.Core.Path.{_≡_};
 ghost use lib.ListN.{length};
 ghost use Rattle.plane.specs.Refusal.{refusalOf};
 ghost use Rattle.colour.specs.Colour.{rgbOk};
-ghost use Rattle.outline.specs.Refusal.{workTests, groundLengths, growthLengths, cutLengths, pictureTests, groundRefusal, growthRefusal, cutRefusal};
+ghost use Rattle.outline.specs.Refusal.{workTests, groundLengths, growthLengths, cutLengths, pictureTests};
+ghost use Rattle.outline.specs.Refusal.{groundRefusal, growthRefusal, cutRefusal};
 use colour::Rgb;
 use colour::Settings;
 
@@ -26,13 +28,10 @@ fn ground_lengths(h: usize, w: usize, colours: usize, out: usize, work: usize) -
     if colours != 3 * n {
         return 2;
     }
-    if out != n {
-        return 3;
+    if (out == n) & (plane::room(h, w) <= work) {
+        return 0;
     }
-    if work < plane::room(h, w) {
-        return 3;
-    }
-    0
+    3
 }
 
 // Growth: the lengths of the colours, the background, the output and four work buffers.
@@ -53,16 +52,13 @@ fn growth_lengths(
         return 1;
     }
     let n = h * w;
-    if colours != 3 * n {
-        return 2;
+    if (colours == 3 * n) & (back == n) {
+        if out != n {
+            return 3;
+        }
+        return work_lengths(plane::room(h, w), nearest, shallow, deep, marks);
     }
-    if back != n {
-        return 2;
-    }
-    if out != n {
-        return 3;
-    }
-    work_lengths(plane::room(h, w), nearest, shallow, deep, marks)
+    2
 }
 
 // Cut: the lengths of the colours, the alpha, two outputs and four work buffers.
@@ -84,19 +80,13 @@ fn cut_lengths(
         return 1;
     }
     let n = h * w;
-    if colours != 3 * n {
-        return 2;
-    }
-    if alpha != n {
-        return 2;
-    }
-    if mask != n {
+    if (colours == 3 * n) & (alpha == n) {
+        if (mask == n) & (weights == n) {
+            return work_lengths(plane::room(h, w), nearest, shallow, deep, marks);
+        }
         return 3;
     }
-    if weights != n {
-        return 3;
-    }
-    work_lengths(plane::room(h, w), nearest, shallow, deep, marks)
+    2
 }
 
 // Four work buffers that hold at least `least` numbers.
@@ -169,13 +159,10 @@ pub fn growth_refusal(
     if lengths != 0 {
         return lengths;
     }
-    if !colour::colours_ok(colours) {
-        return 4;
+    if colour::colours_ok(colours) & rgb_ok(reference) {
+        return 0;
     }
-    if !rgb_ok(reference) {
-        return 4;
-    }
-    0
+    4
 }
 
 // The refusal of a cut, or 0.

@@ -25,7 +25,8 @@ pub exported-alike : (one two : List Float) (alpha : List ℕ) (h w : ℕ) (s t 
     → TwoCalls one two alpha h w s t b c → CutReturns one alpha h w s b r b′ → CutReturns two alpha h w t c q c′ → SameCut r q b′ c′
 exported-alike one two alpha h w s t b c b′ c′ r q calls first second =
     let o = one-outline one two alpha h w s t b c b′ c′ (first .answer) (second .answer) calls (first .called) (second .called) in
-    let n : r .refusal ≡ refusalOfOutcome (first .answer) = ap (λ (z : StandCut). z .refusal) (first .returned) ∙ refusal-handed (first .answer) in
+    let answer = first .answer in
+    let n : r .refusal ≡ refusalOfOutcome answer = ap (λ (z : StandCut). z .refusal) (first .returned) ∙ refusal-handed answer in
     record {
       answers = first .returned ∙ ap cutValues (o .answers) ∙ sym (second .returned);
       masks = λ e. o .masks (sym n ∙ e);

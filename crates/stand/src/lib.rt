@@ -199,10 +199,22 @@ pub extern "C" fn stand_cut(
     weights: &mut [f64],
 ) -> StandCut
     ensures { λ r. ⌜ CutReturns (now (colours .entry)) (now (alpha .entry)) h w settings
-        (record { mask = now (mask .entry); weights = now (weights .entry); nearest = now (nearest .entry);
-            shallow = now (shallow .entry); deep = now (deep .entry); marks = now (marks .entry) }) r
-        (record { mask = now (mask .exit); weights = now (weights .exit); nearest = now (nearest .exit);
-            shallow = now (shallow .exit); deep = now (deep .exit); marks = now (marks .exit) }) ⌝ }
+        (record {
+          mask = now (mask .entry);
+          weights = now (weights .entry);
+          nearest = now (nearest .entry);
+          shallow = now (shallow .entry);
+          deep = now (deep .entry);
+          marks = now (marks .entry);
+        }) r
+        (record {
+          mask = now (mask .exit);
+          weights = now (weights .exit);
+          nearest = now (nearest .exit);
+          shallow = now (shallow .exit);
+          deep = now (deep .exit);
+          marks = now (marks .exit);
+        }) ⌝ }
 {
     cut_values(keying::subject(
         colours,
@@ -253,10 +265,20 @@ pub extern "C" fn stand_growth(
 ) -> u32
     ensures { λ r. ⌜ Returns refusalOfAnswer (λ (a : Answer).
         GrowthCalled (now (colours .entry)) (now (background .entry)) h w reference passes
-        (record { out = now (out .entry); nearest = now (nearest .entry); shallow = now (shallow .entry);
-            deep = now (deep .entry); marks = now (marks .entry) }) a
-        (record { out = now (out .exit); nearest = now (nearest .exit); shallow = now (shallow .exit);
-            deep = now (deep .exit); marks = now (marks .exit) })) r ⌝ }
+        (record {
+          out = now (out .entry);
+          nearest = now (nearest .entry);
+          shallow = now (shallow .entry);
+          deep = now (deep .entry);
+          marks = now (marks .entry);
+        }) a
+        (record {
+          out = now (out .exit);
+          nearest = now (nearest .exit);
+          shallow = now (shallow .exit);
+          deep = now (deep .exit);
+          marks = now (marks .exit);
+        })) r ⌝ }
 {
     geometry::refusal_of(keying::unmix_fringe(
         colours,

@@ -53,7 +53,8 @@ module _ (text : List ℕ) where
       at-most true a b l = omega arith
       at-most false a b l = omega arith
 
-  pub digits-more : (k m at i : ℕ) → k ≡ suc m → isDigit (getD text (at + i) 0) ≡ true → i + digitsUpto k text (at + i) ≡ (i + 1) + digitsUpto m text (at + (i + 1))
+  pub digits-more : (k m at i : ℕ) → k ≡ suc m → isDigit (getD text (at + i) 0) ≡ true
+      → i + digitsUpto k text (at + i) ≡ (i + 1) + digitsUpto m text (at + (i + 1))
   unfolding digitsUpto
   digits-more k m at i e d =
       let s : suc (at + i) ≡ at + (i + 1) = omega arith in
@@ -86,7 +87,13 @@ module _ (text : List ℕ) where
       let r = stand k (suc at) in
       let n = digitsUpto k text (suc at) in
       record {
-        inside = λ g. rw d (⊎-elim {C = at + suc n ≤ length text} (λ (z : n < 1). omega arith) (λ (z : 1 ≤ n). let q = r .inside z in omega arith) (which n 1));
+        inside =
+            λ g.
+            rw d
+            (⊎-elim {C = at + suc n ≤ length text}
+            (λ (z : n < 1). omega arith)
+            (λ (z : 1 ≤ n). let q = r .inside z in omega arith)
+            (which n 1));
         all = rw (d, drop-cons text at 0 l) (and-is _ _ d (r .all));
       })
       (λ (d : isDigit (getD text at 0) ≡ false). record { inside = λ g. absurd (let z : 1 ≤ 0 = rw d at g in omega arith); all = rw d })
@@ -133,7 +140,7 @@ enough (suc k) zero n a b = rw (lt-leb 10 n (omega arith))
 enough (suc k) (suc m) n a b =
     ⊎-elim {C = decimalUpto (suc k) n ≡ decimalUpto (suc m) n}
     (λ (l : n < 10). rw (lt-leb 10 n l))
-    (λ (l : 10 ≤ n). rw (le-leb 10 n l) (ap (λ (x : List ℕ). x ++ ((48 + n % 10) ∷ [])) (enough k m (n / 10) (tenth-less n k l a) (tenth-less n m l b))))
+    (λ (l : 10 ≤ n). rw (le-leb 10 n l, enough k m (n / 10) (tenth-less n k l a) (tenth-less n m l b)))
     (which n 10)
 
 pub decimal-one : (n : ℕ) → n < 10 → decimal n ≡ (48 + n) ∷ []
@@ -149,7 +156,7 @@ unfolding decimal decimalUpto
 decimal-more zero l = absurd (omega arith)
 decimal-more (suc n) l =
     let g : suc n / 10 ≤ n = tenth-less (suc n) n l (omega arith) in
-    rw (le-leb 10 (suc n) l) (ap (λ (x : List ℕ). x ++ ((48 + suc n % 10) ∷ [])) (enough n (suc n / 10) (suc n / 10) g (omega arith)))
+    rw (le-leb 10 (suc n) l, enough n (suc n / 10) (suc n / 10) g (omega arith))
 
 pub length-more : (n : ℕ) → 10 ≤ n → length (decimal n) ≡ length (decimal (n / 10)) + 1
 length-more n l = ap length (decimal-more n l) ∙ length-append (decimal (n / 10)) ((48 + n % 10) ∷ [])
@@ -160,7 +167,8 @@ by-tenths P one more n = upto n n (omega arith)
   where
     upto : (k n : ℕ) → n ≤ k → P n
     upto zero n g = one n (omega arith)
-    upto (suc k) n g = ⊎-elim {C = P n} (λ (l : n < 10). one n l) (λ (l : 10 ≤ n). more n l (upto k (n / 10) (tenth-less n k l g))) (which n 10)
+    upto (suc k) n g =
+        ⊎-elim {C = P n} (λ (l : n < 10). one n l) (λ (l : 10 ≤ n). more n l (upto k (n / 10) (tenth-less n k l g))) (which n 10)
 
 -- reading what was written gives the number back
 pub decimal-value : (n : ℕ) → valueOf (decimal n) ≡ n
@@ -171,7 +179,8 @@ decimal-value = by-tenths (λ (n : ℕ). valueOf (decimal n) ≡ n) value-one va
     value-one n l = ap valueOf (decimal-one n l) ∙ value-append 0 (48 + n) [] ∙ (let e : 10 * 0 + ((48 + n) - 48) ≡ n = omega arith in e)
 
     value-tenth : (n : ℕ) → 10 ≤ n → valueOf (decimal (n / 10)) ≡ n / 10 → valueOf (decimal n) ≡ n
-    value-tenth n l e = ap valueOf (decimal-more n l) ∙ value-append 0 (48 + n % 10) (decimal (n / 10)) ∙ omega (arith, e, div-add-mod' n 10)
+    value-tenth n l e =
+        ap valueOf (decimal-more n l) ∙ value-append 0 (48 + n % 10) (decimal (n / 10)) ∙ omega (arith, e, div-add-mod' n 10)
 
 -- a number below 10 ^ k has at most k digits
 abbrev Short : ℕ → Type 0

@@ -34,10 +34,12 @@ pub wrote-as : {p q a b : List ℕ} {i j : ℕ} → p ≡ q → Wrote p a b i j 
 wrote-as e x = rw e at x
 
 -- a copied text, byte by byte
-pub copy-more : (old text : List ℕ) (at i : ℕ) → i < length text → set (sets old at (take i text)) (at + i) (getD text i 0) ≡ sets old at (take (i + 1) text)
+pub copy-more : (old text : List ℕ) (at i : ℕ) → i < length text
+    → set (sets old at (take i text)) (at + i) (getD text i 0) ≡ sets old at (take (i + 1) text)
 copy-more old text at i l =
+    let h : i ≤ length text = omega arith in
     sym
     (ap (λ (k : ℕ). sets old at (take k text)) (add-one i)
     ∙ ap (sets old at) (take-suc text i 0 l)
     ∙ sets-append old at (take i text) (getD text i 0 ∷ [])
-    ∙ ap (λ (k : ℕ). set (sets old at (take i text)) (at + k) (getD text i 0)) (length-take-le i text (let h : i ≤ length text = omega arith in h)))
+    ∙ ap (λ (k : ℕ). set (sets old at (take i text)) (at + k) (getD text i 0)) (length-take-le i text h))

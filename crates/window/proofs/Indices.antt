@@ -16,7 +16,9 @@ use Rattle.nearest.proofs.Laws.{nearest-some}
 pub index-inside : (mask : List ℕ) (h w y x : ℕ) (r : Option (ℕ × ℕ)) → 0 < h * w → nearest mask h w y x ≡ r → indexOf w r < h * w
 unfolding indexOf
 index-inside mask h w y x none p e = p
-index-inside mask h w y x (some q) p e = let n = nearest-some mask h w y x (q .0) (q .1) e in pixel-in (q .1) (q .0) h w (n .row-inside) (n .column-inside)
+index-inside mask h w y x (some q) p e =
+    let n = nearest-some mask h w y x (q .0) (q .1) e in
+    pixel-in (q .1) (q .0) h w (n .row-inside) (n .column-inside)
 
 module _ (mask : List ℕ) (h w : ℕ) (wide : 0 < w) where
   pub indices-length : length (indicesPlane mask h w) ≡ h * w

@@ -8,10 +8,11 @@ use mathlib.Core.Logic.{_⊎_, inl, inr, ⊎-elim}
 use Prim.Native.Nat.{ℕ, _+_, _*_, _-_, _≤_, _<_, _/_, _%_}
 use native.Mathlib.Omega.{arith}
 use lib.Dec.{leb, ltb}
+use lib.ListN.{length}
 use borrow.Author.Tests.{leb-true, le-leb, lt-leb, ltb-true, lt-ltb}
 use Rattle.plane.specs.Plane.{onAt, apart, indexOf}
 use Rattle.plane.specs.Search.{someBelow}
-use Rattle.plane.proofs.Plane.{row-of, column-of, index-of}
+use Rattle.plane.proofs.Plane.{pixel-in, row-of, column-of, index-of}
 use Rattle.plane.proofs.Search.{which, not-both, some-found, or-left, or-right}
 use Rattle.plane.proofs.Refusal.{and-true}
 use Rattle.line.proofs.Squares.{square-le, square-lt}
@@ -20,7 +21,7 @@ use Rattle.nearest.proofs.Laws.{nearest-some, nearest-none, nearest-is}
 use Rattle.plane.specs.Mask.{isOn}
 use Rattle.labels.proofs.Steps.{row-is, column-is}
 use Rattle.outline.specs.Growth.{bodyReach, isReach}
-use Rattle.window.specs.steps.Window.{nearPixel, upOn, downOn, levelOn, Gap, Chosen, Searched}
+use Rattle.window.specs.steps.Window.{nearPixel, upOn, downOn, levelOn, Inside, Gap, Chosen, Searched}
 
 module _ (deep : List ℕ) (h w y i : ℕ) where
   up-is : (k : ℕ) → k ≤ y → onAt deep w k i ≡ true → upOn deep w y i (apart y k) ≡ true
@@ -48,105 +49,109 @@ module _ (deep : List ℕ) (h w y i : ℕ) where
       (λ (l : e ≤ apart y k). l)
       (which (apart y k) e)
 
-module _ (deep : List ℕ) (h w y x i d e far at : ℕ) (row : y < h) (column : i < w) (side : d ≡ apart x i) (gap : Gap deep h w y i (d * d) far e) (so-far : Searched deep h w y x i far at) where
+-- no on-pixel in the first c columns is nearer to (y, x) than far
+abbrev Least : List ℕ → ℕ → ℕ → ℕ → ℕ → ℕ → ℕ → Type 0
+Least deep h w y x c far = (k l : ℕ) → k < h → l < c → onAt deep w k l ≡ true → far ≤ away y x k l
+
+module _ {deep : List ℕ} {h w y x i d e far at : ℕ} (inside : Inside deep h w y i) (side : d ≡ apart x i)
+    (gap : Gap deep h w y i (d * d) far e) (so-far : Searched deep h w y x i far at) where
   -- what lies in column i, seen from (y, x)
   seen : (k : ℕ) → away y x k i ≡ d * d + apart y k * apart y k
   unfolding away
   seen k = rw side (omega arith)
 
-  column-least : (k : ℕ) → k < h → onAt deep w k i ≡ true → d * d + e * e ≤ away y x k i
-  column-least k g t = let m = square-le (gap-least deep h w y i gap k g t) in omega (arith, seen k)
+  -- what is no farther than all before column i, and than column i
+  least-more : (m : ℕ) → m ≤ far → m ≤ d * d + e * e → Least deep h w y x (i + 1) m
+  least-more m p q k l g n t =
+      ⊎-elim {C = m ≤ away y x k l}
+      (λ (r : l < i). omega (arith, so-far .least k l g r t))
+      (λ (r : i ≤ l).
+      (let z : l ≡ i = omega arith in
+      rw z (omega (arith, square-le (gap-least deep h w y i gap k g (rw z at t)), seen k))))
+      (which l i)
 
   -- column i has nothing nearer
   pub passed : far ≤ d * d + e * e → Searched deep h w y x (i + 1) far at
-  passed f = record {
-    low = so-far .low;
-    least = λ k l g m t.
-        ⊎-elim {C = far ≤ away y x k l}
-        (λ (q : l < i). so-far .least k l g q t)
-        (λ (q : i ≤ l). (let z : l ≡ i = omega arith in rw z (omega (arith, column-least k g (rw z at t)))))
-        (which l i);
-    found = so-far .found;
-  }
+  passed f = record { low = so-far .low; least = least-more far (omega arith) f; found = so-far .found }
 
   -- it has: the pixel in row j
-  taken : (j : ℕ) → d * d + e * e < far → j < h → apart y j ≡ e → onAt deep w j i ≡ true → ((k : ℕ) → k < j → onAt deep w k i ≡ true → e < apart y k) → Searched deep h w y x (i + 1) (d * d + e * e) (j * w + i)
-  taken j f g q t first = record {
-    low = omega (arith, so-far .low);
-    least = λ k l g m t.
-        ⊎-elim {C = d * d + e * e ≤ away y x k l}
-        (λ (q : l < i). (let z = so-far .least k l g q t in omega arith))
-        (λ (q : i ≤ l). (let z : l ≡ i = omega arith in rw z (column-least k g (rw z at t))))
-        (which l i);
-    found = inr (record {
-      i = i;
-      j = j;
-      row-inside = g;
-      column-inside = column;
-      is-on = t;
-      place = refl;
-      distance = sym (seen j ∙ ap (λ (n : ℕ). d * d + n * n) q);
-      reached = omega (arith, so-far .low);
-      first-column = λ k l g m t. (let z = so-far .least k l g m t in omega arith);
-      first-row = λ k l t. (let z = square-lt (first k l t) in omega (arith, seen k));
-    });
-  }
+  abbrev pub Taken : ℕ → Type 0
+  Taken j = (j * w + i < length deep) × Searched deep h w y x (i + 1) (d * d + e * e) (j * w + i)
+
+  taken : (j : ℕ) → d * d + e * e < far → j < h → apart y j ≡ e → onAt deep w j i ≡ true
+      → ((k : ℕ) → k < j → onAt deep w k i ≡ true → e < apart y k) → Taken j
+  taken j f g q t first = (
+    omega (arith, pixel-in j i h w g (inside .column), inside .long),
+    record {
+      low = omega (arith, so-far .low);
+      least = least-more (d * d + e * e) (omega arith) (omega arith);
+      found = inr (record {
+        i = i;
+        j = j;
+        row-inside = g;
+        column-inside = inside .column;
+        is-on = t;
+        place = refl;
+        distance = sym (seen j ∙ ap (λ (n : ℕ). d * d + n * n) q);
+        reached = omega (arith, so-far .low);
+        first-column = λ k l g m t. omega (arith, so-far .least k l g m t);
+        first-row = λ k l t. omega (arith, square-lt (first k l t), seen k);
+      });
+    },
+  )
 
   -- the one above, if it is there
-  pub taken-up : d * d + e * e < far → upOn deep w y i e ≡ true → (e ≤ y) × Searched deep h w y x (i + 1) (d * d + e * e) ((y - e) * w + i)
+  pub taken-up : d * d + e * e < far → upOn deep w y i e ≡ true → (e ≤ y) × Taken (y - e)
   unfolding upOn apart
   taken-up f u =
       let z = and-true (leb e y) (onAt deep w (y - e) i) u in
       let l = leb-true e y (z .0) in
-      (l, taken (y - e) f (omega arith) (omega arith) (z .1) (λ k m t. omega arith))
+      (l, taken (y - e) f (omega (arith, inside .row)) (omega arith) (z .1) (λ k m t. omega arith))
 
   -- else the one below
-  pub taken-down : d * d + e * e < far → upOn deep w y i e ≡ false → (y + e < h) × Searched deep h w y x (i + 1) (d * d + e * e) ((y + e) * w + i)
+  pub taken-down : d * d + e * e < far → upOn deep w y i e ≡ false → Taken (y + e)
   unfolding levelOn downOn apart
   taken-down f u =
       let both : downOn deep h w y i e ≡ true = rw u at (gap .here f) in
       let z = and-true (ltb (y + e) h) (onAt deep w (y + e) i) both in
-      let l = ltb-true (y + e) h (z .0) in (
-        l,
-        taken (y + e) f l (omega arith) (z .1)
-            (λ k m t.
-            (let n = gap-least deep h w y i gap k (omega arith) t in
-            ⊎-elim {C = e < apart y k}
-            (λ (q : e < apart y k). q)
-            (λ (q : apart y k ≤ e).
-            (let s : k ≤ y = omega arith in
-            let r : apart y k ≡ e = omega arith in
-            not-both (upOn deep w y i e) (rw r at (up-is deep h w y i k s t)) u))
-            (which e (apart y k)))),
-      )
+      let l = ltb-true (y + e) h (z .0) in
+      taken (y + e) f l (omega arith) (z .1)
+      (λ k m t.
+      (let n = gap-least deep h w y i gap k (omega arith) t in
+      ⊎-elim {C = e < apart y k}
+      (λ (q : e < apart y k). q)
+      (λ (q : apart y k ≤ e).
+      (let r : apart y k ≡ e = omega arith in
+      not-both (upOn deep w y i e) (rw r at (up-is deep h w y i k (omega arith) t)) u))
+      (which e (apart y k))))
 
 module _ (deep : List ℕ) (h w y x : ℕ) where
   -- columns more than 6 away are too far
   outside : (k l : ℕ) → 7 ≤ apart x l → bodyReach + 1 ≤ away y x k l
   unfolding away
-  outside k l g = let s = square-le {a = 7} {b = apart x l} g in omega arith
+  outside k l g = omega (arith, square-le {a = 7} {b = apart x l} g)
 
   -- nothing is searched yet
   pub started : (c : ℕ) → c ≤ x - 6 → Searched deep h w y x c (bodyReach + 1) (h * w)
   unfolding apart
   started c l = record { low = omega arith; least = λ k m g q t. outside k m (omega arith); found = inl (refl, refl) }
 
-  chosen-is : (far at c : ℕ) → ((k l : ℕ) → k < h → l < w → onAt deep w k l ≡ true → far ≤ away y x k l) → Chosen deep h w y x far at → at ≡ nearPixel deep h w y x
+  chosen-is : (far at : ℕ) → Least deep h w y x w far → Chosen deep h w y x far at → at ≡ nearPixel deep h w y x
   unfolding nearPixel isReach indexOf distanceTo
-  chosen-is far at c least p =
+  chosen-is far at least p =
       let e : nearest deep h w y x ≡ some (p .i, p .j) =
       nearest-is deep h w y x (p .i) (p .j)
       (record {
         row-inside = p .row-inside;
         column-inside = p .column-inside;
         is-on = p .is-on;
-        least = λ k l g m t. (let z = least k l g m t in omega (arith, p .distance));
-        first-column = λ k l g m t. (let z = p .first-column k l g m t in omega (arith, p .distance));
-        first-row = λ k g t. (let z = p .first-row k g t in omega (arith, p .distance));
+        least = λ k l g m t. omega (arith, least k l g m t, p .distance);
+        first-column = λ k l g m t. omega (arith, p .first-column k l g m t, p .distance);
+        first-row = λ k g t. omega (arith, p .first-row k g t, p .distance);
       }) in
       rw (e, le-leb (away y x (p .j) (p .i)) bodyReach (omega (arith, p .distance, p .reached))) (p .place)
 
-  none-is : (r : Option (ℕ × ℕ)) → nearest deep h w y x ≡ r → ((k l : ℕ) → k < h → l < w → onAt deep w k l ≡ true → bodyReach + 1 ≤ away y x k l) → isReach y x r ≡ false
+  none-is : (r : Option (ℕ × ℕ)) → nearest deep h w y x ≡ r → Least deep h w y x w (bodyReach + 1) → isReach y x r ≡ false
   unfolding isReach distanceTo
   none-is none e least = refl
   none-is (some q) e least =
@@ -167,7 +172,7 @@ module _ (deep : List ℕ) (h w y x : ℕ) where
   pub finished : (c far at : ℕ) → (c ≡ w) ⊎ (c ≡ x + 7) → Searched deep h w y x c far at → at ≡ nearPixel deep h w y x
   unfolding apart
   finished c far at done s =
-      let least : (k l : ℕ) → k < h → l < w → onAt deep w k l ≡ true → far ≤ away y x k l =
+      let least : Least deep h w y x w far =
       λ k l g m t.
       ⊎-elim {C = far ≤ away y x k l}
       (λ (q : l < c). s .least k l g q t)
@@ -178,11 +183,8 @@ module _ (deep : List ℕ) (h w y x : ℕ) where
       done)
       (which l c) in
       ⊎-elim {C = at ≡ nearPixel deep h w y x}
-      (λ (p : (far ≡ bodyReach + 1) × (at ≡ h * w)).
-      (let far-is = p .0 in
-      let z = none-is (nearest deep h w y x) refl (λ k l g m t. (let n = least k l g m t in omega arith)) in
-      p .1 ∙ sym (near-none z)))
-      (λ (p : Chosen deep h w y x far at). chosen-is far at c least p)
+      (λ (p : (far ≡ bodyReach + 1) × (at ≡ h * w)). p .1 ∙ sym (near-none (none-is (nearest deep h w y x) refl (rw (p .0) at least))))
+      (chosen-is far at least)
       (s .found)
 
   near-cases : 0 < w → someBelow (h * w) (isOn deep) ≡ true → (r : Option (ℕ × ℕ)) → nearest deep h w y x ≡ r → (b : ℕ) → b ≡ indexOf w r

@@ -10,12 +10,6 @@ use Rattle.cutfile.proofs.Pictures.{text-is, text-fits}
 use Rattle.cutfile.proofs.cut.Statement.{statement}
 use Rattle.cutfile.proofs.cut.Tie as tie
 
-settings-of-requires : tie.Need-settings-of-requires
-settings-of-requires c κs = search needs
-
-subject-requires : tie.Need-subject-requires
-subject-requires c κs = search needs
-
 -- once the picture is cut: the settings, the start, and what the answer says
 module _ (c : tie.After-subject) where
   abbrev set : tie.After-settings-of
@@ -26,13 +20,13 @@ module _ (c : tie.After-subject) where
 
   fits : answerLength (start .args .h) (start .args .w) (c .subject .result) ≤ length (start .args .out .now)
   fits =
-      text-fits (start .args .colours .now) (start .args .alpha .now) (start .args .h) (start .args .w) (set .settings-of .result) _ _ _ _
+      text-fits _ _ (start .args .h) (start .args .w) (set .settings-of .result) _ _ _ _
       (start .pre .0) (start .pre .1) (set .settings-of .ensures) (c .subject .ensures)
 
   said : answerText (c .subject .last .1 .1 .1 .1 .1 .1 .1 .1 .1 .0) (start .args .h) (start .args .w) (c .subject .result)
       ≡ pictureText (start .args .colours .now) (start .args .alpha .now) (start .args .h) (start .args .w)
   said =
-      text-is (start .args .colours .now) (start .args .alpha .now) (start .args .h) (start .args .w) (set .settings-of .result) _ _ _ _
+      text-is _ _ (start .args .h) (start .args .w) (set .settings-of .result) _ _ _ _
       (start .pre .0) (start .pre .1) (set .settings-of .ensures) (c .subject .ensures)
 
 write-answer-requires : tie.Need-write-answer-requires
@@ -41,45 +35,25 @@ write-answer-requires c κs =
     let room = start cut .pre .0 in
     ((room .some-columns, cut .subject .kept .1 .1 .1 .1 .1 .1 .1 .1 .1 .0 ∙ room .mask-long), fits cut)
 
-same-length : tie.Need-same-length
-same-length c = search needs
-
-same-length-2 : tie.Need-same-length-2
-same-length-2 c = search needs
-
-same-length-3 : tie.Need-same-length-3
-same-length-3 c = search needs
-
-same-length-4 : tie.Need-same-length-4
-same-length-4 c = search needs
-
-same-length-5 : tie.Need-same-length-5
-same-length-5 c = search needs
-
-same-length-6 : tie.Need-same-length-6
-same-length-6 c = search needs
-
-same-length-7 : tie.Need-same-length-7
-same-length-7 c = search needs
-
 returns : tie.Need-returns
 returns c =
     let wrote = c .before .before in
-    let cut = wrote .before .before .before .before .before .before .before .before .before .before .before .before .before .before .before in
+    let lent = wrote .before .before .before .before .before in
+    let cut = lent .before .before .before .before .before .before .before .before .before .before in
     wrote-as (said cut) (wrote .write-answer .ensures)
 
 pub cut-spec : {M : Type 1} → statement M
 cut-spec =
     tie.close
     (tie.spec
-    settings-of-requires
-    subject-requires
+    (λ c κs. search needs)
+    (λ c κs. search needs)
     write-answer-requires
-    same-length
-    same-length-2
-    same-length-3
-    same-length-4
-    same-length-5
-    same-length-6
-    same-length-7
+    (λ c. search needs)
+    (λ c. search needs)
+    (λ c. search needs)
+    (λ c. search needs)
+    (λ c. search needs)
+    (λ c. search needs)
+    (λ c. search needs)
     returns)

@@ -7,33 +7,21 @@ use Rattle.cutfile.specs.steps.Room.{answerText}
 use Rattle.cutfile.proofs.write_answer.Statement.{statement}
 use Rattle.cutfile.proofs.write_answer.Tie as tie
 
-enum-known-answer : tie.Need-enum-known-answer
-enum-known-answer c = search needs
-
 write-mask-requires : tie.Need-write-mask-requires
 write-mask-requires c κs =
     let start = c .before .before .before .before .before .before in
     (start .pre .0, rw (c .before .before .answer .given .1) at (start .pre .1))
-
-enum-known-answer-2 : tie.Need-enum-known-answer-2
-enum-known-answer-2 c = search needs
 
 write-refusal-requires : tie.Need-write-refusal-requires
 write-refusal-requires c κs =
     let start = c .before .before .before .before .before .before in
     rw (c .before .before .answer2 .given .1) at (start .pre .1)
 
-same-length : tie.Need-same-length
-same-length c = search needs
-
 returns : tie.Need-returns
 returns c =
     let known = c .before .before .before .before .before in
     let a = known .before .before .before .before .args in
     wrote-as (sym (ap (answerText (a .mask .now) (a .h) (a .w)) (known .answer .given .1))) (c .before .before .write-mask .ensures)
-
-same-length-2 : tie.Need-same-length-2
-same-length-2 c = search needs
 
 returns-2 : tie.Need-returns-2
 returns-2 c =
@@ -45,11 +33,11 @@ pub write-answer-spec : {M : Type 1} → statement M
 write-answer-spec =
     tie.close
     (tie.spec
-    enum-known-answer
+    (λ c. search needs)
     write-mask-requires
-    enum-known-answer-2
+    (λ c. search needs)
     write-refusal-requires
-    same-length
+    (λ c. search needs)
     returns
-    same-length-2
+    (λ c. search needs)
     returns-2)

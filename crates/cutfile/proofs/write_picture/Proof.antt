@@ -29,70 +29,18 @@ sides c =
     rw (c .before .before .height .ensures .0, c .before .width .ensures .0) (sides-of (o .args .input .now) (k .header-ok) (k .few))
 
 -- the text of what is read is the text of the input
-texts : (c : tie.After-body-at) → let i = c .before .before .before .before .before .args .input .now in let h = c .before .before .height .result in let w = c .before .width .result in
-    pictureText (coloursFrom i (c .body-at .result) (h * w)) (alphaFrom i (c .body-at .result) (h * w)) h w ≡ pictureText (coloursOf i) (alphaOf i) (heightOf i) (widthOf i)
+texts : (c : tie.After-body-at)
+    → let i = c .before .before .before .before .before .args .input .now in
+    let h = c .before .before .height .result in
+    let w = c .before .width .result in
+    let at = c .body-at .result in
+    pictureText (coloursFrom i at (h * w)) (alphaFrom i at (h * w)) h w
+    ≡ pictureText (coloursOf i) (alphaOf i) (heightOf i) (widthOf i)
 unfolding coloursOf alphaOf pixelsOf
 texts c = rw (c .body-at .ensures .0, c .before .before .height .ensures .0, c .before .width .ensures .0)
 
-height-requires : tie.Need-height-requires
-height-requires c κs = search needs
-
-width-requires : tie.Need-width-requires
-width-requires c κs = search needs
-
-body-at-requires : tie.Need-body-at-requires
-body-at-requires c κs = search needs
-
-mul-n : tie.Need-mul-n
-mul-n c = fits-le (small c) (fits-lit tt)
-
-mul-m : tie.Need-mul-m
-mul-m c = omega (arith, small c)
-
-sub-read-and-cut : tie.Need-sub-read-and-cut
-sub-read-and-cut c = search needs
-
-part-colours-start : tie.Need-part-colours-start
-part-colours-start c = search needs
-
-part-colours-end : tie.Need-part-colours-end
-part-colours-end c = omega (arith, small c)
-
-sub-read-and-cut-2 : tie.Need-sub-read-and-cut-2
-sub-read-and-cut-2 c = search needs
-
-part-alpha-start : tie.Need-part-alpha-start
-part-alpha-start c = search needs
-
-part-alpha-end : tie.Need-part-alpha-end
-part-alpha-end c = omega (arith, small (c .before))
-
-slice-aggregate-read-and-cut : tie.Need-slice-aggregate-read-and-cut
-slice-aggregate-read-and-cut c = search needs
-
-slice-aggregate-read-and-cut-2 : tie.Need-slice-aggregate-read-and-cut-2
-slice-aggregate-read-and-cut-2 c = search needs
-
-slice-aggregate-read-and-cut-3 : tie.Need-slice-aggregate-read-and-cut-3
-slice-aggregate-read-and-cut-3 c = search needs
-
-slice-aggregate-read-and-cut-4 : tie.Need-slice-aggregate-read-and-cut-4
-slice-aggregate-read-and-cut-4 c = search needs
-
-sub-read-and-cut-3 : tie.Need-sub-read-and-cut-3
-sub-read-and-cut-3 c = search needs
-
-part-mask-start : tie.Need-part-mask-start
-part-mask-start c = search needs
-
 part-mask-end : tie.Need-part-mask-end
 part-mask-end c = omega (arith, small (c .before .before .before .before .before .before))
-
-sub-read-and-cut-4 : tie.Need-sub-read-and-cut-4
-sub-read-and-cut-4 c = search needs
-
-part-weights-start : tie.Need-part-weights-start
-part-weights-start c = search needs
 
 part-weights-end : tie.Need-part-weights-end
 part-weights-end c = omega (arith, small (c .before .before .before .before .before .before .before))
@@ -121,39 +69,36 @@ read-and-cut-requires c κs =
       },
     )
 
-same-length : tie.Need-same-length
-same-length c = search needs
-
 returns : tie.Need-returns
 returns c =
-    let b = c .before .before .before .before .before .before .before .before .before .before .before .before .before .before .before .before .before .before .before .before in
-    wrote-as (texts b) (c .before .before .before .before .before .before .before .before .before .before .read-and-cut .ensures)
+    let cut = c .before .before .before .before .before .before .before .before .before .before in
+    wrote-as (texts (cut .before .before .before .before .before .before .before .before .before .before)) (cut .read-and-cut .ensures)
 
 pub write-picture-spec : {M : Type 1} → statement M
 write-picture-spec =
     tie.close
     (tie.spec
-    height-requires
-    width-requires
-    body-at-requires
-    mul-n
-    mul-m
-    sub-read-and-cut
-    part-colours-start
-    part-colours-end
-    sub-read-and-cut-2
-    part-alpha-start
-    part-alpha-end
-    slice-aggregate-read-and-cut
-    slice-aggregate-read-and-cut-2
-    slice-aggregate-read-and-cut-3
-    slice-aggregate-read-and-cut-4
-    sub-read-and-cut-3
-    part-mask-start
+    (λ c κs. search needs)
+    (λ c κs. search needs)
+    (λ c κs. search needs)
+    (λ c. fits-le (small c) (fits-lit tt))
+    (λ c. omega (arith, small c))
+    (λ c. search needs)
+    (λ c. search needs)
+    (λ c. omega (arith, small c))
+    (λ c. search needs)
+    (λ c. search needs)
+    (λ c. omega (arith, small (c .before)))
+    (λ c. search needs)
+    (λ c. search needs)
+    (λ c. search needs)
+    (λ c. search needs)
+    (λ c. search needs)
+    (λ c. search needs)
     part-mask-end
-    sub-read-and-cut-4
-    part-weights-start
+    (λ c. search needs)
+    (λ c. search needs)
     part-weights-end
     read-and-cut-requires
-    same-length
+    (λ c. search needs)
     returns)

@@ -11,9 +11,6 @@ use Rattle.outline.specs.Cut.{cropOf}
 use Rattle.cutting.proofs.crop_of.Statement.{statement}
 use Rattle.cutting.proofs.crop_of.Tie as tie
 
-some-off-requires : tie.Need-some-off-requires
-some-off-requires c κs = search needs
-
 -- whether the mask's box is asked for
 asked : (c : tie.After-some-off) → let o = c .before .before in
     (o .args .cropping && c .some-off .result) ≡ (o .args .cropping && someOff (o .args .mask .now) (o .args .h * o .args .w))
@@ -31,4 +28,4 @@ unfolding cropOf wholeOf
 returns-2 c = rw (sym (asked (c .before)) ∙ c .if1 .left)
 
 pub crop-of-spec : {M : Type 1} → statement M
-crop-of-spec = tie.close (tie.spec some-off-requires box-of-requires returns returns-2)
+crop-of-spec = tie.close (tie.spec (λ c κs. search needs) box-of-requires returns returns-2)

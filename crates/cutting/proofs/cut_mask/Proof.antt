@@ -8,7 +8,6 @@ use mir.Syntax.{w64}
 use mir.Val.{toZ, ofZ}
 use mir.Facts.{toZ-ofZ}
 use borrow.Author.Needs.{needs}
-use Rattle.outline.specs.Border.{referenceOf}
 use Rattle.outline.specs.Cut.{alphaMask, isSought}
 use Rattle.cutting.proofs.Keyed.{sought-is, sought-flag, sought-mask, unsought-flag, unsought-mask}
 use Rattle.cutting.proofs.cut_mask.Statement.{statement}
@@ -16,9 +15,6 @@ use Rattle.cutting.proofs.cut_mask.Tie as tie
 
 reach-requires : tie.Need-reach-requires
 reach-requires c κs = let k = c .before .before .before .before .before .before .before .before .before .pre in k .0 .mask-long ∙ sym (k .1)
-
-some-off-requires : tie.Need-some-off-requires
-some-off-requires c κs = search needs
 
 module _ (c : tie.After-some-off) where
   abbrev at-start : tie.Start
@@ -28,78 +24,67 @@ module _ (c : tie.After-some-off) where
   at-reach = c .before .before .before .before
 
   -- the mask after the threshold
-  reached : at-reach .reach .last .1 .1 .0 ≡ alphaMask (at-start .args .alpha .now) (at-start .args .h * at-start .args .w) (at-start .args .s)
+  reached : at-reach .reach .last .1 .1 .0 ≡ (let a = at-start .args in alphaMask (a .alpha .now) (a .h * a .w) (a .s))
   unfolding alphaMask
   reached =
       let z = at-start .args .s .«alpha_threshold» in
       let t : toZ w64 (ofZ w64 z) ≡ z = toZ-ofZ {w = w64} {z = z} (record { sfits = at-reach .before .struct-told .given .0 .1 }) in
       at-reach .reach .ensures ∙ rw (at-start .pre .1, t)
 
-  sought : (at-start .args .s .«key_bg» && not (c .some-off .result)) ≡ isSought (at-start .args .alpha .now) (at-start .args .h * at-start .args .w) (at-start .args .s)
+  sought : let a = at-start .args in (a .s .«key_bg» && not (c .some-off .result)) ≡ isSought (a .alpha .now) (a .h * a .w) (a .s)
   sought =
-      sought-is (at-start .args .alpha .now) (at-start .args .h * at-start .args .w) (at-start .args .s) (at-reach .reach .last .1 .1 .0)
-      (c .some-off .result) (c .some-off .ensures) (at-reach .reach .kept .1 .1 .0 ∙ at-start .pre .0 .mask-long) reached
+      let long = at-reach .reach .kept .1 .1 .0 ∙ at-start .pre .0 .mask-long in
+      sought-is _ _ (at-start .args .s) _ (c .some-off .result) (c .some-off .ensures) long reached
 
-passes-requires : tie.Need-passes-requires
-passes-requires c κs = search needs
+-- where a ground is sought
+abbrev asked : tie.Then1 → tie.After-some-off
+asked c = c .before .before
 
 reference-requires : tie.Need-reference-requires
 reference-requires c κs =
-    let k = c .before .before .before .before .before .before .before .before .before .before .before .before .before .before .before .before .before .before .pre .0 in
+    let k = at-start (asked (c .before .before)) .pre .0 in
     record { sides = k .sides; input = k .colours-long; range = k .range; room = k .nearest-long }
 
 key-requires : tie.Need-key-requires
 key-requires c κs =
-    let k = c .before .before .before .before .before .before .before .before .before .before .before .before .before .before .before .before .before .before .before .before .before .before .before .before .before .before .pre .0 in
-    let call = c .before .before .before .before .before .before .before .reference in
-    (record {
-      sides = k .sides;
-      colours-long = k .colours-long;
-      range = k .range;
-      mask-long = c .before .before .before .before .before .before .before .before .before .before .before .before .before .before .before .before .reach .kept .1 .1 .0 ∙ k .mask-long;
-      nearest-long = omega (arith, k .nearest-long, call .kept .1 .1 .1 .0);
-      shallow-long = k .shallow-long;
-      deep-long = k .deep-long;
-      marks-long = k .marks-long;
-    }, record { range = call .ensures .1 })
-
-same-length : tie.Need-same-length
-same-length c = search needs
-
-same-length-2 : tie.Need-same-length-2
-same-length-2 c = search needs
-
-same-length-3 : tie.Need-same-length-3
-same-length-3 c = search needs
-
-same-length-4 : tie.Need-same-length-4
-same-length-4 c = search needs
-
-same-length-5 : tie.Need-same-length-5
-same-length-5 c = search needs
+    let referred = c .before .before .before .before .before .before .before in
+    let off = asked (referred .before .before .before) in
+    let k = at-start off .pre .0 in
+    let call = referred .reference in (
+      record {
+        sides = k .sides;
+        colours-long = k .colours-long;
+        range = k .range;
+        mask-long = at-reach off .reach .kept .1 .1 .0 ∙ k .mask-long;
+        nearest-long = omega (arith, k .nearest-long, call .kept .1 .1 .1 .0);
+        shallow-long = k .shallow-long;
+        deep-long = k .deep-long;
+        marks-long = k .marks-long;
+      },
+      record { range = call .ensures .1 },
+    )
 
 returns : tie.Need-returns
 returns c =
-    let a = c .before .before .before .before .before .before .before .before .before .before .before .before .before .before .before .before .before .before .before .before .before .before .before .before .before .before .before .before .before .before .before .before .before .before .before .before .before .args in
-    let ref = referenceOf (a .colours .now) (a .h) (a .w) in
-    let e = sym (sought (c .before .before .before .before .before .before .before .before .before .before .before .before .before .before .before .before .before .before .before .before .before .before .before)) ∙ c .before .before .before .before .before .before .before .before .before .before .before .before .before .before .before .before .before .before .before .before .before .if1 .taken in
-    let k = c .before .before .before .before .before .before .before .before .before .before .key .ensures in
-    let r = c .before .before .before .before .before .before .before .before .before .before .before .before .before .before .before .before .before .before .reference .ensures .0 in
-    let p = c .before .before .before .before .before .before .before .before .before .before .before .before .before .before .before .before .before .before .before .before .passes .ensures in (
-      k .0 ∙ rw r (sought-flag (a .colours .now) (a .alpha .now) (a .h) (a .w) ref (a .s) e),
-      k .1 ∙ rw (r, p) (sought-mask (a .colours .now) (a .alpha .now) (a .h) (a .w) ref (a .s) e),
+    let keyed = c .before .before .before .before .before .before .before .before .before .before in
+    let referred = keyed .before .before .before .before .before .before .before .before in
+    let counted = referred .before .before in
+    let taken = counted .before in
+    let a = at-start (asked taken) .args in
+    let e = sym (sought (asked taken)) ∙ taken .if1 .taken in
+    let k = keyed .key .ensures in
+    let r = referred .reference .ensures .0 in (
+      k .0 ∙ rw r (sought-flag (a .colours .now) (a .alpha .now) (a .h) (a .w) _ (a .s) e),
+      k .1 ∙ rw (r, counted .passes .ensures) (sought-mask (a .colours .now) (a .alpha .now) (a .h) (a .w) _ (a .s) e),
     )
-
-same-length-6 : tie.Need-same-length-6
-same-length-6 c = search needs
 
 returns-2 : tie.Need-returns-2
 returns-2 c =
-    let a = c .before .before .before .before .before .before .before .before .before .before .before .before .before .before .before .before .args in
-    let ref = referenceOf (a .colours .now) (a .h) (a .w) in
-    let e = sym (sought (c .before .before)) ∙ c .if1 .left in (
-      unsought-flag (a .colours .now) (a .alpha .now) (a .h) (a .w) ref (a .s) e,
-      reached (c .before .before) ∙ unsought-mask (a .colours .now) (a .alpha .now) (a .h) (a .w) ref (a .s) e,
+    let off = c .before .before in
+    let a = at-start off .args in
+    let e = sym (sought off) ∙ c .if1 .left in (
+      unsought-flag (a .colours .now) (a .alpha .now) (a .h) (a .w) _ (a .s) e,
+      reached off ∙ unsought-mask (a .colours .now) (a .alpha .now) (a .h) (a .w) _ (a .s) e,
     )
 
 pub cut-mask-spec : {M : Type 1} → statement M
@@ -107,15 +92,15 @@ cut-mask-spec =
     tie.close
     (tie.spec
     reach-requires
-    some-off-requires
-    passes-requires
+    (λ c κs. search needs)
+    (λ c κs. search needs)
     reference-requires
     key-requires
-    same-length
-    same-length-2
-    same-length-3
-    same-length-4
-    same-length-5
+    (λ c. search needs)
+    (λ c. search needs)
+    (λ c. search needs)
+    (λ c. search needs)
+    (λ c. search needs)
     returns
-    same-length-6
+    (λ c. search needs)
     returns-2)

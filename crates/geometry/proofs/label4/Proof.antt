@@ -9,9 +9,6 @@ use Rattle.geometry.proofs.Accepted.{counted, not-counted, plane-ok, fe
 use Rattle.geometry.proofs.label4.Statement.{statement}
 use Rattle.geometry.proofs.label4.Tie as tie
 
-plane-refusal-requires : tie.Need-plane-refusal-requires
-plane-refusal-requires c κs = search needs
-
 returns : tie.Need-returns
 returns c =
     let n = c .before .plane-refusal in
@@ -30,12 +27,6 @@ label-requires c κs =
     let k = plane-ok _ _ _ _ _ (sym (c .before .before .before .plane-refusal .ensures) ∙ zero (c .before .before)) in
     record { sides = k .sides; input = k .input; output = k .output; room = omega (arith, k .room); few = few-pixels _ _ (k .within) }
 
-same-length : tie.Need-same-length
-same-length c = search needs
-
-same-length-2 : tie.Need-same-length-2
-same-length-2 c = search needs
-
 returns-2 : tie.Need-returns-2
 returns-2 c =
     let accepted = c .before .before .before .before .before .before .before in
@@ -51,4 +42,10 @@ returns-2 c =
 pub label4-spec : {M : Type 1} → statement M
 label4-spec =
     tie.close
-    (tie.spec plane-refusal-requires returns label-requires same-length same-length-2 returns-2)
+    (tie.spec
+    (λ c κs. search needs)
+    returns
+    label-requires
+    (λ c. search needs)
+    (λ c. search needs)
+    returns-2)

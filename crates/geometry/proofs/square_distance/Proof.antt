@@ -1,40 +1,37 @@
 -- `geometry::square_distance` meets its contract.
 -- Assumes nothing.
-use mathlib.Core.Path.{refl, sym, ap, _∙_}
+use mathlib.Core.Path.{sym, _∙_}
 use borrow.Author.Needs.{needs}
-use Rattle.plane.proofs.Refusal.{written, kept, three-lines}
-use Rattle.geometry.specs.declared.Answer.the-variants as answer
-use Rattle.geometry.proofs.Accepted.{done, declined, plane-ok, distances-fit}
+use Rattle.plane.proofs.Refusal.{three-lines}
+use Rattle.geometry.proofs.Accepted.{plane-refused, plane-made, plane-ok, distances-fit}
 use Rattle.geometry.proofs.square_distance.Statement.{statement}
 use Rattle.geometry.proofs.square_distance.Tie as tie
 
-plane-refusal-requires : tie.Need-plane-refusal-requires
-plane-refusal-requires c κs = search needs
-
-returns : tie.Need-returns
-returns c =
-    let n = c .before .plane-refusal in
-    let t = c .if1 .taken in
-    record { answer = ap answer.Refused (n .ensures) ∙ declined _ (λ q. t (n .ensures ∙ q)); out-is = sym (kept _ _ _ (λ q. t (n .ensures ∙ q))); kept = λ _. refl }
-
 nearest-distances-requires : tie.Need-nearest-distances-requires
 nearest-distances-requires c κs =
-    let k = plane-ok _ _ _ _ _ (sym (c .before .before .before .plane-refusal .ensures) ∙ c .before .before .if1 .left) in
-    record { sides = k .sides; mask-long = k .input; out-long = k .output; room = three-lines _ _ _ (k .sides) (k .room); low = distances-fit _ _ (k .within) }
-
-same-length : tie.Need-same-length
-same-length c = search needs
-
-same-length-2 : tie.Need-same-length-2
-same-length-2 c = search needs
+    let accepted = c .before .before in
+    let k = plane-ok _ _ _ _ _ (sym (accepted .before .plane-refusal .ensures) ∙ accepted .if1 .left) in
+    record {
+      sides = k .sides;
+      mask-long = k .input;
+      out-long = k .output;
+      room = three-lines _ _ _ (k .sides) (k .room);
+      low = distances-fit _ _ (k .within);
+    }
 
 returns-2 : tie.Need-returns-2
 returns-2 c =
-    let accepted = c .before .before .before .before .before .before .before in
-    let n = accepted .before .plane-refusal in
-    let z = sym (n .ensures) ∙ accepted .if1 .left in
-    let call = c .before .before .before .before .nearest-distances in
-    record { answer = done _ z; out-is = call .ensures ∙ sym (written _ _ _ z); kept = λ bad. absurd (bad z) }
+    let called = c .before .before .before .before in
+    let accepted = called .before .before .before in
+    plane-made (sym (accepted .before .plane-refusal .ensures) ∙ accepted .if1 .left) (called .nearest-distances .ensures)
 
 pub square-distance-spec : {M : Type 1} → statement M
-square-distance-spec = tie.close (tie.spec plane-refusal-requires returns nearest-distances-requires same-length same-length-2 returns-2)
+square-distance-spec =
+    tie.close
+    (tie.spec
+    (λ c κs. search needs)
+    (λ c. plane-refused _ (c .before .plane-refusal .ensures) (c .if1 .taken))
+    nearest-distances-requires
+    (λ c. search needs)
+    (λ c. search needs)
+    returns-2)

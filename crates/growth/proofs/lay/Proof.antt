@@ -1,89 +1,75 @@
 -- `growth::lay` meets its contract.
 -- Assumes nothing.
 use mathlib.Core.Path.{_≡_, ap, _∙_}
-use mathlib.Core.Bool.{Bool}
 use mathlib.Core.List.{List}
-use lib.ListN.{length}
-use Rattle.plane.specs.Search.{someBelow}
-use Rattle.plane.specs.Mask.{isOn, maskOf}
-use Rattle.plane.specs.steps.Complement.{complementOf}
 use Prim.Native.Nat.{ℕ, _*_}
 use native.Mathlib.Omega.{arith}
-use Rattle.outline.specs.Growth.{isShallow}
-use Rattle.growth.specs.steps.Marks.{edgeTest}
-use Rattle.growth.proofs.Laying.{deep-laid, shallow-laid, edge-laid}
 use borrow.Author.Needs.{needs}
+use Rattle.plane.specs.Mask.{maskOf}
+use Rattle.plane.specs.steps.Complement.{complementOf}
+use Rattle.outline.specs.Growth.{isShallow}
+use Rattle.growth.proofs.Laying.{deep-laid, shallow-laid, edge-laid}
 use Rattle.growth.proofs.lay.Statement.{statement}
 use Rattle.growth.proofs.lay.Tie as tie
 
-dilate-requires : tie.Need-dilate-requires
-dilate-requires c κs = search needs
+-- places before the call of `edges`, and what has been made there: the shallow plane, its dilation, the deep plane, its dilation
+module _ (c : tie.After-edges-arg2) where
+  abbrev at-shallow : tie.After-complement2
+  at-shallow = c .before .before .before .before .before .before
 
-complement-requires : tie.Need-complement-requires
-complement-requires c κs = search needs
+  abbrev at-near : tie.After-dilate2
+  at-near = at-shallow .before .before .before .before .before .before
 
-dilate-requires-2 : tie.Need-dilate-requires-2
-dilate-requires-2 c κs = search needs
+  abbrev at-deep : tie.After-complement
+  at-deep = at-near .before .before .before .before .before
 
-complement-requires-2 : tie.Need-complement-requires-2
-complement-requires-2 c κs = search needs
+  abbrev at-reached : tie.After-dilate
+  at-reached = at-deep .before .before .before .before .before .before
 
-any-requires : tie.Need-any-requires
-any-requires c κs = search needs
+  abbrev start : tie.Start
+  start = at-reached .before .before .before .before .before .before .before
 
 edges-requires : tie.Need-edges-requires
 edges-requires c κs =
-    let o = c .before .before .before .before .before .before .before .before .before .before .before .before .before .before .before .before .before .before .before .before .before .before .before .before .before .before .before .before .before .before in
-    let k = c .before .before .before .before .before .before .complement2 .kept .0 in
-    let d = c .before .before .before .before .before .before .before .before .before .before .before .before .dilate2 .kept in
-    let e = c .before .before .before .before .before .before .before .before .before .before .before .before .before .before .before .before .before .before .before .before .before .before .before .dilate .kept in
-    let p = o .pre .1 in
-    (omega (arith, k, d .1 .1 .1 .1 .1 .0, p .0, p .1 .0), omega (arith, d .1 .1 .1 .1 .0, e .1 .1 .1 .1 .0, p .0, p .1 .1 .1))
-
-same-length : tie.Need-same-length
-same-length c = search needs
-
-same-length-2 : tie.Need-same-length-2
-same-length-2 c = search needs
-
-same-length-3 : tie.Need-same-length-3
-same-length-3 c = search needs
+    let p = start c .pre .1 in
+    let near = at-near c .dilate2 .kept .1 .1 .1 .1 in (
+      omega (arith, at-shallow c .complement2 .kept .0, near .1 .0, p .0, p .1 .0),
+      omega (arith, near .0, at-reached c .dilate .kept .1 .1 .1 .1 .0, p .0, p .1 .1 .1),
+    )
 
 returns : tie.Need-returns
 returns c =
-    let o = c .before .before .before .before .before .before .before .before .before .before .before .before .before .before .before .before .before .before .before .before .before .before .before .before .before .before .before .before .before .before .before .before .before in
-    let a = o .args in
-    let back = a .back .now in
-    let n = a .h * a .w in
-    let shallow : List ℕ = c .before .before .before .before .before .before .before .before .before .complement2 .last .0 in
-    let shallow-made : shallow ≡ maskOf n (isShallow back (a .h) (a .w)) =
-    c .before .before .before .before .before .before .before .before .before .complement2 .ensures
-    ∙ ap complementOf (c .before .before .before .before .before .before .before .before .before .before .before .before .before .before .before .dilate2 .ensures .0)
-    ∙ shallow-laid back (a .h) (a .w) (o .pre .0 .some-columns) in
+    let made = c .before .before .before in
+    let a = start made .args in
+    let p = start made .pre in
+    let wide = p .0 .some-columns in
+    let shallow : List ℕ = at-shallow made .complement2 .last .0 in
+    let shallow-made : shallow ≡ maskOf (a .h * a .w) (isShallow (a .back .now) (a .h) (a .w)) =
+    at-shallow made .complement2 .ensures
+    ∙ ap complementOf (at-near made .dilate2 .ensures .0)
+    ∙ shallow-laid (a .back .now) (a .h) (a .w) wide in
     record {
       shallow-is = shallow-made;
       deep-is =
-          c .before .before .before .before .before .before .before .before .before .before .before .before .before .before .before .before .before .before .before .before .complement .ensures
-          ∙ ap complementOf (c .before .before .before .before .before .before .before .before .before .before .before .before .before .before .before .before .before .before .before .before .before .before .before .before .before .before .dilate .ensures .0)
-          ∙ deep-laid back (a .h) (a .w) (o .pre .0 .some-columns);
+          at-deep made .complement .ensures
+          ∙ ap complementOf (at-reached made .dilate .ensures .0)
+          ∙ deep-laid (a .back .now) (a .h) (a .w) wide;
       marks-are =
           c .before .before .edges .ensures
-          ∙ ap (λ (t : Bool). maskOf (length back) (edgeTest t back shallow)) (c .before .before .before .before .before .any .ensures)
-          ∙ ap (λ (m : ℕ). maskOf m (edgeTest (someBelow (length shallow) (isOn shallow)) back shallow)) (o .pre .1 .0)
-          ∙ edge-laid back (a .h) (a .w) (o .pre .0 .some-columns) shallow shallow-made;
+          ∙ rw (made .before .before .any .ensures, p .1 .0) (edge-laid (a .back .now) (a .h) (a .w) wide shallow shallow-made);
     }
 
 pub lay-spec : {M : Type 1} → statement M
 lay-spec =
     tie.close
     (tie.spec
-    dilate-requires
-    complement-requires
-    dilate-requires-2
-    complement-requires-2
-    any-requires
+    (λ c κs. search needs)
+    (λ c κs. search needs)
+    (λ c κs. search needs)
+    (λ c κs. search needs)
+    (λ c κs. search needs)
     edges-requires
-    same-length
-    same-length-2
-    same-length-3
+    (λ c. search needs)
+    (λ c. search needs)
+    (λ c. search needs)
     returns)

@@ -25,38 +25,17 @@ loop-holds : tie.Need-loop-holds Inv-loop μ-loop
 unfolding someBelow
 loop-holds c = (omega arith, changed-none 0 _ _, refl)
 
-shared-slice-read-m : tie.Need-shared-slice-read-m Inv-loop μ-loop
-shared-slice-read-m c = omega arith
-
-slice-read-byte : tie.Need-slice-read-byte Inv-loop μ-loop
-slice-read-byte c = omega arith
-
-byte-requires : tie.Need-byte-requires Inv-loop μ-loop
-byte-requires c κs = search needs
-
-slice-write-back : tie.Need-slice-write-back Inv-loop μ-loop
-slice-write-back c = omega arith
-
-add-i : tie.Need-add-i Inv-loop μ-loop
-add-i c = omega arith
-
-loop-less : tie.Need-loop-less Inv-loop μ-loop
-loop-less c = omega arith
-
 loop-again : tie.Need-loop-again Inv-loop μ-loop
 unfolding isOn on
 loop-again c =
-    let l = c .before .before .before .before .loop in
-    let a = c .before .before .before .before .before .before .before .args in
-    let f : ℕ → ℕ = λ (k : ℕ). bit (isOn (a .back .now) k || isOn (a .marks .now) k) in
-    let e = c .byte .ensures ∙ ap (λ (b : ℕ). bit (on b || isOn (a .marks .now) (l .i))) (l .inv .1 .back (l .i) (omega arith)) in (
+    let at-loop = c .before .before .before .before in
+    let l = at-loop .loop in
+    let marks = at-loop .before .before .before .args .marks .now in
+    let e = c .byte .ensures ∙ ap (λ (b : ℕ). bit (on b || isOn marks (l .i))) (l .inv .1 .back (l .i) (omega arith)) in (
       omega arith,
-      changed-more 0 f (a .back .now) (l .back) (l .i) (c .byte .result) (l .inv .1) (omega arith) e,
-      some-more (isOn (a .marks .now)) (l .i) (l .joined) (isOn (a .marks .now) (l .i)) (l .inv .2) refl,
+      changed-more 0 _ _ (l .back) (l .i) (c .byte .result) (l .inv .1) (omega arith) e,
+      some-more (isOn marks) (l .i) (l .joined) (isOn marks (l .i)) (l .inv .2) refl,
     )
-
-same-length : tie.Need-same-length Inv-loop μ-loop
-same-length c = c .before .loop .inv .1 .size
 
 returns : tie.Need-returns Inv-loop μ-loop
 unfolding maskOf
@@ -73,12 +52,12 @@ settle-spec =
     Inv-loop
     μ-loop
     loop-holds
-    shared-slice-read-m
-    slice-read-byte
-    byte-requires
-    slice-write-back
-    add-i
-    loop-less
+    (λ c. search needs)
+    (λ c. search needs)
+    (λ c κs. search needs)
+    (λ c. search needs)
+    (λ c. search needs)
+    (λ c. search needs)
     loop-again
-    same-length
+    (λ c. search needs)
     returns)

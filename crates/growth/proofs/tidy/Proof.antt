@@ -17,34 +17,12 @@ Inv-loop back₀ i₀ back i = (i ≤ length back₀) × Changed 0 (λ (k : ℕ)
 abbrev μ-loop : tie.MeasureT-loop
 μ-loop back₀ i₀ back i = length back₀ - i
 
-loop-holds : tie.Need-loop-holds Inv-loop μ-loop
-loop-holds c = (omega arith, changed-none 0 _ _)
-
-slice-read-byte : tie.Need-slice-read-byte Inv-loop μ-loop
-slice-read-byte c = omega arith
-
-byte-requires : tie.Need-byte-requires Inv-loop μ-loop
-byte-requires c κs = search needs
-
-slice-write-back : tie.Need-slice-write-back Inv-loop μ-loop
-slice-write-back c = omega arith
-
-add-i : tie.Need-add-i Inv-loop μ-loop
-add-i c = omega arith
-
-loop-less : tie.Need-loop-less Inv-loop μ-loop
-loop-less c = omega arith
-
 loop-again : tie.Need-loop-again Inv-loop μ-loop
 unfolding isOn on
 loop-again c =
     let l = c .before .before .before .loop in
-    let a = c .before .before .before .before .before .args in
     let e = c .byte .ensures ∙ ap (λ (b : ℕ). bit (on b)) (l .inv .1 .back (l .i) (omega arith)) in
-    (omega arith, changed-more 0 (λ (k : ℕ). bit (isOn (a .back .now) k)) (a .back .now) (l .back) (l .i) (c .byte .result) (l .inv .1) (omega arith) e)
-
-same-length : tie.Need-same-length Inv-loop μ-loop
-same-length c = c .before .loop .inv .1 .size
+    (omega arith, changed-more 0 _ _ (l .back) (l .i) (c .byte .result) (l .inv .1) (omega arith) e)
 
 returns : tie.Need-returns Inv-loop μ-loop
 unfolding maskOf
@@ -56,12 +34,12 @@ tidy-spec =
     (tie.spec
     Inv-loop
     μ-loop
-    loop-holds
-    slice-read-byte
-    byte-requires
-    slice-write-back
-    add-i
-    loop-less
+    (λ c. (omega arith, changed-none 0 _ _))
+    (λ c. search needs)
+    (λ c κs. search needs)
+    (λ c. search needs)
+    (λ c. search needs)
+    (λ c. search needs)
     loop-again
-    same-length
+    (λ c. search needs)
     returns)

@@ -1,18 +1,12 @@
 -- `keying::flat_background` meets its contract.
 -- Assumes nothing.
 use mathlib.Core.Path.{refl, sym, ap, _∙_}
-use Prim.Native.Nat.{ℕ}
 use borrow.Author.Needs.{needs}
 use Rattle.plane.proofs.Refusal.{written, kept}
-use Rattle.outline.specs.Answer.{groundFor}
-use Rattle.outline.specs.Border.{referenceOf}
 use Rattle.outline.specs.declared.Ground.the-variants as ground
 use Rattle.keying.proofs.Accepted.{ground-declined, ground-ok}
 use Rattle.keying.proofs.flat_background.Statement.{statement}
 use Rattle.keying.proofs.flat_background.Tie as tie
-
-ground-refusal-requires : tie.Need-ground-refusal-requires
-ground-refusal-requires c κs = search needs
 
 returns : tie.Need-returns
 returns c =
@@ -30,24 +24,25 @@ flat-ground-requires c κs =
     let k = ground-ok _ _ _ _ _ _ (sym (accepted .before .ground-refusal .ensures) ∙ accepted .if1 .left) in
     record { picture = record { sides = k .sides; input = k .input; range = k .range; room = k .room }; output = k .output }
 
-same-length : tie.Need-same-length
-same-length c = search needs
-
-same-length-2 : tie.Need-same-length-2
-same-length-2 c = search needs
-
 returns-2 : tie.Need-returns-2
 returns-2 c =
-    let a = c .before .before .before .before .before .before .before .before .before .before .before .before .args in
     let accepted = c .before .before .before .before .before .before .before in
     let n = accepted .before .ground-refusal in
     let z = sym (n .ensures) ∙ accepted .if1 .left in
     let call = c .before .before .before .before .flat-ground in
     record {
-      answer = call .ensures .0 ∙ ap (λ (k : ℕ). groundFor k (a .colours .now) (a .h) (a .w) (referenceOf (a .colours .now) (a .h) (a .w)) (a .tolerance)) (sym z);
+      answer = call .ensures .0 ∙ rw z;
       out-is = call .ensures .1 ∙ sym (written _ _ _ z);
       kept = λ bad. absurd (bad z);
     }
 
 pub flat-background-spec : {M : Type 1} → statement M
-flat-background-spec = tie.close (tie.spec ground-refusal-requires returns flat-ground-requires same-length same-length-2 returns-2)
+flat-background-spec =
+    tie.close
+    (tie.spec
+    (λ c κs. search needs)
+    returns
+    flat-ground-requires
+    (λ c. search needs)
+    (λ c. search needs)
+    returns-2)

@@ -12,9 +12,6 @@ use Rattle.keying.proofs.Accepted.{cut-refused, cut-made}
 use Rattle.keying.proofs.subject.Statement.{statement}
 use Rattle.keying.proofs.subject.Tie as tie
 
-cut-refusal-requires : tie.Need-cut-refusal-requires
-cut-refusal-requires c κs = search needs
-
 -- what is known once the number is
 module _ (c : tie.After-cut-refusal) where
   abbrev known-colours : tie.After-shared-slice-known
@@ -59,17 +56,19 @@ returns c =
 cut-mask-requires : tie.Need-cut-mask-requires
 cut-mask-requires c κs =
     let e = c .before .before .before .before .before in
-    let k = room (e .before) (e .if1 .left) in
-    (record {
-      sides = k .sides;
-      colours-long = k .colours-long;
-      range = k .range;
-      mask-long = k .mask-long;
-      nearest-long = k .nearest-long;
-      shallow-long = k .shallow-long;
-      deep-long = k .deep-long;
-      marks-long = k .marks-long;
-    }, k .alpha-long)
+    let k = room (e .before) (e .if1 .left) in (
+      record {
+        sides = k .sides;
+        colours-long = k .colours-long;
+        range = k .range;
+        mask-long = k .mask-long;
+        nearest-long = k .nearest-long;
+        shallow-long = k .shallow-long;
+        deep-long = k .deep-long;
+        marks-long = k .marks-long;
+      },
+      k .alpha-long,
+    )
 
 -- once the mask is made, the number is known to be 0
 module _ (c : tie.After-cut-mask) where
@@ -101,46 +100,30 @@ crop-of-requires c κs =
     let m = made (c .before .before .before .before) in
     (room (number m) (else1 m .if1 .left) .sides, mask-long m)
 
-same-length : tie.Need-same-length
-same-length c = search needs
-
-same-length-2 : tie.Need-same-length-2
-same-length-2 c = search needs
-
-same-length-3 : tie.Need-same-length-3
-same-length-3 c = search needs
-
-same-length-4 : tie.Need-same-length-4
-same-length-4 c = search needs
-
-same-length-5 : tie.Need-same-length-5
-same-length-5 c = search needs
-
-same-length-6 : tie.Need-same-length-6
-same-length-6 c = search needs
-
 returns-2 : tie.Need-returns-2
 returns-2 c =
     let w = c .before .before .before .before in
     let m = made (w .before) in
     let n = number m in
     let a = start n .args in
-    cut-made (a .colours .now) (a .alpha .now) (a .h) (a .w) (a .s) (lent n) _ _ _ (accepted n (else1 m .if1 .left)) (m .cut-mask .ensures .0) (m .cut-mask .ensures .1)
+    let call = m .cut-mask .ensures in
+    let z = accepted n (else1 m .if1 .left) in
+    cut-made (a .colours .now) (a .alpha .now) (a .h) (a .w) (a .s) (lent n) _ _ _ z (call .0) (call .1)
     (w .weights .ensures ∙ ap (weightsOf _ _) (weights-long m)) (c .crop-of .ensures) (held n)
 
 pub subject-spec : {M : Type 1} → statement M
 subject-spec =
     tie.close
     (tie.spec
-    cut-refusal-requires
+    (λ c κs. search needs)
     returns
     cut-mask-requires
     weights-requires
     crop-of-requires
-    same-length
-    same-length-2
-    same-length-3
-    same-length-4
-    same-length-5
-    same-length-6
+    (λ c. search needs)
+    (λ c. search needs)
+    (λ c. search needs)
+    (λ c. search needs)
+    (λ c. search needs)
+    (λ c. search needs)
     returns-2)

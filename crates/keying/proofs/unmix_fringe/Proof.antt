@@ -13,9 +13,6 @@ use Rattle.keying.proofs.Accepted.{GrowthOk, growth-ok, growth-refused,
 use Rattle.keying.proofs.unmix_fringe.Statement.{statement}
 use Rattle.keying.proofs.unmix_fringe.Tie as tie
 
-growth-refusal-requires : tie.Need-growth-refusal-requires
-growth-refusal-requires c κs = search needs
-
 -- what is known once the number is
 module _ (c : tie.After-growth-refusal) where
   abbrev start : tie.Start
@@ -32,26 +29,23 @@ module _ (c : tie.After-growth-refusal) where
       }
 
   accepted : c .growth-refusal .result ≡ 0
-      → growthRefusalIn (start .args .colours .now) (start .args .background .now) (start .args .h) (start .args .w) (start .args .reference) lent ≡ 0
+      → let a = start .args in growthRefusalIn (a .colours .now) (a .background .now) (a .h) (a .w) (a .reference) lent ≡ 0
   accepted z = sym (c .growth-refusal .ensures) ∙ z
 
-  room : c .growth-refusal .result ≡ 0 → GrowthOk (start .args .colours .now) (start .args .background .now) (start .args .h) (start .args .w) lent
+  room : c .growth-refusal .result ≡ 0 → let a = start .args in GrowthOk (a .colours .now) (a .background .now) (a .h) (a .w) lent
   room z = growth-ok _ _ _ _ (start .args .reference) lent (accepted z)
 
 returns : tie.Need-returns
 returns c =
     let n = c .before in
     let a = start n .args in
-    growth-refused (a .colours .now) (a .background .now) (a .h) (a .w) (a .reference) (a .p) (lent n) _ (n .growth-refusal .ensures) (c .if1 .taken)
+    growth-refused _ _ _ _ (a .reference) (a .p) (lent n) _ (n .growth-refusal .ensures) (c .if1 .taken)
 
 copy-requires : tie.Need-copy-requires
 copy-requires c κs =
     let e = c .before in
     let k = room (e .before) (e .if1 .left) in
     k .back-long ∙ sym (k .out-long)
-
-count-of-requires : tie.Need-count-of-requires
-count-of-requires c κs = search needs
 
 grow-requires : tie.Need-grow-requires
 grow-requires c κs =
@@ -66,21 +60,6 @@ grow-requires c κs =
       marks-long = omega (arith, k .marks-long);
       back-long = copied .copy .kept .1 .0 ∙ k .out-long;
     }
-
-same-length : tie.Need-same-length
-same-length c = search needs
-
-same-length-2 : tie.Need-same-length-2
-same-length-2 c = search needs
-
-same-length-3 : tie.Need-same-length-3
-same-length-3 c = search needs
-
-same-length-4 : tie.Need-same-length-4
-same-length-4 c = search needs
-
-same-length-5 : tie.Need-same-length-5
-same-length-5 c = search needs
 
 returns-2 : tie.Need-returns-2
 returns-2 c =
@@ -97,14 +76,14 @@ pub unmix-fringe-spec : {M : Type 1} → statement M
 unmix-fringe-spec =
     tie.close
     (tie.spec
-    growth-refusal-requires
+    (λ c κs. search needs)
     returns
     copy-requires
-    count-of-requires
+    (λ c κs. search needs)
     grow-requires
-    same-length
-    same-length-2
-    same-length-3
-    same-length-4
-    same-length-5
+    (λ c. search needs)
+    (λ c. search needs)
+    (λ c. search needs)
+    (λ c. search needs)
+    (λ c. search needs)
     returns-2)

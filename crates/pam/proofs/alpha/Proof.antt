@@ -17,39 +17,12 @@ Inv-loop input body n out₀ i₀ out i = (i ≤ length out₀) × Changed 0 (λ
 abbrev μ-loop : tie.MeasureT-loop
 μ-loop input body n out₀ i₀ out i = length out₀ - i
 
-loop-holds : tie.Need-loop-holds Inv-loop μ-loop
-loop-holds c = (omega arith, changed-none 0 _ _)
-
-mul-byte-at : tie.Need-mul-byte-at Inv-loop μ-loop
-mul-byte-at c = omega arith
-
-add-byte-at : tie.Need-add-byte-at Inv-loop μ-loop
-add-byte-at c = omega arith
-
-add-byte-at-2 : tie.Need-add-byte-at-2 Inv-loop μ-loop
-add-byte-at-2 c = omega arith
-
-byte-at-requires : tie.Need-byte-at-requires Inv-loop μ-loop
-byte-at-requires c κs = search needs
-
-slice-write-out : tie.Need-slice-write-out Inv-loop μ-loop
-slice-write-out c = omega (arith, c .before .before .loop .inv .1 .size)
-
-add-i : tie.Need-add-i Inv-loop μ-loop
-add-i c = omega arith
-
-loop-less : tie.Need-loop-less Inv-loop μ-loop
-loop-less c = omega arith
-
 loop-again : tie.Need-loop-again Inv-loop μ-loop
 unfolding sampleAt
 loop-again c =
     let l = c .before .before .loop in
-    let a = c .before .before .before .before .before .args in
-    (omega arith, changed-more 0 (λ (k : ℕ). sampleAt (a .input .now) (a .body) (4 * k + 3)) (a .out .now) (l .out) (l .i) (c .byte-at .result) (l .inv .1) (omega (arith, l .inv .1 .size)) (c .byte-at .ensures))
-
-same-length : tie.Need-same-length Inv-loop μ-loop
-same-length c = c .before .loop .inv .1 .size
+    let done = l .inv .1 in
+    (omega arith, changed-more 0 _ _ (l .out) (l .i) (c .byte-at .result) done (omega (arith, done .size)) (c .byte-at .ensures))
 
 returns : tie.Need-returns Inv-loop μ-loop
 unfolding alphaFrom
@@ -65,14 +38,14 @@ alpha-spec =
     (tie.spec
     Inv-loop
     μ-loop
-    loop-holds
-    mul-byte-at
-    add-byte-at
-    add-byte-at-2
-    byte-at-requires
-    slice-write-out
-    add-i
-    loop-less
+    (λ c. (omega arith, changed-none 0 _ _))
+    (λ c. omega arith)
+    (λ c. omega arith)
+    (λ c. omega arith)
+    (λ c κs. search needs)
+    (λ c. omega (arith, c .before .before .loop .inv .1 .size))
+    (λ c. omega arith)
+    (λ c. omega arith)
     loop-again
-    same-length
+    (λ c. c .before .loop .inv .1 .size)
     returns)

@@ -6,15 +6,9 @@ use borrow.Author.Needs.{needs}
 use Rattle.pbm.proofs.ends_line.Statement.{statement}
 use Rattle.pbm.proofs.ends_line.Tie as tie
 
-add-result : tie.Need-add-result
-add-result c = search needs
-
-add-result-2 : tie.Need-add-result-2
-add-result-2 c = search needs
-
 returns : tie.Need-returns
 unfolding endsLine
 returns c = refl
 
 pub ends-line-spec : {M : Type 1} → statement M
-ends-line-spec = tie.close (tie.spec add-result add-result-2 returns)
+ends-line-spec = tie.close (tie.spec (λ c. search needs) (λ c. search needs) returns)

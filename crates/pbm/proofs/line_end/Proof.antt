@@ -5,12 +5,6 @@ use borrow.Author.Needs.{needs}
 use Rattle.pbm.proofs.line_end.Statement.{statement}
 use Rattle.pbm.proofs.line_end.Tie as tie
 
-put-requires : tie.Need-put-requires
-put-requires c κs = search needs
-
-same-length : tie.Need-same-length
-same-length c = search needs
-
 returns : tie.Need-returns
 returns c = wrote-as (rw (c .before .before .before .before .if1 .taken)) (c .before .before .put .ensures)
 
@@ -18,4 +12,4 @@ returns-2 : tie.Need-returns-2
 returns-2 c = wrote-as (rw (c .if1 .left)) wrote-none
 
 pub line-end-spec : {M : Type 1} → statement M
-line-end-spec = tie.close (tie.spec put-requires same-length returns returns-2)
+line-end-spec = tie.close (tie.spec (λ c κs. search needs) (λ c. search needs) returns returns-2)

@@ -8,29 +8,24 @@ use Rattle.pbm.proofs.Lengths.{pair-long}
 use Rattle.pbm.proofs.pair.Statement.{statement}
 use Rattle.pbm.proofs.pair.Tie as tie
 
-write-number-requires : tie.Need-write-number-requires
-write-number-requires c κs = let a = c .before .before .args in omega (arith, pair-long (a .a) (a .b))
-
-put-requires : tie.Need-put-requires
-put-requires c κs = let a = c .before .before .before .before .before .before .args in omega (arith, pair-long (a .a) (a .b))
-
-write-number-requires-2 : tie.Need-write-number-requires-2
-write-number-requires-2 c κs = let a = c .before .before .before .before .before .before .before .before .before .before .args in omega (arith, pair-long (a .a) (a .b))
-
-same-length : tie.Need-same-length
-same-length c = search needs
+-- the start, seen from the second number
+abbrev at-second : tie.After-write-number-arg2 → tie.Start
+at-second c = c .before .before .before .before .before .before .before .before .before .before
 
 returns : tie.Need-returns
 unfolding pairText
 returns c =
-    wrote-more (wrote-more (c .before .before .before .before .before .before .before .before .before .before .write-number .ensures) (c .before .before .before .before .before .before .put .ensures)) (c .before .before .write-number2 .ensures)
+    let second = c .before .before in
+    let between = second .before .before .before .before in
+    let first = between .before .before .before .before in
+    wrote-more (wrote-more (first .write-number .ensures) (between .put .ensures)) (second .write-number2 .ensures)
 
 pub pair-spec : {M : Type 1} → statement M
 pair-spec =
     tie.close
     (tie.spec
-    write-number-requires
-    put-requires
-    write-number-requires-2
-    same-length
+    (λ c κs. let a = c .before .before .args in omega (arith, pair-long (a .a) (a .b)))
+    (λ c κs. let a = c .before .before .before .before .before .before .args in omega (arith, pair-long (a .a) (a .b)))
+    (λ c κs. let a = at-second c .args in omega (arith, pair-long (a .a) (a .b)))
+    (λ c. search needs)
     returns)

@@ -9,40 +9,28 @@ use borrow.Author.Needs.{needs}
 use Rattle.pbm.proofs.pixel.Statement.{statement}
 use Rattle.pbm.proofs.pixel.Tie as tie
 
-shared-slice-read-bit-byte : tie.Need-shared-slice-read-bit-byte
-shared-slice-read-bit-byte c = search needs
-
-bit-byte-requires : tie.Need-bit-byte-requires
-bit-byte-requires c κs = search needs
-
-put-requires : tie.Need-put-requires
-put-requires c κs = search needs
-
-rem-ends-line : tie.Need-rem-ends-line
-rem-ends-line c = search needs
-
 ends-line-requires : tie.Need-ends-line-requires
-ends-line-requires c κs = mod-lt (c .before .before .before .before .before .before .before .before .before .args .i) (c .before .before .before .before .before .before .before .before .before .pre .0)
-
-line-end-requires : tie.Need-line-end-requires
-line-end-requires c κs = search needs
-
-same-length : tie.Need-same-length
-same-length c = search needs
+ends-line-requires c κs =
+    let start = c .before .before .before .before .before .before .before .before .before in
+    mod-lt (start .args .i) (start .pre .0)
 
 returns : tie.Need-returns
 unfolding pixelText isOn on
-returns c = wrote-as (rw (c .before .before .before .before .before .before .before .before .bit-byte .ensures, c .before .before .before .ends-line .ensures)) (wrote-more (c .before .before .before .before .before .before .before .put .ensures) (c .before .before .line-end .ensures))
+returns c =
+    let end = c .before .before in
+    let first = end .before .before .before .before .before in
+    let both = wrote-more (first .put .ensures) (end .line-end .ensures) in
+    wrote-as (rw (first .before .bit-byte .ensures, end .before .ends-line .ensures)) both
 
 pub pixel-spec : {M : Type 1} → statement M
 pixel-spec =
     tie.close
     (tie.spec
-    shared-slice-read-bit-byte
-    bit-byte-requires
-    put-requires
-    rem-ends-line
+    (λ c. search needs)
+    (λ c κs. search needs)
+    (λ c κs. search needs)
+    (λ c. search needs)
     ends-line-requires
-    line-end-requires
-    same-length
+    (λ c κs. search needs)
+    (λ c. search needs)
     returns)

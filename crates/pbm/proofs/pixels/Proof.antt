@@ -17,9 +17,6 @@ Inv-loop out₀ at mask w next₀ i₀ out next i = (i ≤ length mask) × (leng
 abbrev μ-loop : tie.MeasureT-loop
 μ-loop out₀ at mask w next₀ i₀ out next i = length mask - i
 
-loop-holds : tie.Need-loop-holds Inv-loop μ-loop
-loop-holds c = (omega arith, refl, unfold pixelsText in wrote-none)
-
 pixel-requires : tie.Need-pixel-requires Inv-loop μ-loop
 pixel-requires c κs =
     let l = c .before .before .loop in
@@ -28,21 +25,12 @@ pixel-requires c κs =
     let p = c .before .before .before .before .before .pre in
     (p .0, omega arith, omega (arith, l .inv .1, l .inv .2 .end-is, p .1))
 
-add-i : tie.Need-add-i Inv-loop μ-loop
-add-i c = omega arith
-
-loop-less : tie.Need-loop-less Inv-loop μ-loop
-loop-less c = omega arith
-
 loop-again : tie.Need-loop-again Inv-loop μ-loop
 loop-again c =
     let l = c .before .before .before .before .before .loop in
     let a = c .before .before .before .before .before .before .before .before .args in
     let p = c .before .before .pixel in
     (omega arith, p .kept .0 ∙ l .inv .1, wrote-as (pixels-more (a .mask .now) (a .w) (l .i)) (wrote-more (l .inv .2) (p .ensures)))
-
-same-length : tie.Need-same-length Inv-loop μ-loop
-same-length c = c .before .loop .inv .1
 
 returns : tie.Need-returns Inv-loop μ-loop
 returns c =
@@ -57,10 +45,10 @@ pixels-spec =
     (tie.spec
     Inv-loop
     μ-loop
-    loop-holds
+    (λ c. (omega arith, refl, unfold pixelsText in wrote-none))
     pixel-requires
-    add-i
-    loop-less
+    (λ c. omega arith)
+    (λ c. omega arith)
     loop-again
-    same-length
+    (λ c. c .before .loop .inv .1)
     returns)

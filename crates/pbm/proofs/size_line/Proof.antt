@@ -14,13 +14,10 @@ pair-requires c κs = let a = c .before .before .args in omega (arith, size-long
 put-requires : tie.Need-put-requires
 put-requires c κs = let a = c .before .before .before .before .before .before .args in omega (arith, size-long (a .h) (a .w))
 
-same-length : tie.Need-same-length
-same-length c = search needs
-
 returns : tie.Need-returns
 unfolding sizeLine
 returns c = wrote-more (c .before .before .before .before .before .before .pair .ensures) (c .before .before .put .ensures)
 
 pub size-line-spec : {M : Type 1} → statement M
 size-line-spec =
-    tie.close (tie.spec pair-requires put-requires same-length returns)
+    tie.close (tie.spec pair-requires put-requires (λ c. search needs) returns)

@@ -43,7 +43,9 @@ loop-again : tie.Need-loop-again Inv-loop μ-loop
 loop-again c =
     let l = c .before .before .before .loop in
     let m = c .before .before .before .before .before .args .mask .now in
-    (omega arith, changed-more 0 (λ (k : ℕ). bit (not (isOn m k))) m (l .mask) (l .i) (c .byte .result) (l .inv .1) (omega arith) (c .byte .ensures ∙ ap (λ (n : ℕ). bit (eqb n 0)) (l .inv .1 .back (l .i) (omega arith)) ∙ ap bit (off-byte m (l .i))))
+    let old = ap (λ (n : ℕ). bit (eqb n 0)) (l .inv .1 .back (l .i) (omega arith)) in
+    let right = c .byte .ensures ∙ old ∙ ap bit (off-byte m (l .i)) in
+    (omega arith, changed-more 0 _ m (l .mask) (l .i) (c .byte .result) (l .inv .1) (omega arith) right)
 
 same-length : tie.Need-same-length Inv-loop μ-loop
 same-length c = c .before .loop .inv .1 .size

@@ -8,15 +8,9 @@ use Rattle.refusals.proofs.Laws.{ground-first}
 use Rattle.refusals.proofs.ground_refusal.Statement.{statement}
 use Rattle.refusals.proofs.ground_refusal.Tie as tie
 
-ground-lengths-requires : tie.Need-ground-lengths-requires
-ground-lengths-requires c κs = search needs
-
 returns : tie.Need-returns
 unfolding groundRefusal
 returns c = let n = c .before .ground-lengths in n .ensures ∙ sym (declined-first _ _ (λ q. c .if1 .taken (n .ensures ∙ q)))
-
-picture-refusal-requires : tie.Need-picture-refusal-requires
-picture-refusal-requires c κs = search needs
 
 returns-2 : tie.Need-returns-2
 returns-2 c =
@@ -24,4 +18,4 @@ returns-2 c =
     c .picture-refusal .ensures ∙ sym (ground-first _ _ _ _ _ _ (sym (lengths .ensures) ∙ c .before .if1 .left))
 
 pub ground-refusal-spec : {M : Type 1} → statement M
-ground-refusal-spec = tie.close (tie.spec ground-lengths-requires returns picture-refusal-requires returns-2)
+ground-refusal-spec = tie.close (tie.spec (λ c κs. search needs) returns (λ c κs. search needs) returns-2)

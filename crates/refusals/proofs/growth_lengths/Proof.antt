@@ -7,13 +7,10 @@ use native.Mathlib.Omega.{arith}
 use borrow.Author.Needs.{needs}
 use borrow.Author.Tests.{not-true, not-false, eq-eqb, ne-eqb}
 use Rattle.plane.specs.Refusal.{refusalOf, sidesOk}
-use Rattle.plane.proofs.Refusal.{sides-are, accepted-area}
+use Rattle.plane.proofs.Refusal.{joined, sides-are, accepted-area}
 use Rattle.outline.specs.Refusal.{growthLengths}
 use Rattle.refusals.proofs.growth_lengths.Statement.{statement}
 use Rattle.refusals.proofs.growth_lengths.Tie as tie
-
-sides-ok-requires : tie.Need-sides-ok-requires
-sides-ok-requires c κs = search needs
 
 -- the sides are accepted
 ok : (c : tie.Else1) → sidesOk (c .before .before .args .h) (c .before .before .args .w) ≡ true
@@ -26,45 +23,31 @@ returns : tie.Need-returns
 unfolding growthLengths refusalOf
 returns c = rw (sym (c .before .sides-ok .ensures) ∙ not-true _ (c .if1 .taken))
 
-mul-n : tie.Need-mul-n
-mul-n c = let m = small c in omega arith
-
-mul-if2 : tie.Need-mul-if2
-mul-if2 c = let m = small c in omega arith
-
 returns-2 : tie.Need-returns-2
 unfolding growthLengths refusalOf
-returns-2 c = rw (ok (c .before), ne-eqb _ _ (c .if2 .taken))
+returns-2 c = rw (joined, ok (c .before .before), c .before .if2 .taken, ne-eqb _ _ (c .if3 .taken))
 
 returns-3 : tie.Need-returns-3
 unfolding growthLengths refusalOf
-returns-3 c = rw (ok (c .before .before), eq-eqb _ _ (c .before .if2 .left), ne-eqb _ _ (c .if3 .taken))
+returns-3 c =
+    let sized = c .before .before in
+    rw (joined, ← c .before .room .ensures, ok (sized .before .before), sized .before .if2 .taken, eq-eqb _ _ (sized .if3 .left))
+    (c .work-lengths .ensures)
 
 returns-4 : tie.Need-returns-4
 unfolding growthLengths refusalOf
-returns-4 c = rw (ok (c .before .before .before), eq-eqb _ _ (c .before .before .if2 .left), eq-eqb _ _ (c .before .if3 .left), ne-eqb _ _ (c .if4 .taken))
-
-room-requires : tie.Need-room-requires
-room-requires c κs = sides-are _ _ (ok (c .before .before .before))
-
-work-lengths-requires : tie.Need-work-lengths-requires
-work-lengths-requires c κs = search needs
-
-returns-5 : tie.Need-returns-5
-unfolding growthLengths refusalOf
-returns-5 c = rw (ok (c .before .before .before .before .before), eq-eqb _ _ (c .before .before .before .before .if2 .left), eq-eqb _ _ (c .before .before .before .if3 .left), eq-eqb _ _ (c .before .before .if4 .left)) (rw (c .before .room .ensures) at (c .work-lengths .ensures))
+returns-4 c = rw (joined, ok (c .before), c .if2 .left)
 
 pub growth-lengths-spec : {M : Type 1} → statement M
 growth-lengths-spec =
     tie.close
     (tie.spec
-    sides-ok-requires
+    (λ c κs. search needs)
     returns
-    mul-n
-    mul-if2
+    (λ c. omega (arith, small c))
+    (λ c. omega (arith, small c))
     returns-2
+    (λ c κs. sides-are _ _ (ok (c .before .before)))
+    (λ c κs. search needs)
     returns-3
-    returns-4
-    room-requires
-    work-lengths-requires
-    returns-5)
+    returns-4)

@@ -8,15 +8,9 @@ use Rattle.outline.specs.Refusal.{pictureTests}
 use Rattle.refusals.proofs.picture_refusal.Statement.{statement}
 use Rattle.refusals.proofs.picture_refusal.Tie as tie
 
-colours-ok-requires : tie.Need-colours-ok-requires
-colours-ok-requires c κs = search needs
-
 returns : tie.Need-returns
 unfolding refusalOf pictureTests
 returns c = rw (sym (c .before .colours-ok .ensures .answer) ∙ not-true _ (c .if1 .taken))
-
-is-finite-requires : tie.Need-is-finite-requires
-is-finite-requires c κs = search needs
 
 returns-2 : tie.Need-returns-2
 unfolding refusalOf pictureTests
@@ -37,4 +31,4 @@ returns-3 c =
     )
 
 pub picture-refusal-spec : {M : Type 1} → statement M
-picture-refusal-spec = tie.close (tie.spec colours-ok-requires returns is-finite-requires returns-2 returns-3)
+picture-refusal-spec = tie.close (tie.spec (λ c κs. search needs) returns (λ c κs. search needs) returns-2 returns-3)

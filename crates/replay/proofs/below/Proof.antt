@@ -10,9 +10,6 @@ use borrow.Author.Needs.{needs}
 use Rattle.replay.proofs.below.Statement.{statement}
 use Rattle.replay.proofs.below.Tie as tie
 
-cast-result : tie.Need-cast-result
-cast-result c = search needs
-
 fits : (n : ℕ) → n < 0x8000_0000_0000_0000 → SFits w64 (negsuc 0 -ℤ pos n)
 fits zero h = record { sfits = omega arith }
 fits (suc n) h = record { sfits = omega arith }
@@ -23,8 +20,5 @@ sub-result c =
     let h : m < 0x8000_0000_0000_0000 = omega arith in
     rw (toZ-neg w64 0 (omega arith), toZ-pos w64 {n = m} h) (fits m h)
 
-returns : tie.Need-returns
-returns c = search needs
-
 pub below-spec : {M : Type 1} → statement M
-below-spec = tie.close (tie.spec cast-result sub-result returns)
+below-spec = tie.close (tie.spec (λ c. search needs) sub-result (λ c. search needs))

@@ -14,14 +14,10 @@ number nan e = subst T (sym e) tt
 number (inf s) e = tt
 number (fin s m k) e = tt
 
-float-to-bits-result : tie.Need-float-to-bits-result
-float-to-bits-result c = number (c .before .args .x) (c .if1 .taken)
-
-returns : tie.Need-returns
-returns c = search needs
-
-returns-2 : tie.Need-returns-2
-returns-2 c = search needs
-
 pub bits-spec : {M : Type 1} → statement M
-bits-spec = tie.close (tie.spec float-to-bits-result returns returns-2)
+bits-spec =
+    tie.close
+    (tie.spec
+    (λ c. number (c .before .args .x) (c .if1 .taken))
+    (λ c. search needs)
+    (λ c. search needs))

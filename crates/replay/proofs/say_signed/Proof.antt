@@ -14,12 +14,6 @@ use borrow.Author.Needs.{needs}
 use Rattle.replay.proofs.say_signed.Statement.{statement}
 use Rattle.replay.proofs.say_signed.Tie as tie
 
-slice-aggregate-say : tie.Need-slice-aggregate-say
-slice-aggregate-say c = search needs
-
-say-requires : tie.Need-say-requires
-say-requires c κs = search needs
-
 back : (z : ℤ) → SFits w32 z → toZ w32 (ofZ w32 z) ≡ z
 back z f = toZ-ofZ {w = w32} {z = z} f
 
@@ -36,15 +30,13 @@ cast-say-number c =
     let r = natural v (o .fits .v) (rw (back v (o .fits .v)) at left) in
     rw (back v (o .fits .v)) (r .0, omega (arith, r .1))
 
-say-number-requires : tie.Need-say-number-requires
-say-number-requires c κs = search needs
-
-returns : tie.Need-returns
-returns c = search needs
-
-returns-2 : tie.Need-returns-2
-returns-2 c = search needs
-
 pub say-signed-spec : {M : Type 1} → statement M
 say-signed-spec =
-    tie.close (tie.spec slice-aggregate-say say-requires cast-say-number say-number-requires returns returns-2)
+    tie.close
+    (tie.spec
+    (λ c. search needs)
+    (λ c κs. search needs)
+    cast-say-number
+    (λ c κs. search needs)
+    (λ c. search needs)
+    (λ c. search needs))

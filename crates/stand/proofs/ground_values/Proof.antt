@@ -5,15 +5,6 @@ use borrow.Author.Needs.{needs}
 use Rattle.stand.proofs.ground_values.Statement.{statement}
 use Rattle.stand.proofs.ground_values.Tie as tie
 
-enum-known-answer : tie.Need-enum-known-answer
-enum-known-answer c = search needs
-
-enum-told : tie.Need-enum-told
-enum-told c = search needs
-
-enum-known-answer-2 : tie.Need-enum-known-answer-2
-enum-known-answer-2 c = search needs
-
 returns : tie.Need-returns
 returns c = cc
 
@@ -28,4 +19,10 @@ returns-3 c = rw (c .before .answer2 .given .1)
 pub ground-values-spec : {M : Type 1} → statement M
 ground-values-spec =
     tie.close
-    (tie.spec enum-known-answer enum-told enum-known-answer-2 returns returns-2 returns-3)
+    (tie.spec
+    (λ c. search needs)
+    (λ c. search needs)
+    (λ c. search needs)
+    returns
+    returns-2
+    returns-3)

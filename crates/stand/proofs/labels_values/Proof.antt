@@ -4,12 +4,6 @@ use borrow.Author.Needs.{needs}
 use Rattle.stand.proofs.labels_values.Statement.{statement}
 use Rattle.stand.proofs.labels_values.Tie as tie
 
-enum-known-answer : tie.Need-enum-known-answer
-enum-known-answer c = search needs
-
-enum-known-answer-2 : tie.Need-enum-known-answer-2
-enum-known-answer-2 c = search needs
-
 returns : tie.Need-returns
 returns c = cc
 
@@ -17,4 +11,4 @@ returns-2 : tie.Need-returns-2
 returns-2 c = cc
 
 pub labels-values-spec : {M : Type 1} → statement M
-labels-values-spec = tie.close (tie.spec enum-known-answer enum-known-answer-2 returns returns-2)
+labels-values-spec = tie.close (tie.spec (λ c. search needs) (λ c. search needs) returns returns-2)

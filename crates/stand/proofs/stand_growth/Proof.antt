@@ -14,27 +14,6 @@ use Rattle.keying.specs.Calls.{GrowthBuffers, GrowthCalled}
 use Rattle.stand.proofs.stand_growth.Statement.{statement}
 use Rattle.stand.proofs.stand_growth.Tie as tie
 
-unmix-fringe-requires : tie.Need-unmix-fringe-requires
-unmix-fringe-requires c κs = search needs
-
-refusal-of-requires : tie.Need-refusal-of-requires
-refusal-of-requires c κs = search needs
-
-same-length : tie.Need-same-length
-same-length c = search needs
-
-same-length-2 : tie.Need-same-length-2
-same-length-2 c = search needs
-
-same-length-3 : tie.Need-same-length-3
-same-length-3 c = search needs
-
-same-length-4 : tie.Need-same-length-4
-same-length-4 c = search needs
-
-same-length-5 : tie.Need-same-length-5
-same-length-5 c = search needs
-
 -- a call with a number of passes is one with an equal number
 passes-same : {colours : List Float} {background : List ℕ} {h w : ℕ} {reference : Rgb} {p q : ℤ} {b b′ : GrowthBuffers} {r : Answer}
     → p ≡ q → GrowthCalled colours background h w reference p b r b′ → GrowthCalled colours background h w reference q b r b′
@@ -54,11 +33,11 @@ pub stand-growth-spec : {M : Type 1} → statement M
 stand-growth-spec =
     tie.close
     (tie.spec
-    unmix-fringe-requires
-    refusal-of-requires
-    same-length
-    same-length-2
-    same-length-3
-    same-length-4
-    same-length-5
+    (λ c κs. search needs)
+    (λ c κs. search needs)
+    (λ c. search needs)
+    (λ c. search needs)
+    (λ c. search needs)
+    (λ c. search needs)
+    (λ c. search needs)
     returns)

@@ -69,9 +69,10 @@ same-length-2 t c = search needs
 
 returns-2 : (t : ℕ) → lts.Need-returns-2 (put.Asked, put.Learnt, below t, here.Post) (at-measure t) here.Post
 returns-2 t c =
-    let s = c .before .before .before .before .before .before .before .before .before .before in
-    let l : 10 ≤ s .args .n = omega (arith, c .before .before .before .before .before .before .before .before .if1 .left) in
-    wrote-as (sym (decimal-more (s .args .n) l)) (wrote-more (c .before .before .before .before .before .before .write-number .ensures) (c .before .before .put2 .ensures))
+    let front = c .before .before .before .before .before .before in
+    let s = front .before .before .before .before in
+    let l : 10 ≤ s .args .n = omega (arith, front .before .before .if1 .left) in
+    wrote-as (sym (decimal-more (s .args .n) l)) (wrote-more (front .write-number .ensures) (c .before .before .put2 .ensures))
 
 pub +write-number-spec : {M : Type 1} → statement M
 +write-number-spec =

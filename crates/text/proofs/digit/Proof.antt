@@ -6,14 +6,13 @@ use Rattle.text.proofs.Decimal.{digit-is}
 use Rattle.text.proofs.digit.Statement.{statement}
 use Rattle.text.proofs.digit.Tie as tie
 
-sub-result : tie.Need-sub-result
-sub-result c = omega (arith, digit-is (c .args .b) (c .pre) .least)
-
-cast-result : tie.Need-cast-result
-cast-result c = search needs
-
 returns : tie.Need-returns
 returns c = omega (arith, digit-is (c .args .b) (c .pre) .least)
 
 pub digit-spec : {M : Type 1} → statement M
-digit-spec = tie.close (tie.spec sub-result cast-result returns)
+digit-spec =
+    tie.close
+    (tie.spec
+    (λ c. omega (arith, digit-is (c .args .b) (c .pre) .least))
+    (λ c. search needs)
+    returns)

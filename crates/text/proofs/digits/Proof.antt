@@ -1,10 +1,9 @@
 -- `text::digits` meets its contract.
 -- Assumes nothing.
 use mathlib.Core.Path.{_≡_, sym, ap, _∙_}
-use mathlib.Core.Bool.{true}
 use Prim.Native.Nat.{_+_, _-_, _≤_}
 use native.Mathlib.Omega.{arith}
-use lib.ListN.{length, getD}
+use lib.ListN.{length}
 use borrow.Author.Tests.{not-true, not-false}
 use borrow.Author.Needs.{needs}
 use Rattle.text.specs.Decimal.{isDigit, digitsUpto}
@@ -26,36 +25,23 @@ returns c =
 loop-holds : tie.Need-loop-holds Inv-loop μ-loop
 loop-holds c = let a = c .before .before .args in (omega arith, omega arith, digits-start (a .text .now) (a .most) (a .at))
 
-add-byte-at : tie.Need-add-byte-at Inv-loop μ-loop
-add-byte-at c = omega arith
-
-byte-at-requires : tie.Need-byte-at-requires Inv-loop μ-loop
-byte-at-requires c κs = search needs
-
-is-digit-requires : tie.Need-is-digit-requires Inv-loop μ-loop
-is-digit-requires c κs = search needs
-
 returns-2 : tie.Need-returns-2 Inv-loop μ-loop
 returns-2 c =
-    let l = c .before .before .before .before .loop in
-    let a = c .before .before .before .before .before .before .before .args in
-    let d = digits-end (a .text .now) (a .most - l .i) (a .at + l .i) (ap isDigit (sym (c .before .before .byte-at .ensures)) ∙ sym (c .before .is-digit .ensures) ∙ not-true _ (c .if2 .taken)) in
+    let read = c .before .before in
+    let l = read .before .before .loop in
+    let a = read .before .before .before .before .before .args in
+    let e = ap isDigit (sym (read .byte-at .ensures)) ∙ sym (c .before .is-digit .ensures) ∙ not-true _ (c .if2 .taken) in
+    let d = digits-end (a .text .now) (a .most - l .i) (a .at + l .i) e in
     omega arith
-
-add-i : tie.Need-add-i Inv-loop μ-loop
-add-i c = omega arith
-
-loop-less : tie.Need-loop-less Inv-loop μ-loop
-loop-less c = omega arith
 
 loop-again : tie.Need-loop-again Inv-loop μ-loop
 loop-again c =
-    let l = c .before .before .before .before .loop in
-    let a = c .before .before .before .before .before .before .before .args in
-    let e : isDigit (getD (a .text .now) (a .at + l .i) 0) ≡ true =
-    ap isDigit (sym (c .before .before .byte-at .ensures)) ∙ sym (c .before .is-digit .ensures) ∙ not-false _ (c .if2 .left) in
+    let read = c .before .before in
+    let l = read .before .before .loop in
+    let a = read .before .before .before .before .before .args in
+    let e = ap isDigit (sym (read .byte-at .ensures)) ∙ sym (c .before .is-digit .ensures) ∙ not-false _ (c .if2 .left) in
     let g = digit-inside (a .text .now) (a .at + l .i) e in
-    (omega arith, omega arith, l .inv .2 ∙ digits-more (a .text .now) (a .most - l .i) (a .most - (l .i + 1)) (a .at) (l .i) (omega arith) e)
+    (omega arith, omega arith, l .inv .2 ∙ digits-more (a .text .now) _ (a .most - (l .i + 1)) (a .at) (l .i) (omega arith) e)
 
 returns-3 : tie.Need-returns-3 Inv-loop μ-loop
 returns-3 c =
@@ -72,11 +58,11 @@ digits-spec =
     μ-loop
     returns
     loop-holds
-    add-byte-at
-    byte-at-requires
-    is-digit-requires
+    (λ c. omega arith)
+    (λ c κs. search needs)
+    (λ c κs. search needs)
     returns-2
-    add-i
-    loop-less
+    (λ c. omega arith)
+    (λ c. omega arith)
     loop-again
     returns-3)

@@ -31,9 +31,6 @@ mul-v c =
     let s = c .before .before .before in
     omega (arith, l .inv .2, power-most (l .i) (length (s .args .digits .now)) (omega arith) (s .pre .1))
 
-shared-slice-read-digit : tie.Need-shared-slice-read-digit Inv-loop μ-loop
-shared-slice-read-digit c = omega arith
-
 digit-requires : tie.Need-digit-requires Inv-loop μ-loop
 digit-requires c κs =
     let s = c .before .before .before .before in
@@ -46,12 +43,6 @@ add-v c =
     let d = digit-is _ (digit-at (s .args .digits .now) (l .i) (s .pre .0) (omega arith)) in
     omega (arith, c .digit .ensures, d .most, l .inv .2, power-most (l .i) (length (s .args .digits .now)) (omega arith) (s .pre .1))
 
-add-i : tie.Need-add-i Inv-loop μ-loop
-add-i c = omega arith
-
-loop-less : tie.Need-loop-less Inv-loop μ-loop
-loop-less c = omega arith
-
 loop-again : tie.Need-loop-again Inv-loop μ-loop
 loop-again c =
     let l = c .before .before .before .loop in
@@ -59,7 +50,8 @@ loop-again c =
     let d = digit-is _ (digit-at (s .args .digits .now) (l .i) (s .pre .0) (omega arith)) in
     let e = c .digit .ensures in
     let g : 10 * l .v + c .digit .result < 10 * 10 ^ l .i = omega (arith, d .most, l .inv .2) in
-    (omega arith, omega (arith, l .inv .1, value-more (s .args .digits .now) (l .i) (omega arith)), rw (add-one (l .i), pow-succ' 10 (l .i)) g)
+    let more = value-more (s .args .digits .now) (l .i) (omega arith) in
+    (omega arith, omega (arith, l .inv .1), rw (add-one (l .i), pow-succ' 10 (l .i)) g)
 
 returns : tie.Need-returns Inv-loop μ-loop
 returns c =
@@ -75,10 +67,10 @@ value-spec =
     μ-loop
     loop-holds
     mul-v
-    shared-slice-read-digit
+    (λ c. omega arith)
     digit-requires
     add-v
-    add-i
-    loop-less
+    (λ c. omega arith)
+    (λ c. omega arith)
     loop-again
     returns)

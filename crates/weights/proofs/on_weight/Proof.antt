@@ -7,19 +7,13 @@ use Rattle.weights.specs.steps.Weight.{onWeight}
 use Rattle.weights.proofs.on_weight.Statement.{statement}
 use Rattle.weights.proofs.on_weight.Tie as tie
 
-weight-requires : tie.Need-weight-requires
-weight-requires c κs = search needs
-
 returns : tie.Need-returns
 unfolding onWeight
 returns c = c .weight .ensures ∙ rw (eq-eqb _ _ (c .before .if1 .taken))
-
-weight-requires-2 : tie.Need-weight-requires-2
-weight-requires-2 c κs = search needs
 
 returns-2 : tie.Need-returns-2
 unfolding onWeight
 returns-2 c = c .weight2 .ensures ∙ rw (ne-eqb _ _ (c .before .if1 .left))
 
 pub on-weight-spec : {M : Type 1} → statement M
-on-weight-spec = tie.close (tie.spec weight-requires returns weight-requires-2 returns-2)
+on-weight-spec = tie.close (tie.spec (λ c κs. search needs) returns (λ c κs. search needs) returns-2)

@@ -19,27 +19,6 @@ Inv-loop out₀ v₀ out v =
 abbrev μ-loop : tie.MeasureT-loop
 μ-loop out₀ v₀ out v = 256 - v
 
-loop-holds : tie.Need-loop-holds Inv-loop μ-loop
-loop-holds c = (omega arith, refl, λ k l. absurd (not-suc-le-zero l))
-
-cast-on-weight : tie.Need-cast-on-weight Inv-loop μ-loop
-cast-on-weight c = omega arith
-
-on-weight-requires : tie.Need-on-weight-requires Inv-loop μ-loop
-on-weight-requires c κs = search needs
-
-mul-out : tie.Need-mul-out Inv-loop μ-loop
-mul-out c = omega arith
-
-slice-write-out : tie.Need-slice-write-out Inv-loop μ-loop
-slice-write-out c = omega arith
-
-add-v : tie.Need-add-v Inv-loop μ-loop
-add-v c = omega arith
-
-loop-less : tie.Need-loop-less Inv-loop μ-loop
-loop-less c = omega arith
-
 loop-again : tie.Need-loop-again Inv-loop μ-loop
 loop-again c =
     let l = c .before .before .loop in
@@ -48,9 +27,6 @@ loop-again c =
       length-set (l .out) (l .v) v ∙ l .inv .1,
       filled onWeight (l .out) (l .v) v nan (omega arith) (l .inv .2) (c .on-weight .ensures),
     )
-
-same-length : tie.Need-same-length Inv-loop μ-loop
-same-length c = c .before .loop .inv .1
 
 returns : tie.Need-returns Inv-loop μ-loop
 returns c =
@@ -63,13 +39,13 @@ on-weights-spec =
     (tie.spec
     Inv-loop
     μ-loop
-    loop-holds
-    cast-on-weight
-    on-weight-requires
-    mul-out
-    slice-write-out
-    add-v
-    loop-less
+    (λ c. (omega arith, refl, λ k l. absurd (not-suc-le-zero l)))
+    (λ c. omega arith)
+    (λ c κs. search needs)
+    (λ c. omega arith)
+    (λ c. omega arith)
+    (λ c. omega arith)
+    (λ c. omega arith)
     loop-again
-    same-length
+    (λ c. c .before .loop .inv .1)
     returns)

@@ -17,9 +17,6 @@ returns : tie.Need-returns
 unfolding weightFor on ofBits
 returns c = rw (eq-eqb _ _ (c .if1 .taken))
 
-mul-result : tie.Need-mul-result
-mul-result c = search needs
-
 shared-slice-read-result : tie.Need-shared-slice-read-result
 shared-slice-read-result c =
     let long : length (c .before .before .args .entries .now) ≡ 256 = ap length (c .before .before .pre) ∙ table-length onWeight 0 256 in
@@ -28,8 +25,10 @@ shared-slice-read-result c =
 returns-2 : tie.Need-returns-2
 unfolding weightFor on
 returns-2 c =
-    let a = c .before .before .args in
-    rw (ne-eqb _ _ (c .before .if1 .left)) (ap (λ (l : List Float). getD l (a .alpha) nan) (c .before .before .pre) ∙ table-at onWeight 256 (a .alpha) nan (omega arith))
+    let start = c .before .before in
+    let n = start .args .alpha in
+    let entry = ap (λ (l : List Float). getD l n nan) (start .pre) ∙ table-at onWeight 256 n nan (omega arith) in
+    rw (ne-eqb _ _ (c .before .if1 .left)) entry
 
 pub weigh-spec : {M : Type 1} → statement M
-weigh-spec = tie.close (tie.spec returns mul-result shared-slice-read-result returns-2)
+weigh-spec = tie.close (tie.spec returns (λ c. search needs) shared-slice-read-result returns-2)

@@ -21,30 +21,6 @@ Inv-loop entries mask alpha out₀ i₀ out i =
 abbrev μ-loop : tie.MeasureT-loop
 μ-loop entries mask alpha out₀ i₀ out i = length out₀ - i
 
-loop-holds : tie.Need-loop-holds Inv-loop μ-loop
-loop-holds c = (omega arith, refl, λ k l. absurd (not-suc-le-zero l))
-
-shared-slice-read-weigh : tie.Need-shared-slice-read-weigh Inv-loop μ-loop
-shared-slice-read-weigh c = omega arith
-
-shared-slice-read-weigh-2 : tie.Need-shared-slice-read-weigh-2 Inv-loop μ-loop
-shared-slice-read-weigh-2 c = omega arith
-
-weigh-requires : tie.Need-weigh-requires Inv-loop μ-loop
-weigh-requires c κs = search needs
-
-mul-out : tie.Need-mul-out Inv-loop μ-loop
-mul-out c = omega arith
-
-slice-write-out : tie.Need-slice-write-out Inv-loop μ-loop
-slice-write-out c = omega arith
-
-add-i : tie.Need-add-i Inv-loop μ-loop
-add-i c = omega arith
-
-loop-less : tie.Need-loop-less Inv-loop μ-loop
-loop-less c = omega arith
-
 loop-again : tie.Need-loop-again Inv-loop μ-loop
 unfolding weightAt weightFor onWeight isOn
 loop-again c =
@@ -55,9 +31,6 @@ loop-again c =
       length-set (l .out) (l .i) v ∙ l .inv .1,
       filled (weightAt (a .mask .now) (a .alpha .now)) (l .out) (l .i) v nan (omega arith) (l .inv .2) (c .weigh .ensures),
     )
-
-same-length : tie.Need-same-length Inv-loop μ-loop
-same-length c = c .before .loop .inv .1
 
 returns : tie.Need-returns Inv-loop μ-loop
 unfolding weightsOf
@@ -72,14 +45,14 @@ weigh-all-spec =
     (tie.spec
     Inv-loop
     μ-loop
-    loop-holds
-    shared-slice-read-weigh
-    shared-slice-read-weigh-2
-    weigh-requires
-    mul-out
-    slice-write-out
-    add-i
-    loop-less
+    (λ c. (omega arith, refl, λ k l. absurd (not-suc-le-zero l)))
+    (λ c. omega arith)
+    (λ c. omega arith)
+    (λ c κs. search needs)
+    (λ c. omega arith)
+    (λ c. omega arith)
+    (λ c. omega arith)
+    (λ c. omega arith)
     loop-again
-    same-length
+    (λ c. c .before .loop .inv .1)
     returns)

@@ -2,7 +2,7 @@
 -- Assumes nothing.
 use mathlib.Core.Path.{_≡_}
 use mathlib.Core.Bool.{true, false, _||_}
-use Prim.Native.Nat.{ℕ, _-_, _≤_, _<_}
+use Prim.Native.Nat.{ℕ, _*_, _-_, _≤_, _<_}
 use native.Mathlib.Omega.{arith}
 use borrow.Author.Needs.{needs}
 use borrow.Author.Count.{below-more}
@@ -17,49 +17,29 @@ Inv-loop deep h w y i across far e₀ e = (e ≤ 7) × ((k : ℕ) → k < e → 
 abbrev μ-loop : tie.MeasureT-loop
 μ-loop deep h w y i across far e₀ e = 8 - e
 
-loop-holds : tie.Need-loop-holds Inv-loop μ-loop
-loop-holds c = (omega arith, λ k l. absurd (omega arith))
-
-mul-loop : tie.Need-mul-loop Inv-loop μ-loop
-mul-loop c = let s = square-le {a = c .loop .e} {b = 7} (c .loop .inv .0) in omega arith
-
-add-loop : tie.Need-add-loop Inv-loop μ-loop
-add-loop c = let s = square-le {a = c .loop .e} {b = 7} (c .loop .inv .0) in omega arith
-
-up-requires : tie.Need-up-requires Inv-loop μ-loop
-up-requires c κs = search needs
-
-down-requires : tie.Need-down-requires Inv-loop μ-loop
-down-requires c κs = search needs
+low : (c : tie.At-loop Inv-loop μ-loop) → c .loop .e * c .loop .e ≤ 49
+low c = square-le {a = c .loop .e} {b = 7} (c .loop .inv .0)
 
 returns : tie.Need-returns Inv-loop μ-loop
 unfolding levelOn
 returns c =
-    let l = c .before .before .before .before .loop in
-    let u = c .before .before .up .ensures in
+    let at-up = c .before .before in
+    let l = at-up .before .before .loop in
+    let u = at-up .up .ensures in
     let d = c .before .down .ensures in
-    let t : c .before .before .up .result || c .before .down .result ≡ true = c .if1 .taken in
+    let t : at-up .up .result || c .before .down .result ≡ true = c .if1 .taken in
     record { near = l .inv .0; before = l .inv .1; here = λ g. rw (u, d) at t }
-
-add-e : tie.Need-add-e Inv-loop μ-loop
-add-e c = omega arith
-
-loop-less : tie.Need-loop-less Inv-loop μ-loop
-loop-less c = omega arith
 
 loop-again : tie.Need-loop-again Inv-loop μ-loop
 unfolding levelOn
 loop-again c =
-    let l = c .before .before .before .before .loop in
-    let a = c .before .before .before .before .before .before .args in
-    let u = c .before .before .up .ensures in
+    let at-up = c .before .before in
+    let l = at-up .before .before .loop in
+    let u = at-up .up .ensures in
     let d = c .before .down .ensures in
-    let t : c .before .before .up .result || c .before .down .result ≡ false = c .if1 .left in
-    let m = root-lt (l .e) 7 (omega (arith, c .before .before .before .loop-test .taken)) in
-    (omega arith, below-more (λ (k : ℕ). levelOn (a .deep .now) (a .h) (a .w) (a .y) (a .i) k ≡ false) (l .e) (l .inv .1) (rw (u, d) at t))
-
-returns-2 : tie.Need-returns-2 Inv-loop μ-loop
-returns-2 c = record { near = c .before .loop .inv .0; before = c .before .loop .inv .1; here = λ g. absurd (omega arith) }
+    let t : at-up .up .result || c .before .down .result ≡ false = c .if1 .left in
+    let m = root-lt (l .e) 7 (omega (arith, at-up .before .loop-test .taken)) in
+    (omega arith, below-more _ (l .e) (l .inv .1) (rw (u, d) at t))
 
 pub gap-spec : {M : Type 1} → statement M
 gap-spec =
@@ -67,13 +47,13 @@ gap-spec =
     (tie.spec
     Inv-loop
     μ-loop
-    loop-holds
-    mul-loop
-    add-loop
-    up-requires
-    down-requires
+    (λ c. (omega arith, λ k l. absurd (omega arith)))
+    (λ c. omega (arith, low c))
+    (λ c. omega (arith, low c))
+    (λ c κs. search needs)
+    (λ c κs. search needs)
     returns
-    add-e
-    loop-less
+    (λ c. omega arith)
+    (λ c. omega arith)
     loop-again
-    returns-2)
+    (λ c. let i = c .before .loop .inv in record { near = i .0; before = i .1; here = λ g. absurd (omega arith) }))

@@ -17,22 +17,20 @@ returns c = rw (lt-leb _ _ (c .if1 .taken))
 -- the pixel lies in the plane
 here : (c : tie.Else1) → let a = c .before .args in (a .y - a .e) * a .w + a .i < length (a .deep .now)
 here c =
-    let o = c .before in
-    let a = o .args in
-    omega (arith, pixel-in (a .y - a .e) (a .i) (a .h) (a .w) (omega (arith, o .pre .row)) (o .pre .column), o .pre .long)
-
-mul-result : tie.Need-mul-result
-mul-result c = let r = here c in omega arith
-
-add-result : tie.Need-add-result
-add-result c = let r = here c in omega arith
-
-shared-slice-read-result : tie.Need-shared-slice-read-result
-shared-slice-read-result c = let r = here (c .before) in omega arith
+    let p = c .before .pre in
+    let a = c .before .args in
+    omega (arith, pixel-in (a .y - a .e) (a .i) (a .h) (a .w) (omega (arith, p .row)) (p .column), p .long)
 
 returns-2 : tie.Need-returns-2
 unfolding upOn onAt on
 returns-2 c = rw (le-leb _ _ (c .before .if1 .left))
 
 pub up-spec : {M : Type 1} → statement M
-up-spec = tie.close (tie.spec returns mul-result add-result shared-slice-read-result returns-2)
+up-spec =
+    tie.close
+    (tie.spec
+    returns
+    (λ c. omega (arith, here c))
+    (λ c. omega (arith, here c))
+    (λ c. omega (arith, here (c .before)))
+    returns-2)

@@ -25,23 +25,13 @@ abbrev μ-loop : tie.MeasureT-loop
 small : (c : tie.Start Inv-loop μ-loop) → c .args .h * c .args .w ≤ 4294967296
 small c = let m = area-most {h = c .args .h} {w = c .args .w} (c .pre .sides .tall) (c .pre .sides .wide) in omega arith
 
-mul-n : tie.Need-mul-n Inv-loop μ-loop
-mul-n c = let m = small (c .before .before .before) in omega arith
-
 sub-last : tie.Need-sub-last Inv-loop μ-loop
 sub-last c = let o = c .before .before .before in let r = row-in 0 (o .args .h) (o .args .w) (o .pre .sides .some-rows) in omega arith
 
-loop-holds : tie.Need-loop-holds Inv-loop μ-loop
-loop-holds c = (omega arith, refl, unfold rowsUpto in refl)
-
-mul-source : tie.Need-mul-source Inv-loop μ-loop
-mul-source c = omega arith
-
 shared-slice-read-source : tie.Need-shared-slice-read-source Inv-loop μ-loop
-shared-slice-read-source c = let o = c .before .before .before .before .before .before in omega (arith, c .before .loop-test .taken, o .pre .indices-long)
-
-source-requires : tie.Need-source-requires Inv-loop μ-loop
-source-requires c κs = search needs
+shared-slice-read-source c =
+    let start = c .before .before .before .before .before .before in
+    omega (arith, c .before .loop-test .taken, start .pre .indices-long)
 
 -- the pixel that is read, and that it lies in the picture
 module _ (c : tie.After-source Inv-loop μ-loop) where
@@ -64,8 +54,10 @@ module _ (c : tie.After-source Inv-loop μ-loop) where
   inside : c .source .result < at-start .args .h * at-start .args .w
   inside =
       let s = at-start .pre .sides in
-      let l = source-in (at-start .args .indices .now) (at-start .args .some) (at-start .args .h) (at-start .args .w) (at-loop .loop .i) (s .some-rows) (s .some-columns)
-          (at-start .pre .inside (at-loop .loop .i) (c .before .before .loop-test .taken)) in
+      let i = at-loop .loop .i in
+      let named = at-start .pre .inside i (c .before .before .loop-test .taken) in
+      let a = at-start .args in
+      let l = source-in (a .indices .now) (a .some) (a .h) (a .w) i (s .some-rows) (s .some-columns) named in
       omega (arith, source-is)
 
   little : at-start .args .h * at-start .args .w ≤ 4294967296
@@ -74,50 +66,16 @@ module _ (c : tie.After-source Inv-loop μ-loop) where
   long : 3 * c .source .result + 3 ≤ length (at-start .args .colours .now)
   long = omega (arith, inside, at-start .pre .colours-long)
 
-mul-s : tie.Need-mul-s Inv-loop μ-loop
-mul-s c = omega (arith, inside c, little c)
-
-mul-t : tie.Need-mul-t Inv-loop μ-loop
-mul-t c = omega (arith, little c, c .before .before .loop-test .taken)
-
-add-copy-colour : tie.Need-add-copy-colour Inv-loop μ-loop
-add-copy-colour c = omega (arith, inside c, little c)
-
-mul-copy-colour : tie.Need-mul-copy-colour Inv-loop μ-loop
-mul-copy-colour c = omega (arith, inside c, little c)
-
-sub-copy-colour : tie.Need-sub-copy-colour Inv-loop μ-loop
-sub-copy-colour c = omega arith
-
-part-copy-colour-start : tie.Need-part-copy-colour-start Inv-loop μ-loop
-part-copy-colour-start c = omega arith
-
-part-copy-colour-end : tie.Need-part-copy-colour-end Inv-loop μ-loop
-part-copy-colour-end c = omega (arith, long c)
-
 add-copy-colour-2 : tie.Need-add-copy-colour-2 Inv-loop μ-loop
 add-copy-colour-2 c = omega (arith, little (c .before), c .before .before .before .loop-test .taken)
 
 mul-copy-colour-2 : tie.Need-mul-copy-colour-2 Inv-loop μ-loop
 mul-copy-colour-2 c = omega (arith, little (c .before), c .before .before .before .loop-test .taken)
 
-sub-copy-colour-2 : tie.Need-sub-copy-colour-2 Inv-loop μ-loop
-sub-copy-colour-2 c = omega arith
-
-part-copy-colour-start-2 : tie.Need-part-copy-colour-start-2 Inv-loop μ-loop
-part-copy-colour-start-2 c = omega arith
-
 part-copy-colour-end-2 : tie.Need-part-copy-colour-end-2 Inv-loop μ-loop
-part-copy-colour-end-2 c = omega (arith, little (c .before), c .before .before .before .loop-test .taken, at-start (c .before) .pre .out-long, at-loop (c .before) .loop .inv .1)
-
-copy-colour-requires : tie.Need-copy-colour-requires Inv-loop μ-loop
-copy-colour-requires c κs = search needs
-
-add-i : tie.Need-add-i Inv-loop μ-loop
-add-i c = omega arith
-
-loop-less : tie.Need-loop-less Inv-loop μ-loop
-loop-less c = omega arith
+part-copy-colour-end-2 c =
+    let read = c .before in
+    omega (arith, read .before .before .loop-test .taken, at-start read .pre .out-long, at-loop read .loop .inv .1)
 
 loop-again : tie.Need-loop-again Inv-loop μ-loop
 loop-again c =
@@ -127,16 +85,13 @@ loop-again c =
     let call = c .before .before .copy-colour in
     let s = 3 * read .source .result in
     let e : l .i * 3 + 3 - l .i * 3 ≡ 3 = omega arith in
-    let d : s + 3 - s ≡ 3 = omega arith in (
+    let d : s + 3 - s ≡ 3 = omega arith in
+    let row = colourRow (a .colours .now) (a .h) (a .w) (a .indices .now) (a .some) in
+    let copied : call .last .1 .0 ≡ row (l .i) = call .ensures ∙ rw d (colour-is _ _ _ _ _ (l .i) _ (source-is read) (long read)) in (
       omega (arith, read .before .before .loop-test .taken),
       same-len-mid (l .i * 3) (l .i * 3 + 3 - l .i * 3) (l .out) (call .last .1 .0) (call .kept .1 .0) ∙ l .inv .1,
-      put-row (colourRow (a .colours .now) (a .h) (a .w) (a .indices .now) (a .some)) 3 (colour-keeps (a .colours .now) (a .h) (a .w) (a .indices .now) (a .some))
-          (l .i) (l .i * 3 + 3 - l .i * 3) (a .out .now) (l .out) (call .last .1 .0) (l .inv .2) e
-          (call .ensures ∙ rw d (colour-is (a .colours .now) (a .h) (a .w) (a .indices .now) (a .some) (l .i) (read .source .result) (source-is read) (long read))),
+      put-row row 3 (colour-keeps _ _ _ _ _) (l .i) _ (a .out .now) (l .out) (call .last .1 .0) (l .inv .2) e copied,
     )
-
-same-length : tie.Need-same-length Inv-loop μ-loop
-same-length c = c .before .loop .inv .1
 
 returns : tie.Need-returns Inv-loop μ-loop
 unfolding coloursFrom planeOf colourRow
@@ -145,7 +100,8 @@ returns c =
     let o = c .before .before .before .before .before in
     let a = o .args in
     let e : l .i ≡ a .h * a .w = omega arith in
-    let d : drop (a .h * a .w * 3) (a .out .now) ≡ [] = drop-of-length-le (a .out .now) {i = a .h * a .w * 3} (omega (arith, o .pre .out-long)) in
+    let n = a .h * a .w * 3 in
+    let d : drop n (a .out .now) ≡ [] = drop-of-length-le (a .out .now) {i = n} (omega (arith, o .pre .out-long)) in
     l .inv .2 ∙ rw (e, d, append-nil)
 
 pub colours-from-spec : {M : Type 1} → statement M
@@ -154,27 +110,27 @@ colours-from-spec =
     (tie.spec
     Inv-loop
     μ-loop
-    mul-n
+    (λ c. let m = small (c .before .before .before) in omega arith)
     sub-last
-    loop-holds
-    mul-source
+    (λ c. (omega arith, refl, unfold rowsUpto in refl))
+    (λ c. omega arith)
     shared-slice-read-source
-    source-requires
-    mul-s
-    mul-t
-    add-copy-colour
-    mul-copy-colour
-    sub-copy-colour
-    part-copy-colour-start
-    part-copy-colour-end
+    (λ c κs. search needs)
+    (λ c. omega (arith, inside c, little c))
+    (λ c. omega (arith, little c, c .before .before .loop-test .taken))
+    (λ c. omega (arith, inside c, little c))
+    (λ c. omega (arith, inside c, little c))
+    (λ c. omega arith)
+    (λ c. omega arith)
+    (λ c. omega (arith, long c))
     add-copy-colour-2
     mul-copy-colour-2
-    sub-copy-colour-2
-    part-copy-colour-start-2
+    (λ c. omega arith)
+    (λ c. omega arith)
     part-copy-colour-end-2
-    copy-colour-requires
-    add-i
-    loop-less
+    (λ c κs. search needs)
+    (λ c. omega arith)
+    (λ c. omega arith)
     loop-again
-    same-length
+    (λ c. c .before .loop .inv .1)
     returns)

@@ -6,14 +6,10 @@ use native.Mathlib.Omega.{arith}
 use borrow.Author.Needs.{needs}
 use borrow.Author.Tests.{not-true, not-false, eq-eqb, ne-eqb}
 use Rattle.plane.specs.Refusal.{refusalOf, sidesOk}
-use Rattle.plane.proofs.Refusal.{accepted-area}
+use Rattle.plane.proofs.Refusal.{joined, accepted-area}
 use Rattle.geometry.specs.Refusal.{cropRefusal}
-use Rattle.geometry.proofs.Accepted.{six-hold, one-fails}
 use Rattle.geometry.proofs.refusals.crop_refusal.Statement.{statement}
 use Rattle.geometry.proofs.refusals.crop_refusal.Tie as tie
-
-sides-ok-requires : tie.Need-sides-ok-requires
-sides-ok-requires c κs = search needs
 
 -- the sides are accepted
 ok : (c : tie.Else1) → sidesOk (c .before .before .args .h) (c .before .before .args .w) ≡ true
@@ -31,12 +27,14 @@ unfolding cropRefusal refusalOf
 returns-2 c = rw (ok (c .before), ne-eqb _ _ (c .if2 .taken))
 
 returns-3 : tie.Need-returns-3
-unfolding cropRefusal
-returns-3 c = six-hold _ _ _ _ _ _ _ _ (ok (c .before .before)) (eq-eqb _ _ (c .before .if2 .left)) (c .if3 .taken)
+unfolding cropRefusal refusalOf
+returns-3 c =
+    rw (ok (c .before .before), eq-eqb _ _ (c .before .if2 .left), joined, joined, joined, joined, joined, c .if3 .taken)
 
 returns-4 : tie.Need-returns-4
-unfolding cropRefusal
-returns-4 c = one-fails _ _ _ _ _ _ _ _ (ok (c .before .before)) (eq-eqb _ _ (c .before .if2 .left)) (c .if3 .left)
+unfolding cropRefusal refusalOf
+returns-4 c =
+    rw (ok (c .before .before), eq-eqb _ _ (c .before .if2 .left), joined, joined, joined, joined, joined, c .if3 .left)
 
 pub crop-refusal-spec : {M : Type 1} → statement M
-crop-refusal-spec = tie.close (tie.spec sides-ok-requires returns mul-if2 returns-2 returns-3 returns-4)
+crop-refusal-spec = tie.close (tie.spec (λ c κs. search needs) returns mul-if2 returns-2 returns-3 returns-4)

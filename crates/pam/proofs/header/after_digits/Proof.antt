@@ -1,5 +1,6 @@
 -- `pam::header::after_digits` meets its contract.
 -- Assumes nothing.
+use Prim.Native.Nat.{_≤_}
 use native.Mathlib.Omega.{arith}
 use borrow.Author.Needs.{needs}
 use Rattle.text.proofs.Decimal.{digits-most}
@@ -7,15 +8,14 @@ use Rattle.pam.specs.Header.{mostDigits}
 use Rattle.pam.proofs.header.after_digits.Statement.{statement}
 use Rattle.pam.proofs.header.after_digits.Tie as tie
 
-digits-requires : tie.Need-digits-requires
-digits-requires c κs = search needs
-
-add-result : tie.Need-add-result
-add-result c = let a = c .before .before .args in omega (arith, c .digits .ensures, digits-most (a .input .now) mostDigits (a .at))
-
-returns : tie.Need-returns
-returns c = let a = c .before .before .args in (omega arith, omega (arith, c .digits .ensures, digits-most (a .input .now) mostDigits (a .at)))
+-- at most five digits
+few : (c : tie.After-digits) → c .digits .result ≤ 5
+few c = omega (arith, c .digits .ensures, digits-most (c .before .before .args .input .now) mostDigits (c .before .before .args .at))
 
 pub after-digits-spec : {M : Type 1} → statement M
 after-digits-spec =
-    tie.close (tie.spec digits-requires add-result returns)
+    tie.close
+    (tie.spec
+    (λ c κs. search needs)
+    (λ c. omega (arith, few c))
+    (λ c. (omega arith, omega (arith, few c))))

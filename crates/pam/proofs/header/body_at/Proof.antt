@@ -6,15 +6,9 @@ use borrow.Author.Needs.{needs}
 use Rattle.pam.proofs.header.body_at.Statement.{statement}
 use Rattle.pam.proofs.header.body_at.Tie as tie
 
-tail-at-requires : tie.Need-tail-at-requires
-tail-at-requires c κs = search needs
-
-add-result : tie.Need-add-result
-add-result c = search needs
-
 returns : tie.Need-returns
 unfolding bodyAt
 returns c = (omega arith, omega arith)
 
 pub body-at-spec : {M : Type 1} → statement M
-body-at-spec = tie.close (tie.spec tail-at-requires add-result returns)
+body-at-spec = tie.close (tie.spec (λ c κs. search needs) (λ c. search needs) returns)

@@ -9,12 +9,6 @@ use Rattle.pam.proofs.Files.{number-most}
 use Rattle.pam.proofs.header.height.Statement.{statement}
 use Rattle.pam.proofs.header.height.Tie as tie
 
-height-at-requires : tie.Need-height-at-requires
-height-at-requires c κs = search needs
-
-read-number-requires : tie.Need-read-number-requires
-read-number-requires c κs = search needs
-
 returns : tie.Need-returns
 unfolding heightOf
 returns c =
@@ -24,4 +18,4 @@ returns c =
 
 pub height-spec : {M : Type 1} → statement M
 height-spec =
-    tie.close (tie.spec height-at-requires read-number-requires returns)
+    tie.close (tie.spec (λ c κs. search needs) (λ c κs. search needs) returns)

@@ -9,12 +9,6 @@ use Rattle.pam.specs.Header.{digitsAt, isNumber}
 use Rattle.pam.proofs.header.is_number.Statement.{statement}
 use Rattle.pam.proofs.header.is_number.Tie as tie
 
-digits-requires : tie.Need-digits-requires
-digits-requires c κs = search needs
-
-byte-at-requires : tie.Need-byte-at-requires
-byte-at-requires c κs = search needs
-
 returns : tie.Need-returns
 unfolding isNumber
 returns c =
@@ -24,4 +18,4 @@ returns c =
 
 pub is-number-spec : {M : Type 1} → statement M
 is-number-spec =
-    tie.close (tie.spec digits-requires byte-at-requires returns)
+    tie.close (tie.spec (λ c κs. search needs) (λ c κs. search needs) returns)

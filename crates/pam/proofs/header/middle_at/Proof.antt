@@ -5,13 +5,10 @@ use Rattle.pam.specs.Header.{middleAt}
 use Rattle.pam.proofs.header.middle_at.Statement.{statement}
 use Rattle.pam.proofs.header.middle_at.Tie as tie
 
-after-digits-requires : tie.Need-after-digits-requires
-after-digits-requires c κs = search needs
-
 returns : tie.Need-returns
 unfolding middleAt
 returns c = (c .after-digits .ensures .0, c .after-digits .ensures .1)
 
 pub middle-at-spec : {M : Type 1} → statement M
 middle-at-spec =
-    tie.close (tie.spec after-digits-requires returns)
+    tie.close (tie.spec (λ c κs. search needs) returns)

@@ -1,7 +1,7 @@
 -- `pam::header::starts` meets its contract.
 -- Assumes nothing.
-use mathlib.Core.Path.{_≡_, sym, ap, _∙_}
-use Prim.Native.Nat.{ℕ, _+_, _-_, _≤_}
+use mathlib.Core.Path.{_≡_, sym, _∙_}
+use Prim.Native.Nat.{_+_, _-_, _≤_}
 use native.Mathlib.Nat.{add-zero}
 use native.Mathlib.Omega.{arith}
 use lib.ListN.{length, drop}
@@ -18,40 +18,22 @@ abbrev μ-loop : tie.MeasureT-loop
 μ-loop input at bytes i₀ i = length bytes - i
 
 loop-holds : tie.Need-loop-holds Inv-loop μ-loop
-loop-holds c = (omega arith, ap (λ (k : ℕ). startsAt (c .before .before .args .input .now) k (c .before .before .args .bytes .now)) (sym (add-zero (c .before .before .args .at))))
-
-add-byte-at : tie.Need-add-byte-at Inv-loop μ-loop
-add-byte-at c = omega arith
-
-byte-at-requires : tie.Need-byte-at-requires Inv-loop μ-loop
-byte-at-requires c κs = search needs
-
-shared-slice-read-if1 : tie.Need-shared-slice-read-if1 Inv-loop μ-loop
-shared-slice-read-if1 c = omega arith
+loop-holds c = (omega arith, rw add-zero)
 
 returns : tie.Need-returns Inv-loop μ-loop
 returns c =
-    let l = c .before .before .before .before .loop in
-    let a = c .before .before .before .before .before .before .before .args in
-    sym (l .inv .1 ∙ starts-not (a .input .now) (a .bytes .now) (a .at) (l .i) (omega arith) (λ e. c .if1 .taken (c .before .before .byte-at .ensures ∙ e)))
-
-add-i : tie.Need-add-i Inv-loop μ-loop
-add-i c = omega arith
-
-loop-less : tie.Need-loop-less Inv-loop μ-loop
-loop-less c = omega arith
+    let read = c .before .before in
+    let l = read .before .before .loop in
+    sym (l .inv .1 ∙ starts-not _ _ _ (l .i) (omega arith) (λ e. c .if1 .taken (read .byte-at .ensures ∙ e)))
 
 loop-again : tie.Need-loop-again Inv-loop μ-loop
 loop-again c =
-    let l = c .before .before .before .before .loop in
-    let a = c .before .before .before .before .before .before .before .args in
-    (omega arith, l .inv .1 ∙ starts-more (a .input .now) (a .bytes .now) (a .at) (l .i) (omega arith) (sym (c .before .before .byte-at .ensures) ∙ c .if1 .left))
+    let read = c .before .before in
+    let l = read .before .before .loop in
+    (omega arith, l .inv .1 ∙ starts-more _ _ _ (l .i) (omega arith) (sym (read .byte-at .ensures) ∙ c .if1 .left))
 
 returns-2 : tie.Need-returns-2 Inv-loop μ-loop
-returns-2 c =
-    let l = c .before .loop in
-    let a = c .before .before .before .before .args in
-    sym (l .inv .1 ∙ starts-end (a .input .now) (a .bytes .now) (a .at) (l .i) (omega arith))
+returns-2 c = let l = c .before .loop in sym (l .inv .1 ∙ starts-end _ _ _ (l .i) (omega arith))
 
 pub starts-spec : {M : Type 1} → statement M
 starts-spec =
@@ -60,11 +42,11 @@ starts-spec =
     Inv-loop
     μ-loop
     loop-holds
-    add-byte-at
-    byte-at-requires
-    shared-slice-read-if1
+    (λ c. omega arith)
+    (λ c κs. search needs)
+    (λ c. omega arith)
     returns
-    add-i
-    loop-less
+    (λ c. omega arith)
+    (λ c. omega arith)
     loop-again
     returns-2)

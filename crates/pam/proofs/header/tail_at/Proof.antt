@@ -8,12 +8,6 @@ use Rattle.pam.specs.Header.{tailAt, digitsAt}
 use Rattle.pam.proofs.header.tail_at.Statement.{statement}
 use Rattle.pam.proofs.header.tail_at.Tie as tie
 
-height-at-requires : tie.Need-height-at-requires
-height-at-requires c κs = search needs
-
-after-digits-requires : tie.Need-after-digits-requires
-after-digits-requires c κs = search needs
-
 returns : tie.Need-returns
 unfolding tailAt
 returns c =
@@ -24,4 +18,4 @@ returns c =
 
 pub tail-at-spec : {M : Type 1} → statement M
 tail-at-spec =
-    tie.close (tie.spec height-at-requires after-digits-requires returns)
+    tie.close (tie.spec (λ c κs. search needs) (λ c κs. search needs) returns)

@@ -7,9 +7,6 @@ use Rattle.pam.proofs.Files.{number-most}
 use Rattle.pam.proofs.header.width.Statement.{statement}
 use Rattle.pam.proofs.header.width.Tie as tie
 
-read-number-requires : tie.Need-read-number-requires
-read-number-requires c κs = search needs
-
 returns : tie.Need-returns
 unfolding widthOf
 returns c =
@@ -19,4 +16,4 @@ returns c =
 
 pub width-spec : {M : Type 1} → statement M
 width-spec =
-    tie.close (tie.spec read-number-requires returns)
+    tie.close (tie.spec (λ c κs. search needs) returns)
