@@ -86,7 +86,8 @@ module _ (mask : List ℕ) (h w y x : ℕ) where
         column-inside = a .inside;
         is-on = d .0;
         least = λ k l g m t. (let z = bound l k g t in let n = a .least l (z .0) m (z .1) in let q = z .2 in omega arith);
-        first-column = λ k l g m t. (let z = bound l k (omega arith) t in let n = a .first l (z .0) m (z .1) in let q = z .2 in omega arith);
+        first-column = λ k l g m t.
+            (let z = bound l k (omega arith) t in let n = a .first l (z .0) m (z .1) in let q = z .2 in omega arith);
         first-row = λ k g t. (let n = c .1 .first k (away y x k i) g (on-far i k t) in omega arith);
       }
 
