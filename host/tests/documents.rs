@@ -264,6 +264,28 @@ fn definitions_name_their_rules() {
     assert!(missing.is_empty(), "no rule is named for: {missing:#?}");
 }
 
+/// The tests that `definitions` writes for the prover name definitions that are there.
+#[test]
+fn the_definitions_that_are_computed_exist() {
+    let tool = read(&root().join("host/src/bin/definitions.rs"));
+    let mut count = 0;
+    for line in tool.lines().filter(|line| line.starts_with("use Rattle·")) {
+        let (path, list) = line.split_once(".{").expect("a list of names");
+        let (owner, module) = path.split_once(".specs.").expect("definitions");
+        if module.starts_with("declared.") {
+            continue;
+        }
+        let owner = owner.trim_start_matches("use Rattle·").split('·').next();
+        let file = format!("crates/{}/specs/{module}.antt", owner.unwrap());
+        let there = words(&read(&root().join(&file)));
+        for name in list.trim_end_matches('}').split(", ") {
+            assert!(there.contains(name), "{file} has no {name}");
+            count += 1;
+        }
+    }
+    assert!(count > 80, "{count} names");
+}
+
 /// The papers that the rules replace are named in docs/RULES.md and nowhere else.
 #[test]
 fn the_old_name_is_gone() {

@@ -1,4 +1,4 @@
--- What the calls of this crate decline: their tests in order (R44 to R49, R55 to R57). Lengths are given as numbers.
+-- What the calls of this crate decline: their tests in order (R44 to R46, R50, R54, R58). Lengths are given as numbers.
 -- Assumes nothing.
 use Prim.Native.Nat.{ℕ}
 use mathlib.Core.List.{[], _∷_}

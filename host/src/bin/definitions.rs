@@ -44,14 +44,16 @@ use Prim.Native.Nat.{ℕ, _*_}
 use lib.IntN.{ℤ, pos, negsuc}
 use lib.Dec.{T, eqb}
 use lib.Ieee.{Float, binary64, lt, le, eq, add, sub, mul, div, neg, ofInt, ofBits, toBits}
-use Rattle.plane.specs.Plane.{on, bit, onAt, apart, within, table, rowsUpto, planeOf}
-use Rattle.plane.specs.Search.{someBelow, countBelow}
-use Rattle.plane.specs.Refusal.{roomFor, numberFor}
+use Rattle.plane.specs.Plane.{on, bit, onAt, apart, within, table, rowsUpto, planeOf, indexOf}
+use Rattle.plane.specs.Search.{someBelow, countBelow, firstBelow, lastBelow}
+use Rattle.plane.specs.Mask.{isOn, maskOf, someOff}
+use Rattle.plane.specs.Box.{rowHas, columnHas, lesserOf, boxOf, wholeOf}
+use Rattle.plane.specs.Refusal.{roomFor, refusalOf}
 use Rattle.line.specs.Walk.{lower}
 use Rattle.line.specs.Grid.{valueOf, walk, upto, grid, plus}
 use Rattle.nearest.specs.Nearest.{rowCost, nearest, away, distanceTo}
 use Rattle.squares.specs.Squares.{inSquare}
-use Rattle.labels.specs.Labels.{isOn, beside, lesser, renamed, merge, joinTwo, joinWith, joinUpto, firstPixel}
+use Rattle.labels.specs.Labels.{beside, lesser, renamed, merge, joinTwo, joinWith, joinUpto, firstPixel}
 use Rattle.colour.specs.declared.Rgb.{Rgb}
 use Rattle.colour.specs.declared.Settings.{Settings}
 use Rattle.colour.specs.Number.{absOf, larger, plusZero, halfOf}
@@ -60,11 +62,13 @@ use Rattle.colour.specs.Join.{joinsOf}
 use Rattle.colour.specs.Settings.{passesOf, onOf}
 use Rattle.colour.specs.Weight.{weightOf}
 use Rattle.median.specs.Median.{insert, sorted, placed, lowerMiddle, upperMiddle, medianOf}
-use Rattle.outline.specs.Border.{rowPixels, innerColumn, borderList, listed, onBorder, channelAt, colourAt, referenceChannel, referenceOf}
-use Rattle.outline.specs.Ground.{isClose, closePlane, isGround, groundFrom, groundOf, countOn, someOff, foundFrom, isFound}
-use Rattle.outline.specs.Growth.{nearGround, isEdge, isShallow, isDeep, maskOf, indexOf, isReach, bodyFrom, joinsFrom, isJoining, passOf, growthOf}
-use Rattle.outline.specs.Cut.{alphaMask, isSought, isKeyed, grownGround, cutMask, weightAt, weightsOf, firstBelow, lastBelow, rowHas, columnHas, lesserOf, boxOf, cropOf}
-use Rattle.outline.specs.Refusal.{firstOf, colourNumber, toleranceNumber, cutNumber}
+use Rattle.outline.specs.Border.{rowPixels, innerColumn, borderList, listed, onBorder}
+use Rattle.outline.specs.Border.{channelAt, colourAt, referenceChannel, referenceOf}
+use Rattle.outline.specs.Ground.{isClose, closePlane, isGround, groundFrom, groundOf, countOn, foundFrom, isFound}
+use Rattle.outline.specs.Growth.{nearGround, isEdge, isShallow, isDeep, isReach, bodyFrom, joinsFrom}
+use Rattle.outline.specs.Growth.{isJoining, passOf, growthOf}
+use Rattle.outline.specs.Cut.{Cut, alphaMask, isSought, isKeyed, grownGround, cutMask, weightAt, weightsOf, cropOf, cutOf}
+use Rattle.outline.specs.Refusal.{workTests, pictureTests, cutLengths, cutRefusal}
 
 same : List ℕ → List ℕ → Bool
 same [] [] = true
@@ -79,32 +83,50 @@ bits : Float → ℕ
 bits x = toBits binary64 x
 
 settings : ℤ → Bool → ℤ → ℕ → Bool → Settings
-settings threshold key p tolerance crop = record { «alpha_threshold» = threshold; «key_bg» = key; «key_bg_fringe» = p; «key_bg_tolerance» = f64 tolerance; «crop_to_alpha» = crop }
+settings threshold key p tolerance crop =
+    record {
+      «alpha_threshold» = threshold;
+      «key_bg» = key;
+      «key_bg_fringe» = p;
+      «key_bg_tolerance» = f64 tolerance;
+      «crop_to_alpha» = crop;
+    }
 
 rgb : ℕ → ℕ → ℕ → Rgb
 rgb r g b = record { r = f64 r; g = f64 g; b = f64 b }
 
--- the number, with buffers that fit
-numbered : List Float → List ℕ → ℕ → ℕ → Settings → ℕ → Bool
-numbered colours alpha h w s number =
-    eqb (cutNumber colours alpha h w s (h * w) (h * w) (roomFor h w) (roomFor h w) (roomFor h w) (roomFor h w)) number
+-- the refusal, with buffers that fit
+refused : List Float → List ℕ → ℕ → ℕ → Settings → ℕ → Bool
+refused colours alpha h w s number =
+    eqb (cutRefusal colours alpha h w s (h * w) (h * w) (roomFor h w) (roomFor h w) (roomFor h w) (roomFor h w)) number
 
--- accepted, with this mask, these weights, this flag and this box
+-- a cut with this mask, these weights, this flag and this box
+isCut : Cut → List ℕ → List ℕ → Bool → List ℕ → Bool
+isCut c mask weights keyed box =
+    same (c .mask) mask
+    && same (map bits (c .weights)) weights
+    && cond keyed (c .keyed) (not (c .keyed))
+    && same (c .box .y0 ∷ c .box .y1 ∷ c .box .x0 ∷ c .box .x1 ∷ []) box
+
+-- accepted, with these
 cutIs : List Float → List ℕ → ℕ → ℕ → Settings → List ℕ → List ℕ → Bool → List ℕ → Bool
 cutIs colours alpha h w s mask weights keyed box =
-    let crop = cropOf mask h w s in
-    numbered colours alpha h w s 0
-    && same (cutMask colours alpha h w s) mask
-    && same (map bits (weightsOf mask alpha (h * w))) weights
-    && cond keyed (isKeyed colours alpha h w s) (not (isKeyed colours alpha h w s))
-    && same (crop .y0 ∷ crop .y1 ∷ crop .x0 ∷ crop .x1 ∷ []) box
+    refused colours alpha h w s 0 && isCut (cutOf colours alpha h w (referenceOf colours h w) s) mask weights keyed box
 
 growthIs : List Float → Rgb → ℕ → ℕ → ℕ → List ℕ → List ℕ → Bool
 growthIs colours reference h w p back grown = same (growthOf colours reference h w p back) grown
 
 ";
 
-    const UNFOLDING: &str = "unfolding same f64 bits settings rgb numbered cutIs growthIs on bit onAt apart within table rowsUpto planeOf someBelow countBelow numberFor lower valueOf walk upto grid plus rowCost nearest away distanceTo inSquare isOn beside lesser renamed merge joinTwo joinWith joinUpto firstPixel absOf larger plusZero halfOf differenceOf closeTo colourOk coloursOk rgbOk joinsOf passesOf onOf weightOf insert sorted placed lowerMiddle upperMiddle medianOf rowPixels innerColumn borderList listed onBorder channelAt colourAt referenceChannel referenceOf isClose closePlane isGround groundFrom groundOf countOn someOff foundFrom isFound nearGround isEdge isShallow isDeep maskOf indexOf isReach bodyFrom joinsFrom isJoining passOf growthOf alphaMask isSought isKeyed grownGround cutMask weightAt weightsOf firstBelow lastBelow rowHas columnHas lesserOf boxOf cropOf firstOf colourNumber toleranceNumber cutNumber lt le eq add sub mul div neg ofInt ofBits toBits";
+    const UNFOLDING: &str = "unfolding same f64 bits settings rgb refused isCut cutIs growthIs on bit onAt apart within \
+        table rowsUpto planeOf indexOf someBelow countBelow firstBelow lastBelow isOn maskOf someOff rowHas columnHas \
+        lesserOf boxOf wholeOf refusalOf lower valueOf walk upto grid plus rowCost nearest away distanceTo inSquare beside \
+        lesser renamed merge joinTwo joinWith joinUpto firstPixel absOf larger plusZero halfOf differenceOf closeTo \
+        colourOk coloursOk rgbOk joinsOf passesOf onOf weightOf insert sorted placed lowerMiddle upperMiddle medianOf \
+        rowPixels innerColumn borderList listed onBorder channelAt colourAt referenceChannel referenceOf isClose \
+        closePlane isGround groundFrom groundOf countOn foundFrom isFound nearGround isEdge isShallow isDeep isReach \
+        bodyFrom joinsFrom isJoining passOf growthOf alphaMask isSought isKeyed grownGround cutMask weightAt weightsOf \
+        cropOf cutOf workTests pictureTests cutLengths cutRefusal lt le eq add sub mul div neg ofInt ofBits toBits";
 
     fn list<T: std::fmt::Display>(of: impl IntoIterator<Item = T>) -> String {
         let mut text = String::from("(");
@@ -210,7 +232,7 @@ growthIs colours reference h w p back grown = same (growthOf colours reference h
         match mask::subject(&drawn.colours, &drawn.alpha, h, w, &config) {
             Err(_) => {
                 count.refused += 1;
-                format!("numbered {given} 6")
+                format!("refused {given} 6")
             }
             Ok(theirs) => {
                 let ground = pictures::ground(&drawn.colours, h, w, config.key_bg_tolerance);
