@@ -7,7 +7,8 @@ use Prim.Native.Nat.{ℕ}
 use Rattle.plane.specs.Plane.{on, apart, table, rowsUpto, planeOf}
 use Rattle.plane.specs.Search.{countBelow}
 use Rattle.plane.specs.Mask.{isOn}
-use Rattle.labels.specs.Labels.{beside, lesser, renamed, merge, joinTwo, joinWith, joinUpto, firstPixel, isFirst}
+use Rattle.labels.specs.Labels.{beside, renamed, merge, joinTwo, joinWith, joinUpto, firstPixel, isFirst}
+use Rattle.plane.specs.Box.{lesserOf}
 use Rattle.labels.specs.Labels.{parts, labelOf, labelAt, labelsPlane}
 
 -- a mask's labels and their number
@@ -29,5 +30,5 @@ pub cases : answer (1 ∷ 0 ∷ 0 ∷ 1 ∷ []) 2 2
     ∷ (0 ∷ 0 ∷ 0 ∷ 0 ∷ [], 0)
     ∷ []
 cases =
-    unfold on apart table rowsUpto planeOf countBelow isOn beside lesser renamed merge joinTwo joinWith joinUpto
+    unfold on apart table rowsUpto planeOf countBelow isOn beside lesserOf renamed merge joinTwo joinWith joinUpto
     firstPixel isFirst parts labelOf labelAt labelsPlane in refl

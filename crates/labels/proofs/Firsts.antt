@@ -15,7 +15,8 @@ use Rattle.plane.proofs.Plane.{table-at, table-length}
 use Rattle.plane.proofs.Search.{which, either, or-right}
 use Rattle.plane.proofs.Refusal.{and-true}
 use Rattle.plane.specs.Mask.{isOn}
-use Rattle.labels.specs.Labels.{beside, Joined, same, onward, lesser, renamed, merge, joinTwo, joinWith, joinUpto}
+use Rattle.labels.specs.Labels.{beside, Joined, same, onward, renamed, merge, joinTwo, joinWith, joinUpto}
+use Rattle.plane.specs.Box.{lesserOf}
 use Rattle.labels.specs.Labels.{firstPixel, isFirst}
 use Rattle.plane.proofs.Mask.{on-inside}
 use Rattle.labels.proofs.Joined.{beside-back, start-on, end-on, joined-trans, joined-sym}
@@ -34,33 +35,33 @@ merge-long : (a b : ℕ) (numbers : List ℕ) → length (merge a b numbers) ≡
 unfolding merge
 merge-long a b numbers = length-map numbers (renamed a b)
 
-pub renamed-left : (a b : ℕ) → renamed a b a ≡ lesser a b
+pub renamed-left : (a b : ℕ) → renamed a b a ≡ lesserOf a b
 unfolding renamed
 renamed-left a b = simp (eq-eqb a a refl)
 
-pub renamed-right : (a b : ℕ) → renamed a b b ≡ lesser a b
+pub renamed-right : (a b : ℕ) → renamed a b b ≡ lesserOf a b
 unfolding renamed
 renamed-right a b = rw (or-right (eqb b a) (eqb b b) (eq-eqb b b refl))
 
 -- a number is one of the two, and renamed to the lesser, or stays
 abbrev pub Cases : ℕ → ℕ → ℕ → Type 0
-Cases a b n = (((n ≡ a) ⊎ (n ≡ b)) × (renamed a b n ≡ lesser a b)) ⊎ (renamed a b n ≡ n)
+Cases a b n = (((n ≡ a) ⊎ (n ≡ b)) × (renamed a b n ≡ lesserOf a b)) ⊎ (renamed a b n ≡ n)
 
 pub renamed-cases : (a b n : ℕ) → Cases a b n
 unfolding renamed
 renamed-cases a b n = cases (eqb n a) (eqb n b) refl refl
   where
     Out : Bool → Bool → ℕ
-    Out s t = cond (s || t) (lesser a b) n
+    Out s t = cond (s || t) (lesserOf a b) n
 
-    cases : (s t : Bool) → eqb n a ≡ s → eqb n b ≡ t → (((n ≡ a) ⊎ (n ≡ b)) × (Out s t ≡ lesser a b)) ⊎ (Out s t ≡ n)
+    cases : (s t : Bool) → eqb n a ≡ s → eqb n b ≡ t → (((n ≡ a) ⊎ (n ≡ b)) × (Out s t ≡ lesserOf a b)) ⊎ (Out s t ≡ n)
     cases true t e g = inl (inl (eqb-true n a e), refl)
     cases false true e g = inl (inr (eqb-true n b g), refl)
     cases false false e g = inr refl
 
 -- the lesser of two numbers is one of them
-pub lesser-cases : (a b : ℕ) → ((lesser a b ≡ a) × (a ≤ b)) ⊎ ((lesser a b ≡ b) × (b ≤ a))
-unfolding lesser
+pub lesser-cases : (a b : ℕ) → ((lesserOf a b ≡ a) × (a ≤ b)) ⊎ ((lesserOf a b ≡ b) × (b ≤ a))
+unfolding lesserOf
 lesser-cases a b =
     ⊎-elim {C = ((cond (leb a b) a b ≡ a) × (a ≤ b)) ⊎ ((cond (leb a b) a b ≡ b) × (b ≤ a))}
     (λ (l : b < a). inr (rw (lt-leb a b l), omega arith))
@@ -68,19 +69,19 @@ lesser-cases a b =
     (which b a)
 
 -- and neither is less
-pub lesser-low : (a b : ℕ) → (lesser a b ≤ a) × (lesser a b ≤ b)
+pub lesser-low : (a b : ℕ) → (lesserOf a b ≤ a) × (lesserOf a b ≤ b)
 lesser-low a b =
-    ⊎-elim {C = (lesser a b ≤ a) × (lesser a b ≤ b)} (λ z. omega (arith, z .0, z .1)) (λ z. omega (arith, z .0, z .1)) (lesser-cases a b)
+    ⊎-elim {C = (lesserOf a b ≤ a) × (lesserOf a b ≤ b)} (λ z. omega (arith, z .0, z .1)) (λ z. omega (arith, z .0, z .1)) (lesser-cases a b)
 
 -- the pixels i and j carry one number
 abbrev Alike : List ℕ → ℕ → ℕ → Type 0
 Alike l i j = getD l i 0 ≡ getD l j 0
 
 module _ (mask : List ℕ) (w : ℕ) where
-  -- the lesser of two numbers that are joined is joined to both
-  lesser-joined : (a b : ℕ) → Joined mask w a b → Joined mask w (lesser a b) a
+  -- the lesserOf of two numbers that are joined is joined to both
+  lesser-joined : (a b : ℕ) → Joined mask w a b → Joined mask w (lesserOf a b) a
   lesser-joined a b r =
-      ⊎-elim {C = Joined mask w (lesser a b) a} (λ z. rw (z .0) (same (start-on r))) (λ z. rw (z .0) (joined-sym r)) (lesser-cases a b)
+      ⊎-elim {C = Joined mask w (lesserOf a b) a} (λ z. rw (z .0) (same (start-on r))) (λ z. rw (z .0) (joined-sym r)) (lesser-cases a b)
 
   -- every on-pixel carries the number of a pixel joined to it that is not after it
   record Sound (numbers : List ℕ) : Type 0 where

@@ -15,7 +15,8 @@ use Rattle.plane.specs.Plane.{on}
 use Rattle.plane.proofs.Plane.{pixel-in}
 use Rattle.plane.proofs.Search.{which, either, not-both}
 use Rattle.plane.specs.Mask.{isOn}
-use Rattle.labels.specs.Labels.{beside, Joined, same, onward, lesser, renamed, isFirst}
+use Rattle.labels.specs.Labels.{beside, Joined, same, onward, renamed, isFirst}
+use Rattle.plane.specs.Box.{lesserOf}
 use Rattle.labels.specs.steps.Trees.{Forest, Linked, Placeable, Placed, dark, fresh, from-above, from-left, from-both}
 use Rattle.labels.specs.steps.Trees.{upAt, leftAt, diagAt, larger, Scanned, Given}
 use Rattle.labels.proofs.Joined.{beside-back, joined-trans, joined-sym}
@@ -343,23 +344,23 @@ module _ (mask : List ℕ) (h w : ℕ) (fits : length mask ≡ h * w) (wide : 0 
           let a = up-on q in
           onward (rw up-lab at (s .joined (t - w) (omega (arith, a .0)) (a .1))) (beside-back w (t - w) t ∙ a .2) o
 
-      r-is : r ≡ lesser u v
+      r-is : r ≡ lesserOf u v
       r-is = k .root (s .rep) (s .forest)
 
-      -- the lesser of the two roots is a root, has a seed that is joined to t, and is a label
+      -- the lesserOf of the two roots is a root, has a seed that is joined to t, and is a label
       record Least (n : ℕ) : Type 0 where
         from : Joined mask w (s .seed n) t
         root : s .rep n ≡ n
         some : 0 < n
 
-      least : Least (lesser u v)
+      least : Least (lesserOf u v)
       least =
-          ⊎-elim {C = Least (lesser u v)}
+          ⊎-elim {C = Least (lesserOf u v)}
           (λ e. rw (e .0) (record { from = from-u; root = s .forest .again left; some = s .forest .some left p }))
           (λ e. rw (e .0) (record { from = from-v; root = s .forest .again up; some = s .forest .some up q }))
           (lesser-cases u v)
 
-      new-root : rep' r ≡ lesser u v
+      new-root : rep' r ≡ lesserOf u v
       new-root = ap rep' r-is ∙ ap (renamed u v) (least .root) ∙ renamed-lesser u v
 
       r-low : r ≤ m

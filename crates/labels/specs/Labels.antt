@@ -10,6 +10,7 @@ use lib.ListN.{getD}
 use Rattle.plane.specs.Plane.{apart, table, planeOf}
 use Rattle.plane.specs.Search.{countBelow}
 use Rattle.plane.specs.Mask.{isOn}
+use Rattle.plane.specs.Box.{lesserOf}
 
 -- whether j is one step up, down, left or right of i: rows and columns together differ by 1 (R6)
 unfoldable pub beside : ℕ → ℕ → ℕ → Bool
@@ -20,13 +21,9 @@ pub data Joined (mask : List ℕ) (w : ℕ) : ℕ → ℕ → Type 0 where
   same : {i : ℕ} → isOn mask i ≡ true → Joined mask w i i
   onward : {i j k : ℕ} → Joined mask w i j → beside w j k ≡ true → isOn mask k ≡ true → Joined mask w i k
 
--- the lesser of two numbers (R7)
-unfoldable pub lesser : ℕ → ℕ → ℕ
-lesser a b = cond (leb a b) a b
-
 -- the new number of what carries n, when a and b become one number: the lesser of the two in their place (R6)
 unfoldable pub renamed : ℕ → ℕ → ℕ → ℕ
-renamed a b n = cond (eqb n a || eqb n b) (lesser a b) n
+renamed a b n = cond (eqb n a || eqb n b) (lesserOf a b) n
 
 -- all pixels renamed so (R6)
 unfoldable pub merge : ℕ → ℕ → List ℕ → List ℕ

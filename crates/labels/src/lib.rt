@@ -53,8 +53,9 @@ fn place(v: u8, left: u32, up: u32, diag: u32, m: u32, parents: &mut [u32]) -> u
     }
     if left == 0 {
         if up == 0 {
-            parents[m as usize + 1] = m + 1;
-            return m + 1;
+            let l = m + 1;
+            parents[l as usize] = l;
+            return l;
         }
         return up;
     }

@@ -6,13 +6,14 @@ use mathlib.Core.Logic.{⊎-elim}
 use Prim.Native.Nat.{ℕ, zero, suc, _+_, _-_, _*_, _/_, _≤_, _<_}
 use native.Mathlib.Nat.{add-zero}
 use native.Mathlib.Omega.{arith}
-use lib.ListN.{length, getD, set}
+use lib.ListN.{length, getD, set, length-set}
 use lib.Seq.{getD-set-same, getD-set-other}
 use borrow.Author.Count.{below-more}
 use Rattle.plane.proofs.Search.{which}
 use Rattle.line.specs.steps.Line.{mostCost, Site, valueAt}
 use Rattle.line.specs.steps.Part.{part}
-use Rattle.line.specs.steps.Envelope.{Room, Leads, Stack, siteAt, startAt, heightAt, Stays, Dropped, Ready, Stacked}
+use Rattle.line.specs.steps.Envelope.{Regions, Beside, Leads, Stack, siteAt, startAt, heightAt}
+use Rattle.line.specs.steps.Envelope.{Stays, Dropped, Placed, Ready, Stacked}
 use Rattle.line.proofs.Squares.{height, takeoverAt, balance, beats, holds, heights, before, after}
 use Rattle.line.proofs.Part.{part-length, part-at, part-same}
 
@@ -190,38 +191,48 @@ nothing-yet = record {
   leads = λ q h. absurd (omega arith);
 }
 
--- ---- an entry that is stored: u on top of k sites, from w on, in one number
+-- ---- a site that is stored: u on top of k sites, from w on
 
-module _ (work : List ℕ) (stack k u w v : ℕ) (is : v ≡ u * 65536 + w) (low : w < 65536) (room : stack + k < length work) where
+module _ (work : List ℕ) (out stack k u w : ℕ) (apart : out + k < stack) (room : stack + k < length work) where
+  abbrev sited : List ℕ
+  sited = set work (stack + k) u
+
   abbrev stored : List ℕ
-  stored = set work (stack + k) v
+  stored = set sited (out + k) w
 
   abbrev s : ℕ → ℕ
   s = siteAt work stack
 
   abbrev t : ℕ → ℕ
-  t = startAt work stack
+  t = startAt work out
 
   abbrev s' : ℕ → ℕ
   s' = siteAt stored stack
 
   abbrev t' : ℕ → ℕ
-  t' = startAt stored stack
+  t' = startAt stored out
 
-  entry-other : (i : ℕ) → (i ≡ stack + k → ⊥) → getD stored i 0 ≡ getD work i 0
-  entry-other i n = getD-set-other work (stack + k) i v 0 n
+  stored-other : (i : ℕ) → (i ≡ stack + k → ⊥) → (i ≡ out + k → ⊥) → getD stored i 0 ≡ getD work i 0
+  stored-other i n m = getD-set-other sited (out + k) i w 0 m ∙ getD-set-other work (stack + k) i u 0 n
 
   same-site : (q : ℕ) → q < k → s' q ≡ s q
-  same-site q l = let e = entry-other (stack + q) (λ z. omega arith) in omega arith
+  same-site q l = stored-other (stack + q) (λ z. omega arith) (λ z. omega arith)
 
   same-start : (q : ℕ) → q < k → t' q ≡ t q
-  same-start q l = let e = entry-other (stack + q) (λ z. omega arith) in omega arith
+  same-start q l = stored-other (out + q) (λ z. omega arith) (λ z. omega arith)
 
   new-site : s' k ≡ u
-  new-site = let e = getD-set-same work (stack + k) v 0 room in omega arith
+  new-site = getD-set-other sited (out + k) (stack + k) w 0 (λ z. omega arith) ∙ getD-set-same work (stack + k) u 0 room
 
   new-start : t' k ≡ w
-  new-start = let e = getD-set-same work (stack + k) v 0 room in omega arith
+  new-start = getD-set-same sited (out + k) w 0 (let e = length-set work (stack + k) u in omega arith)
+
+  -- what lies before the stack and is no answer is as it was
+  beside : (n : ℕ) → k < n → Beside work stored out stack n
+  beside n l = record {
+    before = λ i g. stored-other i (λ z. omega arith) (λ z. omega arith);
+    behind = λ i g h. stored-other i (λ z. omega arith) (λ z. omega arith);
+  }
 
   module _ {costs : List ℕ} {count : ℕ} (st : Stack costs s t u count) (fits : k ≤ count) (inside : w < length costs)
       (first : k ≡ 0 → w ≡ 0) (rise : (p : ℕ) → k ≡ p + 1 → t p < w) (old : Lead-to costs s t (u + 1) k w)
@@ -272,14 +283,14 @@ module _ (work : List ℕ) (stack k u w v : ℕ) (is : v ≡ u * 65536 + w) (low
       leads = leads;
     }
 
--- ---- one site more in the buffer, by how many are left
+-- ---- one site more in the buffer
 
-module _ {work : List ℕ} {costs stack n count u : ℕ} (ready : Ready work costs stack n count u) where
+module _ {work : List ℕ} {out costs stack n count u : ℕ} (ready : Ready work out costs stack n count u) where
   abbrev line : List ℕ
   line = part work costs n
 
   long : length line ≡ n
-  long = part-length work costs n (omega (arith, ready .costs-first, ready .room))
+  long = part-length work costs n (omega (arith, ready .regions))
 
   site : Site line u
   site = let e = part-at work costs n u 0 (ready .inside) in omega (arith, ready .cost)
@@ -287,122 +298,136 @@ module _ {work : List ℕ} {costs stack n count u : ℕ} (ready : Ready work cos
   pub site-left : (q : ℕ) → q < count → siteAt work stack q < u
   site-left q g = at-start (ready .whole) q g .inside
 
+  pub start-in : (q : ℕ) → q < count → startAt work out q < n
+  start-in q g = let e = long in let z = ready .whole .inside q g in omega arith
+
   -- the height of a place of the line
   height-at : (i : ℕ) → i < n → height line i ≡ heightAt work costs i
   height-at i l = let e = part-at work costs n i 0 l in omega arith
 
-  -- what drop_worse compares, in terms of values
-  compared : (q : ℕ) → q < count → (Stays work costs stack u q → Even line (siteAt work stack) (startAt work stack) u q)
-      × (Even line (siteAt work stack) (startAt work stack) u q → Stays work costs stack u q)
+  -- what find_spot compares, in terms of values
+  compared : (q : ℕ) → q < count → (Stays work out costs stack u q → Even line (siteAt work stack) (startAt work out) u q)
+      × (Even line (siteAt work stack) (startAt work out) u q → Stays work out costs stack u q)
   compared q g =
       let l = ready .inside in
       let left = site-left q g in
       let hu = height-at u l in
       let hs = height-at (siteAt work stack q) (omega arith) in
-      let e = balance line (startAt work stack q) (siteAt work stack q) u (omega arith) in
+      let e = balance line (startAt work out q) (siteAt work stack q) u (omega arith) in
       ((λ h. omega arith), (λ h. omega arith))
 
-  module _ {r : ℕ} (d : Dropped (Stays work costs stack u) count r) where
-    dropped : Dropped (Even line (siteAt work stack) (startAt work stack) u) count r
-    dropped =
-        let f = d .fewer in
+  -- u goes on top of the r sites that stay, and leads from w on
+  module _ {r w : ℕ} (at : Placed work out costs stack count u r w) where
+    -- those that go are worse than u at their own start
+    d : Dropped (Even line (siteAt work stack) (startAt work out) u) count r
+    d =
+        let f = at .dropped .fewer in
         record {
-          fewer = d .fewer;
-          worse = λ q a b h. d .worse q a b (compared q b .1 h);
-          better = λ p e. compared p (omega arith) .0 (d .better p e);
+          fewer = f;
+          worse = λ q a b h. at .dropped .worse q a b (compared q b .1 h);
+          better = λ p e. compared p (omega arith) .0 (at .dropped .better p e);
         }
 
-    pub top-in : stack + r < length work
-    top-in = omega (arith, d .fewer, ready .whole .small, ready .inside, ready .room)
+    -- there is room for one more
+    pub top-in : r < n
+    top-in = omega (arith, at .dropped .fewer, ready .whole .small, ready .inside)
 
-    pub stacked-alone : (v : ℕ) → v ≡ u * 65536 → r ≡ 0 → Stacked work (set work stack v) costs stack n (u + 1) 1
-    stacked-alone v e z =
-        let f : v ≡ u * 65536 + 0 = omega arith in
-        let m = ready .inside in
-        let k = long in
-        let place : stack + 0 ≡ stack = omega arith in
-        let room : stack + 0 < length work = omega (arith, ready .room) in
-        subst (λ (m : ℕ). Stacked work (set work m v) costs stack n (u + 1) 1) place (record {
-          kept = λ i g. entry-other work stack 0 u 0 v f (omega arith) room i (λ e. omega arith);
-          whole =
-              pushed work stack 0 u 0 v f (omega arith) room (ready .whole) (omega arith) (omega arith) (λ _. refl)
-              (λ p y. absurd (omega arith)) (λ q h. absurd (omega arith)) (λ x a b. alone (ready .whole) site dropped z x b);
-        })
+    -- the top that stays, where there is one
+    module _ (p : ℕ) (is : r ≡ p + 1) where
+      top : Dropped (Even line (siteAt work stack) (startAt work out) u) count (p + 1)
+      top = rw is at d
 
-  -- p is the top that stays, and u takes over from it at w
-  module _ (p : ℕ) {r : ℕ} (is : r ≡ p + 1) (d : Dropped (Stays work costs stack u) count r) where
-    abbrev i : ℕ
-    i = siteAt work stack p
-
-    top : Dropped (Even line (siteAt work stack) (startAt work stack) u) count (p + 1)
-    top = rw is at (dropped d)
-
-    pub top-left : i < u
-    top-left = site-left p (omega (arith, d .fewer))
-
-    pub top-lower : heightAt work costs i ≤ heightAt work costs u
-    top-lower =
-        let z = no-higher (ready .whole) site p top in
-        let left = top-left in
-        let a = height-at i (omega (arith, ready .inside)) in
-        let b = height-at u (ready .inside) in
-        omega arith
-
-    module _ (w : ℕ) (takes : w ≡ (heightAt work costs u - heightAt work costs i) / (2 * (u - i)) + 1) where
-      takes-over : w ≡ takeoverAt line i u
+      takes-over : w ≡ takeoverAt line (siteAt work stack p) u
       unfolding takeoverAt
       takes-over =
-          let left = top-left in
-          rw (height-at i (omega (arith, ready .inside)), height-at u (ready .inside)) takes
+          let left = site-left p (omega (arith, at .dropped .fewer)) in
+          rw (height-at (siteAt work stack p) (omega (arith, ready .inside)), height-at u (ready .inside)) (at .over p is)
 
-      pub stacked-over : (v : ℕ) → v ≡ u * 65536 + w → w < n → Stacked work (set work (stack + r) v) costs stack n (u + 1) (r + 1)
-      stacked-over v f g =
-          let e = long in
-          let at = takes-over in
-          let low : w < 65536 = omega (arith, ready .short) in
-          let rise : startAt work stack p < w = rw at (later (ready .whole) site p top) in
-          record {
-            kept = λ j h. entry-other work stack r u w v f low (top-in d) j (λ e. omega arith);
-            whole =
-                pushed work stack r u w v f low (top-in d) (ready .whole) (d .fewer) (omega arith) (λ y. absurd (omega arith))
-                (λ m y. subst (λ (k : ℕ). startAt work stack k < w) (omega arith) rise)
-                (rw (at, is) (segment (ready .whole) site p top))
-                (rw at (new-leads (ready .whole) site p top));
-          }
+    -- w lies behind the start of the top
+    rise : (p : ℕ) → r ≡ p + 1 → startAt work out p < w
+    rise p is = rw (takes-over p is) (later (ready .whole) site p (top p is))
 
-      pub stacked-none : n ≤ w → Stacked work work costs stack n (u + 1) r
-      stacked-none g =
-          let e = long in
-          let at = takes-over in
-          record { kept = λ i h. refl; whole = rw is (push-none (ready .whole) site p top (omega arith)) }
+    -- those that stay lead up to w
+    old : Lead-to line (siteAt work stack) (startAt work out) (u + 1) r w
+    old =
+        ⊎-elim
+        (λ (h : 0 < r).
+        let is : r ≡ r - 1 + 1 = omega arith in
+        rw (takes-over (r - 1) is)
+        (subst (λ (k : ℕ). Lead-to line (siteAt work stack) (startAt work out) (u + 1) k (takeoverAt line (siteAt work stack (r - 1)) u))
+        (omega arith) (segment (ready .whole) site (r - 1) (top (r - 1) is))))
+        (λ (h : r ≤ 0). (λ q g. absurd (omega arith)))
+        (which 0 r)
+
+    -- and from w on u does
+    new : (x : ℕ) → w ≤ x → x < length line → Leads line (u + 1) x u
+    new x a b =
+        ⊎-elim
+        (λ (h : 0 < r).
+        let is : r ≡ r - 1 + 1 = omega arith in
+        new-leads (ready .whole) site (r - 1) (top (r - 1) is) x (let e = takes-over (r - 1) is in omega arith) b)
+        (λ (h : r ≤ 0). alone (ready .whole) site d (omega arith) x b)
+        (which 0 r)
+
+    -- it leads before the line ends
+    pub stacked-over : w < n → Stacked work (set (set work (stack + r) u) (out + r) w) out costs stack n (u + 1) (r + 1)
+    stacked-over l =
+        let e = long in
+        let f = top-in in
+        let apart : out + r < stack = omega (arith, ready .regions) in
+        let room : stack + r < length work = omega (arith, ready .regions) in
+        record {
+          beside = beside work out stack r u w apart room n f;
+          whole =
+              pushed work out stack r u w apart room (ready .whole) (at .dropped .fewer) (omega arith) (at .alone) rise old new;
+        }
+
+    -- it leads nowhere
+    pub stacked-none : n ≤ w → Stacked work work out costs stack n (u + 1) r
+    stacked-none g =
+        let e = long in
+        let f = top-in in
+        let some : 0 < r =
+        ⊎-elim (λ (h : 0 < r). h) (λ (h : r ≤ 0). (let z = at .alone (omega arith) in absurd (omega arith))) (which 0 r) in
+        let is : r ≡ r - 1 + 1 = omega arith in
+        record {
+          beside = record { before = λ i h. refl; behind = λ i g h. refl };
+          whole =
+              subst (λ (k : ℕ). Stack line (siteAt work stack) (startAt work out) (u + 1) k) (omega arith)
+              (push-none (ready .whole) site (r - 1) (top (r - 1) is) (let z = takes-over (r - 1) is in omega arith));
+        }
 
 -- ---- the stack after the next place: what lies before it is as it was
 
-module _ {old work : List ℕ} {costs stack n u count : ℕ} (room : Room costs stack n (length old)) (size : length work ≡ length old)
-    (inside : u < n) (sk : Stacked old work costs stack n u count) where
-  same-costs : part work costs n ≡ part old costs n
-  same-costs =
-      let f = room .costs-first in
-      let r = room .room in
-      part-same 0 old work costs costs n (omega arith) (omega arith) (λ i g. sk .kept (costs + i) (omega arith))
+module _ {old work : List ℕ} {out costs stack n u count : ℕ} (room : Regions out costs stack n (length old))
+    (size : length work ≡ length old) (inside : u < n) (sk : Stacked old work out costs stack n u count) where
+  same-cost : (i : ℕ) → i < n → getD work (costs + i) 0 ≡ getD old (costs + i) 0
+  same-cost i g = sk .beside .behind (costs + i) (omega (arith, room)) (omega (arith, room))
 
-  pub ready : getD work (costs + u) 0 ≤ mostCost → Ready work costs stack n count u
+  same-costs : part work costs n ≡ part old costs n
+  same-costs = part-same 0 old work costs costs n (omega (arith, room)) (omega (arith, room)) same-cost
+
+  pub ready : getD work (costs + u) 0 ≤ mostCost → Ready work out costs stack n count u
   ready cost = record {
-    short = room .short;
-    costs-first = room .costs-first;
-    room = omega (arith, room .room);
+    regions = rw size room;
     inside = inside;
     cost = cost;
     whole = rw same-costs (sk .whole);
   }
 
   -- a place with no site changes nothing
-  pub stacked-skip : mostCost < getD work (costs + u) 0 → Stacked old work costs stack n (u + 1) count
+  pub stacked-skip : mostCost < getD work (costs + u) 0 → Stacked old work out costs stack n (u + 1) count
   stacked-skip g =
       let e = part-at old costs n u 0 inside in
-      let f = sk .kept (costs + u) (omega (arith, room .costs-first)) in
-      record { kept = sk .kept; whole = skipped (sk .whole) (λ h. omega arith) }
+      let f = same-cost u inside in
+      record { beside = sk .beside; whole = skipped (sk .whole) (λ h. omega arith) }
 
   -- and one with a site gives what its push gives
-  pub stacked-next : (new : List ℕ) (r : ℕ) → Stacked work new costs stack n (u + 1) r → Stacked old new costs stack n (u + 1) r
-  stacked-next new r p = record { kept = λ i g. p .kept i g ∙ sk .kept i g; whole = rw same-costs at (p .whole) }
+  pub stacked-next : (new : List ℕ) (r : ℕ) → Stacked work new out costs stack n (u + 1) r → Stacked old new out costs stack n (u + 1) r
+  stacked-next new r p = record {
+    beside = record {
+      before = λ i g. p .beside .before i g ∙ sk .beside .before i g;
+      behind = λ i g h. p .beside .behind i g h ∙ sk .beside .behind i g h;
+    };
+    whole = rw same-costs at (p .whole);
+  }

@@ -15,8 +15,8 @@ use Rattle.plane.proofs.Search.{which}
 use Rattle.line.specs.steps.FirstLeast.{Answers}
 use Rattle.line.specs.steps.Line.{mostLength, noPlace, Site, valueAt, offer, best, placeOf}
 use Rattle.line.specs.steps.Part.{part, Written}
-use Rattle.line.specs.steps.Envelope.{siteAt, Leads, Stacked, Segments, InSegment, Spread}
-use Rattle.line.specs.steps.Run.{Regions, Beside, placeFrom, Ran, Ends, Lone, Done, Passed}
+use Rattle.line.specs.steps.Envelope.{Regions, Beside, siteAt, Leads, Stacked, Segments, InSegment, Spread}
+use Rattle.line.specs.steps.Run.{placeFrom, Ran, Ends, Lone, Done, Passed}
 use Rattle.line.proofs.Squares.{square-lt, apart-left, apart-right, apart-zero}
 use Rattle.line.proofs.Walk.{clash, walk-answers}
 use Rattle.line.proofs.Best.{line-is, offer-site, offered, leader, no-leader}
@@ -204,7 +204,7 @@ module _ (costs : List ℕ) (a k : ℕ) (within : a + k ≤ length costs) (left 
 -- ---- a run in the buffer: the stack is there, and its segments are answered
 
 module _ {old mid : List ℕ} {out costs stack n count : ℕ} (base : ℕ) (r : Regions out costs stack n (length old))
-    (size : length mid ≡ length old) (sk : Stacked old mid costs stack n n count) where
+    (size : length mid ≡ length old) (sk : Stacked old mid out costs stack n n count) where
   long : length (part old costs n) ≡ n
   long = part-length old costs n (omega (arith, r))
 
@@ -224,7 +224,7 @@ module _ {old mid : List ℕ} {out costs stack n count : ℕ} (base : ℕ) (r : 
         site = λ q g. at-start st q g .inside;
       }
 
-  in-segment : (x v : ℕ) → x < n → InSegment mid stack count base x v → v ≡ placeFrom base (best (part old costs n) x)
+  in-segment : (x v : ℕ) → x < n → InSegment mid out stack count base x v → v ≡ placeFrom base (best (part old costs n) x)
   unfolding placeFrom
   in-segment x v g s =
       let e = long in
@@ -235,8 +235,8 @@ module _ {old mid : List ℕ} {out costs stack n count : ℕ} (base : ℕ) (r : 
   ran-spread {new} s = record {
     answers = λ x g. in-segment x (getD new (out + x) 0) g (s .answered x g);
     beside = record {
-      before = λ i g. s .before i g ∙ sk .kept i (omega (arith, r));
-      behind = λ i g h. s .behind i g ∙ sk .kept i h;
+      before = λ i g. s .before i g ∙ sk .beside .before i g;
+      behind = λ i g h. s .behind i g ∙ sk .beside .behind i g h;
     };
   }
 
@@ -249,8 +249,8 @@ module _ {old mid : List ℕ} {out costs stack n count : ℕ} (base : ℕ) (r : 
       record {
         answers = λ x g. s .here x g ∙ sym (ap (placeFrom base) (none-on x));
         beside = record {
-          before = λ i g. s .before i g ∙ sk .kept i (omega (arith, r));
-          behind = λ i g h. s .behind i g ∙ sk .kept i h;
+          before = λ i g. s .before i g ∙ sk .beside .before i g;
+          behind = λ i g h. s .behind i g ∙ sk .beside .behind i g h;
         };
       }
 

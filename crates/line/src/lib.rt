@@ -1,22 +1,21 @@
 // The line pass of an exact Euclidean feature transform: for each place of a line the first site with the least cost + (x - i)².
 // The answers, the costs and the stack are regions of one buffer, in this order: out, costs and stack say where each starts.
+// The stack has two numbers for each of its sites: the site itself, in the region stack, and the place where it starts to lead, in
+// the region out. No answer is written over a start that is still needed: site q does not start to lead before place q.
 ghost use mathlib.Core.Path.{_≡_};
 ghost use mathlib.Core.Bool.{true};
 ghost use Prim.Native.Nat.{ℕ, _+_, _*_, _-_, _/_, _<_, _≤_};
-ghost use lib.ListN.{length, getD};
+ghost use lib.ListN.{length};
 ghost use Rattle.line.specs.steps.Line.{mostCost, mostLength};
 ghost use Rattle.line.specs.steps.Part.{Written};
-ghost use Rattle.line.specs.steps.Envelope.{Room, Tops, Stays, Dropped, Ready, Stacked, Segments, Spread};
-ghost use Rattle.line.specs.steps.Run.{Regions, Ends, Lone, Ran, Passed};
+ghost use Rattle.line.specs.steps.Envelope.{Regions, Tops, Placed, Ready, Stacked, Segments, Spread};
+ghost use Rattle.line.specs.steps.Run.{Ends, Lone, Ran, Passed};
 
 // A place whose cost is above this has no site: 65,535².
 pub const MAX_COST: u32 = 4294836225;
 
 // What is written where the line has no site.
 pub const NO_PLACE: u32 = 4294967295;
-
-// An entry of the stack is a site times this, and the place where it starts to lead.
-const BASE: usize = 65536;
 
 // A cost and the square of its place.
 fn high(cost: u32, i: usize) -> u64
@@ -38,65 +37,70 @@ fn takeover(rise: usize, step: usize) -> usize
     rise / (2 * step) + 1
 }
 
-// The number of sites that stay when those are taken off the top that u beats already at their own start.
+// Where a site goes on the stack: how many sites stay below it, and the place where it starts to lead.
+struct Spot {
+    stay: usize,
+    from: usize,
+}
+
+// The spot of u: those sites are taken off the top that u beats already at their own start.
 // At x site i is as good as u, to its right, exactly where its height and 2x(u - i) are at most the height of u.
-fn drop_worse(work: &[u32], costs: usize, stack: usize, count: usize, u: usize) -> usize
-    requires { ⌜ Tops (now work) costs stack count u ⌝ }
-    ensures { λ r. ⌜ Dropped (Stays (now (work .entry)) costs stack u) count r ⌝ }
+fn find_spot(work: &[u32], out: usize, costs: usize, stack: usize, count: usize, u: usize) -> Spot
+    requires { ⌜ Tops (now work) out costs stack count u ⌝ }
+    ensures { λ r. ⌜ Placed (now (work .entry)) out costs stack count u (r .stay) (r .from) ⌝ }
 {
     let most = high(work[costs + u], u);
-    let mut k = count;
-    while 0 < k {
-        let top = k - 1;
-        let entry = plane::wide(work[stack + top]);
-        let i = entry / BASE;
-        let far = (entry % BASE * (2 * (u - i))) as u64;
-        if high(work[costs + i], i) + far <= most {
-            return k;
+    let mut top = count;
+    while 0 < top {
+        top -= 1;
+        let i = plane::wide(work[stack + top]);
+        let start = plane::wide(work[out + top]);
+        let far = (start * (2 * (u - i))) as u64;
+        let low = high(work[costs + i], i);
+        if low + far <= most {
+            return Spot {
+                stay: top + 1,
+                from: takeover((most - low) as usize, u - i),
+            };
         }
-        k = top;
     }
-    k
+    Spot { stay: 0, from: 0 }
 }
 
 // One site more; the new number of sites.
 fn push_site(
     work: &mut [u32],
+    out: usize,
     costs: usize,
     stack: usize,
     n: usize,
     count: usize,
     u: usize,
 ) -> usize
-    requires { ⌜ Ready (now work) costs stack n count u ⌝ }
-    ensures { λ r. ⌜ Stacked (now (work .entry)) (now (work .exit)) costs stack n (u + 1) r ⌝ }
+    requires { ⌜ Ready (now work) out costs stack n count u ⌝ }
+    ensures { λ r. ⌜ Stacked (now (work .entry)) (now (work .exit)) out costs stack n (u + 1) r ⌝ }
 {
-    let k = drop_worse(work, costs, stack, count, u);
-    if k == 0 {
-        work[stack] = (u * BASE) as u32;
-        return 1;
-    }
-    let top = k - 1;
-    let i = plane::wide(work[stack + top]) / BASE;
-    let rise = (high(work[costs + u], u) - high(work[costs + i], i)) as usize;
-    let from = takeover(rise, u - i);
+    let spot = find_spot(work, out, costs, stack, count, u);
+    let k = spot.stay;
+    let from = spot.from;
     if from < n {
-        work[stack + k] = (u * BASE + from) as u32;
+        work[stack + k] = u as u32;
+        work[out + k] = from as u32;
         return k + 1;
     }
     k
 }
 
 // The stack of the whole line; the number of its sites.
-fn build(work: &mut [u32], costs: usize, stack: usize, n: usize) -> usize
-    requires { ⌜ Room costs stack n (length (now work)) ⌝ }
-    ensures { λ r. ⌜ Stacked (now (work .entry)) (now (work .exit)) costs stack n n r ⌝ }
+fn build(work: &mut [u32], out: usize, costs: usize, stack: usize, n: usize) -> usize
+    requires { ⌜ Regions out costs stack n (length (now work)) ⌝ }
+    ensures { λ r. ⌜ Stacked (now (work .entry)) (now (work .exit)) out costs stack n n r ⌝ }
 {
     let mut count = 0usize;
     let mut u = 0usize;
     while u < n {
         if work[costs + u] <= MAX_COST {
-            count = push_site(work, costs, stack, n, count, u);
+            count = push_site(work, out, costs, stack, n, count, u);
         }
         u += 1;
     }
@@ -124,9 +128,8 @@ fn answer(work: &mut [u32], out: usize, stack: usize, n: usize, count: usize, ba
     let mut end = n;
     while 0 < q {
         let top = q - 1;
-        let entry = plane::wide(work[stack + top]);
-        let from = entry % BASE;
-        let v = (base + entry / BASE) as u32;
+        let from = plane::wide(work[out + top]);
+        let v = (base + plane::wide(work[stack + top])) as u32;
         fill(work, out + from, end - from, v);
         end = from;
         q = top;
@@ -138,7 +141,7 @@ fn run(work: &mut [u32], out: usize, costs: usize, stack: usize, n: usize, base:
     requires { ⌜ Regions out costs stack n (length (now work)) × (base ≤ mostLength) ⌝ }
     ensures { λ _. ⌜ Ran (now (work .entry)) (now (work .exit)) out costs stack n base ⌝ }
 {
-    let count = build(work, costs, stack, n);
+    let count = build(work, out, costs, stack, n);
     if count == 0 {
         fill(work, out, n, NO_PLACE);
         return;

@@ -1,10 +1,10 @@
 // The feature transform of a plane: the nearest on-pixel of each pixel, as row and column, as index, or as squared distance.
 // First stage: the nearest on-row of each column, in two sweeps over the rows. Second stage: the line pass along each row.
 // What stands between the stages is kept in one lent buffer: h rows of w numbers, and behind them three lines of w numbers:
-// the nearest on-rows of the row at hand, their costs, and the stack of the line pass.
+// the nearest on-rows of the row at hand, their costs, and the sites of the line pass's stack.
 ghost use mathlib.Core.Path.{_≡_};
 ghost use mathlib.Core.Bool.{cond};
-ghost use Prim.Native.Nat.{ℕ, _+_, _*_, _<_, _≤_};
+ghost use Prim.Native.Nat.{ℕ, _+_, _*_, _-_, _<_, _≤_};
 ghost use lib.IntN.{pos};
 ghost use lib.ListN.{length, take};
 ghost use Rattle.plane.specs.Plane.{on, indexOf};
@@ -46,17 +46,29 @@ fn below_line(mask: &[u8], y: u32, work: &mut [u32], row: usize, w: usize)
     }
 }
 
+// Where the row before starts; 0 where there is none.
+// The first sweep goes from row to row by this and not by a product: of products the compiler knows that the rows go backwards, and
+// then it does not test whether what is read and what is written lie apart, but goes on number by number.
+fn row_before(row: usize, w: usize) -> usize
+    ensures { λ r. ⌜ r ≡ row - w ⌝ }
+{
+    if w < row { row - w } else { 0 }
+}
+
 // The first sweep, from the last row up: each pixel's first on-row at or below it. The line behind the plane says that none is
 // below the last row, and is the line from which the second sweep starts.
 fn below(mask: &[u8], h: usize, w: usize, work: &mut [u32])
     requires { ⌜ IndexRoom h w (now mask) (now work) ⌝ }
     ensures { λ _. ⌜ Swept (now (mask .entry)) h w 0 (now (work .exit)) ⌝ }
 {
-    line::fill(work, h * w, w, NO_ROW);
+    let n = h * w;
+    line::fill(work, n, w, NO_ROW);
     let mut y = h;
+    let mut row = n;
     while 0 < y {
         let j = y - 1;
-        below_line(mask, j as u32, work, j * w, w);
+        row = row_before(row, w);
+        below_line(mask, j as u32, work, row, w);
         y = j;
     }
 }

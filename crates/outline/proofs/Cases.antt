@@ -14,7 +14,7 @@ use Rattle.line.specs.Grid.{valueOf, walk, upto, grid, plus}
 use Rattle.nearest.specs.Nearest.{rowCost, nearest, rowOf, columnOf, rowsPlane, columnsPlane, away, distanceTo}
 use Rattle.squares.specs.Squares.{larger, reach, inSquare, squaresPlane}
 use Rattle.plane.specs.Mask.{isOn, maskOf, someOff}
-use Rattle.labels.specs.Labels.{beside, lesser, renamed, merge, joinTwo, joinWith, joinUpto, firstPixel, isFirst, parts, labelOf, labelAt}
+use Rattle.labels.specs.Labels.{beside, renamed, merge, joinTwo, joinWith, joinUpto, firstPixel, isFirst, parts, labelOf, labelAt}
 use Rattle.labels.specs.Labels.{labelsPlane}
 use Rattle.colour.specs.declared.Settings.{Settings}
 use Rattle.colour.specs.Number.{zero64, one64, absOf, plusZero, halfOf}
@@ -146,7 +146,7 @@ cases =
 pub cases-hold : T (all cases)
 unfolding cases all same sameZ gets labelled greys opaque255 cutWith cutTo cutMaskIs found row30 on bit onAt apart within table rowsUpto
     planeOf someBelow countBelow lower valueOf walk upto grid plus rowCost nearest rowOf columnOf rowsPlane columnsPlane away distanceTo
-    larger reach inSquare squaresPlane isOn beside lesser renamed merge joinTwo joinWith joinUpto firstPixel isFirst parts labelOf
+    larger reach inSquare squaresPlane isOn beside renamed merge joinTwo joinWith joinUpto firstPixel isFirst parts labelOf
     labelAt labelsPlane absOf Rattle.colour.specs.Number.larger plusZero halfOf differenceOf closeTo joinsOf passesOf onOf insert sorted
     placed lowerMiddle upperMiddle medianOf rowPixels innerColumn borderList listed onBorder channelAt colourAt referenceChannel
     referenceOf isClose closePlane isGround groundFrom groundOf countOn someOff foundFrom isFound nearGround isEdge isShallow isDeep

@@ -15,7 +15,7 @@ rowHas mask w y = someBelow w (λ (x : ℕ). onAt mask w y x)
 unfoldable pub columnHas : List ℕ → ℕ → ℕ → ℕ → Bool
 columnHas mask h w x = someBelow h (λ (y : ℕ). onAt mask w y x)
 
--- the lesser of two numbers (R35)
+-- the lesser of two numbers (R6, R35)
 unfoldable pub lesserOf : ℕ → ℕ → ℕ
 lesserOf a b = cond (leb a b) a b
 

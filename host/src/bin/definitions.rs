@@ -53,7 +53,7 @@ use Rattle.line.specs.Walk.{lower}
 use Rattle.line.specs.Grid.{valueOf, walk, upto, grid, plus}
 use Rattle.nearest.specs.Nearest.{rowCost, nearest, away, distanceTo}
 use Rattle.squares.specs.Squares.{inSquare}
-use Rattle.labels.specs.Labels.{beside, lesser, renamed, merge, joinTwo, joinWith, joinUpto, firstPixel}
+use Rattle.labels.specs.Labels.{beside, renamed, merge, joinTwo, joinWith, joinUpto, firstPixel}
 use Rattle.colour.specs.declared.Rgb.{Rgb}
 use Rattle.colour.specs.declared.Settings.{Settings}
 use Rattle.colour.specs.Number.{absOf, larger, plusZero, halfOf}
@@ -121,7 +121,7 @@ growthIs colours reference h w p back grown = same (growthOf colours reference h
     const UNFOLDING: &str = "unfolding same f64 bits settings rgb refused isCut cutIs growthIs on bit onAt apart within \
         table rowsUpto planeOf indexOf someBelow countBelow firstBelow lastBelow isOn maskOf someOff rowHas columnHas \
         lesserOf boxOf wholeOf refusalOf lower valueOf walk upto grid plus rowCost nearest away distanceTo inSquare beside \
-        lesser renamed merge joinTwo joinWith joinUpto firstPixel absOf larger plusZero halfOf differenceOf closeTo \
+        renamed merge joinTwo joinWith joinUpto firstPixel absOf larger plusZero halfOf differenceOf closeTo \
         colourOk coloursOk rgbOk joinsOf passesOf onOf weightOf insert sorted placed lowerMiddle upperMiddle medianOf \
         rowPixels innerColumn borderList listed onBorder channelAt colourAt referenceChannel referenceOf isClose \
         closePlane isGround groundFrom groundOf countOn foundFrom isFound nearGround isEdge isShallow isDeep isReach \

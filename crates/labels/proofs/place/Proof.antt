@@ -38,7 +38,6 @@ place-spec =
     (λ c. search needs)
     (λ c. search needs)
     (λ c. search needs)
-    (λ c. search needs)
     returns-2
     returns-3
     returns-4

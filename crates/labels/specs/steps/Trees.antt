@@ -10,7 +10,8 @@ use lib.ListN.{length, getD, set}
 use Rattle.plane.specs.steps.Sides.{Sides}
 use Rattle.plane.specs.Search.{countBelow}
 use Rattle.plane.specs.Mask.{isOn}
-use Rattle.labels.specs.Labels.{beside, Joined, lesser, renamed, isFirst}
+use Rattle.plane.specs.Box.{lesserOf}
+use Rattle.labels.specs.Labels.{beside, Joined, renamed, isFirst}
 
 -- what a call of `label` is given: planes of h * w pixels, and work space of one number more; labels are stored in 32 bits
 pub record Given (mask parents labels : List ℕ) (h w : ℕ) : Type 0 where
@@ -54,7 +55,7 @@ pub record Joinable (parents : List ℕ) (m a b : ℕ) : Type 0 where
 -- the trees of labels a and b are one, and r is its root
 pub record Linked (old new : List ℕ) (m a b r : ℕ) : Type 0 where
   pub trees : (rep : ℕ → ℕ) → Forest old m rep → Forest new m (λ (l : ℕ). renamed (rep a) (rep b) (rep l))
-  pub root : (rep : ℕ → ℕ) → Forest old m rep → r ≡ lesser (rep a) (rep b)
+  pub root : (rep : ℕ → ℕ) → Forest old m rep → r ≡ lesserOf (rep a) (rep b)
 
 -- ---- the first pass over the pixels
 

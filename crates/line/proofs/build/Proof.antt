@@ -11,11 +11,11 @@ use Rattle.line.proofs.build.Statement.{statement}
 use Rattle.line.proofs.build.Tie as tie
 
 abbrev Inv-loop : tie.InvT-loop
-Inv-loop work₀ costs stack n count₀ u₀ work count u =
-    (u ≤ n) × (length work ≡ length work₀) × Stacked work₀ work costs stack n u count
+Inv-loop work₀ out costs stack n count₀ u₀ work count u =
+    (u ≤ n) × (length work ≡ length work₀) × Stacked work₀ work out costs stack n u count
 
 abbrev μ-loop : tie.MeasureT-loop
-μ-loop work₀ costs stack n count₀ u₀ work count u = n - u
+μ-loop work₀ out costs stack n count₀ u₀ work count u = n - u
 
 push-site-requires : tie.Need-push-site-requires Inv-loop μ-loop
 push-site-requires c κs =
@@ -42,7 +42,7 @@ returns : tie.Need-returns Inv-loop μ-loop
 returns c =
     let l = c .before .loop in
     let a = c .before .before .before .args in
-    subst (λ (m : ℕ). Stacked (a .work .now) (l .work) (a .costs) (a .stack) (a .n) m (l .count)) (omega arith) (l .inv .2)
+    subst (λ (m : ℕ). Stacked (a .work .now) (l .work) (a .out) (a .costs) (a .stack) (a .n) m (l .count)) (omega arith) (l .inv .2)
 
 pub build-spec : {M : Type 1} → statement M
 build-spec =
@@ -50,7 +50,7 @@ build-spec =
     (tie.spec
     Inv-loop
     μ-loop
-    (λ c. (omega arith, refl, record { kept = λ i g. refl; whole = nothing-yet }))
+    (λ c. (omega arith, refl, record { beside = record { before = λ i g. refl; behind = λ i g h. refl }; whole = nothing-yet }))
     (λ c. omega (arith, c .before .before .before .pre))
     (λ c. omega (arith, c .before .before .before .pre))
     (λ c. omega (arith, c .before .before .before .before .pre, c .before .before .loop .inv .1))

@@ -4,7 +4,8 @@ use mathlib.Core.Path.{_≡_}
 use Prim.Native.Nat.{_-_, _<_}
 use lib.ListN.{length}
 use native.Mathlib.Omega.{arith}
-use Rattle.line.specs.steps.Run.{Regions, Ends, Lone}
+use Rattle.line.specs.steps.Envelope.{Regions}
+use Rattle.line.specs.steps.Run.{Ends, Lone}
 use Rattle.line.proofs.Runs.{Passing, passing-none, own-next, lone-next, run-next, all-done}
 use borrow.Author.Needs.{needs}
 use Rattle.line.proofs.line.Statement.{statement}

@@ -7,20 +7,9 @@ use mathlib.Core.List.{List}
 use mathlib.Core.Option.{Option, none, some}
 use mathlib.Core.Logic.{_⊎_}
 use lib.ListN.{length, getD}
-use Rattle.line.specs.steps.Line.{mostLength, noPlace, best, placeOf, lineOf}
+use Rattle.line.specs.steps.Line.{noPlace, best, placeOf, lineOf}
 use Rattle.line.specs.steps.Part.{part}
-
--- the regions of a line of n places: first the answers, then the costs, then the stack
-pub record Regions (out costs stack n long : ℕ) : Type 0 where
-  pub short : n ≤ mostLength
-  pub out-first : out + n ≤ costs
-  pub costs-first : costs + n ≤ stack
-  pub room : stack + n ≤ long
-
--- what lies before the stack is as it was, but for the n answers
-pub record Beside (old new : List ℕ) (out stack n : ℕ) : Type 0 where
-  pub before : (i : ℕ) → i < out → getD new i 0 ≡ getD old i 0
-  pub behind : (i : ℕ) → out + n ≤ i → i < stack → getD new i 0 ≡ getD old i 0
+use Rattle.line.specs.steps.Envelope.{Beside}
 
 -- the place of an answer for a part of the line that starts at a
 unfoldable pub placeFrom : ℕ → Option ℕ → ℕ
