@@ -12,9 +12,10 @@ include!(concat!(env!("OUT_DIR"), "/the_rust.rs"));
 mod masks;
 
 use masks::Random;
-use std::io::{ErrorKind, Write};
+use std::io::{ErrorKind, Read, Write};
+use std::os::unix::process::ExitStatusExt;
 use std::path::{Path, PathBuf};
-use std::process::{Command, Output, Stdio};
+use std::process::{Child, Command, Output, Stdio};
 use std::thread;
 use std::time::Duration;
 
@@ -447,25 +448,119 @@ fn in_little_stack() {
     }
 }
 
+// ---- an answer that is not taken
+
+/// What is said on standard error where standard output does not take the whole answer.
+const UNWRITTEN: &str =
+    "cutcard: the answer could not be written in full; remove what was written, \
+                         see to the disk or the pipe, and run it again\n";
+
+/// Starts a line of the shell, in which `$0` is the program.
+fn start(program: &Path, line: &str) -> Child {
+    let mut command = Command::new("sh");
+    command.args(["-c", line]).arg(program);
+    command.stdin(Stdio::piped()).stdout(Stdio::piped());
+    command.stderr(Stdio::piped()).spawn().expect("sh")
+}
+
+/// Hands over the input, which is no more than a pipe holds, and waits for the end.
+fn end(mut child: Child, input: &[u8]) -> Output {
+    hand_over(&mut child, input);
+    child.wait_with_output().expect("its end")
+}
+
+fn hand_over(child: &mut Child, input: &[u8]) {
+    let mut stdin = child.stdin.take().expect("its standard input");
+    match stdin.write_all(input) {
+        Err(e) if e.kind() == ErrorKind::BrokenPipe => {}
+        other => other.expect("a write to the pipe"),
+    }
+}
+
+/// A picture whose answer is as long as any.
+fn longest() -> (Vec<u8>, String) {
+    let mut file = header_of("1", "2304");
+    file.extend([255; 4 * 2304]);
+    let text = answer(&file).expect("an accepted file");
+    assert!(text.len() > 4600);
+    (file, text)
+}
+
 #[test]
 fn closed_input_and_output() {
     let Some(program) = program() else { return };
-    let shell = |redirection: &str| {
-        let mut command = Command::new("sh");
-        command
-            .arg("-c")
-            .arg(format!("exec \"$0\" {redirection}"))
-            .arg(&program);
-        feed(&mut command, &[&badge()], Duration::ZERO).expect("sh")
+    let ended = |line: &str, wrote: &str, said: &str| {
+        let out = end(start(&program, line), &badge());
+        assert!(out.status.success(), "{line}: {:?}", out.status);
+        assert_eq!(String::from_utf8_lossy(&out.stdout), wrote, "{line}");
+        assert_eq!(String::from_utf8_lossy(&out.stderr), said, "{line}");
     };
-    let out = shell("<&-");
-    assert!(out.status.success());
-    assert_eq!(out.stdout, b"refused 8\n");
-    for redirection in [">&-", "<&- >&-", ">/dev/full"] {
-        let out = shell(redirection);
-        assert!(out.status.success(), "{redirection}: {:?}", out.status);
-        assert!(out.stdout.is_empty());
+    ended("exec \"$0\" <&-", "refused 8\n", "");
+    for redirection in [">&-", "<&- >&-", ">/dev/full", "<&- >/dev/full"] {
+        ended(&format!("exec \"$0\" {redirection}"), "", UNWRITTEN);
     }
+    ended("exec \"$0\" >&- 2>&-", "", "");
+}
+
+/// A disk that has room for the answer's beginning alone: the shell limits what a file may hold.
+#[test]
+fn a_disk_that_fills_up() {
+    let Some(program) = program() else { return };
+    let (file, text) = longest();
+    let folder = Path::new(env!("CARGO_TARGET_TMPDIR")).join("cutcard");
+    std::fs::create_dir_all(&folder).unwrap();
+    let mask = folder.join("begun.pbm");
+    let line = format!(
+        "trap '' XFSZ; ulimit -f 1; exec \"$0\" > '{}'",
+        mask.display()
+    );
+    let out = end(start(&program, &line), &file);
+    assert_eq!(String::from_utf8_lossy(&out.stderr), UNWRITTEN);
+    let begun = std::fs::read_to_string(&mask).unwrap();
+    assert!(!begun.is_empty() && begun.len() < text.len());
+    assert!(text.starts_with(&begun));
+}
+
+/// A pipe that nobody reads any more: the system ends the program, or, where it is told not to, the
+/// program says so.
+#[test]
+fn a_broken_pipe() {
+    let Some(program) = program() else { return };
+    let ended = |line: &str| {
+        let mut child = start(&program, line);
+        drop(child.stdout.take());
+        let out = end(child, &badge());
+        (out.status, String::from_utf8(out.stderr).unwrap())
+    };
+    let (status, said) = ended("exec \"$0\"");
+    assert_eq!((status.signal(), said.as_str()), (Some(13), ""));
+    let (status, said) = ended("trap '' PIPE; exec \"$0\"");
+    assert_eq!((status.code(), said.as_str()), (Some(0), UNWRITTEN));
+}
+
+/// A pipe that is nearly full when the program writes, and is read slowly: the answer waits, and
+/// comes whole.
+#[test]
+fn a_slow_pipe() {
+    let Some(program) = program() else { return };
+    let (file, text) = longest();
+    let line = "head -c 65000 /dev/zero && exec \"$0\"";
+    let mut child = start(&program, line);
+    hand_over(&mut child, &file);
+    let mut stdout = child.stdout.take().expect("its standard output");
+    let (mut wrote, mut piece) = (Vec::new(), [0; 1000]);
+    thread::sleep(Duration::from_millis(100));
+    loop {
+        let count = stdout.read(&mut piece).expect("a read from the pipe");
+        if count == 0 {
+            break;
+        }
+        wrote.extend_from_slice(&piece[..count]);
+        thread::sleep(Duration::from_millis(1));
+    }
+    let out = child.wait_with_output().unwrap();
+    assert!(out.status.success() && out.stderr.is_empty());
+    assert_eq!(String::from_utf8_lossy(&wrote[65000..]), text);
 }
 
 /// Runs one of Netpbm's programs; `None`, with a line that says so, where it is not installed.

@@ -165,11 +165,17 @@ pub fn cutcard(input: &[u8], out: &mut [u8]) -> usize
 }
 
 // From standard input, until it ends or MOST_INPUT bytes are read, to standard output: what the programs run. No byte after
-// these matters (`first-bytes` in proofs/Laws.antt). It has no result, and so no contract.
+// these matters (`first-bytes` in proofs/Laws.antt). A program has no exit status to give, so a text that standard output does
+// not take whole is said on standard error. It has no result, and so no contract.
 pub fn run() {
     let mut input = [0u8; MOST_INPUT];
     let mut out = [0u8; MOST_TEXT];
     let n = io::read_full(libc::STDIN_FILENO, &mut input);
     let r = cutcard(&input[..n], &mut out);
-    io::write_all(libc::STDOUT_FILENO, &out[..r]);
+    if !io::write_all(libc::STDOUT_FILENO, &out[..r]) {
+        io::write_all(
+            libc::STDERR_FILENO,
+            b"cutcard: the answer could not be written in full; remove what was written, see to the disk or the pipe, and run it again\n",
+        );
+    }
 }

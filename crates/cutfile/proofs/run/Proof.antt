@@ -33,4 +33,7 @@ run-spec =
     (λ c. most (c .before))
     (λ c. sym (length-take-le _ _ (most (c .before .before))))
     (λ c κs. search needs)
+    (λ c. search needs)
+    (λ c κs. search needs)
+    (λ c. search needs)
     (λ c. search needs))
