@@ -1,9 +1,17 @@
-//! Links the proved archive, and hands the path of mask.rs on to the comparisons.
+//! Links the proved archive, which host/prove makes where it is missing, and hands its version on
+//! to the program and the path of mask.rs on to the comparisons.
+
+#[allow(dead_code)]
+#[path = "src/sha256.rs"]
+mod sha256;
 
 use std::env;
-use std::fs;
+use std::fs::{self, File};
+use std::io::{BufRead, BufReader, IsTerminal, Write};
+use std::os::unix::fs::FileTypeExt;
+use std::os::unix::process::parent_id;
 use std::path::{Path, PathBuf};
-use std::process::Command;
+use std::process::{Command, Stdio};
 use std::time::SystemTime;
 
 /// Ends the build with a sentence and no backtrace.
@@ -23,8 +31,42 @@ fn newest(folder: &Path) -> Option<SystemTime> {
         .max()
 }
 
-/// The folder of the archive: `STAND_LIB_DIR`, or the repository's own after `rt staticlib`.
-fn archive_folder(root: &Path) -> PathBuf {
+/// The terminal that cargo writes to, where it writes to one.
+fn terminal() -> Option<File> {
+    let path = format!("/proc/{}/fd/2", parent_id());
+    if !fs::metadata(&path).ok()?.file_type().is_char_device() {
+        return None;
+    }
+    let file = File::options().write(true).open(path).ok()?;
+    file.is_terminal().then_some(file)
+}
+
+/// Proves and builds the archive. Cargo keeps to itself what a build script writes, and this takes
+/// minutes: so each line also goes to the terminal, over cargo's own line of progress.
+fn prove(host: &Path) {
+    let run = Command::new(host.join("prove"))
+        .stdout(Stdio::piped())
+        .spawn();
+    let mut child = run.unwrap_or_else(|why| fail(format!("host/prove could not be run: {why}")));
+    let mut terminal = terminal();
+    let said = BufReader::new(child.stdout.take().expect("its standard output"));
+    for line in said.lines().map_while(Result::ok) {
+        println!("{line}");
+        if let Some(terminal) = &mut terminal {
+            let _ = writeln!(terminal, "\r\x1b[K{line}");
+        }
+    }
+    if !child.wait().is_ok_and(|status| status.success()) {
+        fail(
+            "there is no libstand.a, and host/prove did not make it; what it says is above. One that \
+             was made elsewhere is taken where STAND_LIB_DIR names its folder."
+                .into(),
+        );
+    }
+}
+
+/// The folder of the archive: `STAND_LIB_DIR`, or the repository's own after host/prove.
+fn archive_folder(root: &Path, host: &Path) -> PathBuf {
     println!("cargo:rerun-if-env-changed=STAND_LIB_DIR");
     let (folder, own) = match env::var_os("STAND_LIB_DIR") {
         Some(folder) => (PathBuf::from(folder), false),
@@ -33,23 +75,7 @@ fn archive_folder(root: &Path) -> PathBuf {
     let archive = folder.join("libstand.a");
     println!("cargo:rerun-if-changed={}", archive.display());
     if own && !archive.is_file() {
-        let run = Command::new("rt")
-            .args(["staticlib", "stand"])
-            .current_dir(root)
-            .output();
-        match run {
-            Ok(out) if out.status.success() => {}
-            Ok(out) => fail(format!(
-                "`rt staticlib stand` failed:\n{}{}",
-                String::from_utf8_lossy(&out.stdout),
-                String::from_utf8_lossy(&out.stderr)
-            )),
-            Err(e) => fail(format!(
-                "{} is missing and `rt` could not be run ({e}). Put `rt` on the PATH, or set \
-                 STAND_LIB_DIR to the folder that holds libstand.a.",
-                archive.display()
-            )),
-        }
+        prove(host);
     }
     if !archive.is_file() {
         fail(format!("there is no {}", archive.display()));
@@ -60,12 +86,25 @@ fn archive_folder(root: &Path) -> PathBuf {
         let made = archive.metadata().and_then(|m| m.modified()).ok();
         if newest(&crates) > made {
             println!(
-                "cargo:warning={} is older than a file under crates/: run `rt staticlib stand`",
+                "cargo:warning={} is older than a file under crates/: run host/prove",
                 archive.display()
             );
         }
     }
     folder.canonicalize().expect("the archive's folder")
+}
+
+/// What the program says of the archive: the version of its header, and its sum, since the archive
+/// itself has no version.
+fn version(root: &Path, archive: &Path) -> String {
+    let header = root.join("include").join("stand.h");
+    println!("cargo:rerun-if-changed={}", header.display());
+    let text = fs::read_to_string(&header).expect("include/stand.h");
+    let number = text.split("#define STAND_VERSION \"").nth(1);
+    let number = number.and_then(|rest| rest.split('"').next());
+    let sum = sha256::of(&fs::read(archive).expect("the archive"));
+    let number = number.expect("STAND_VERSION in include/stand.h");
+    format!("proved library {number}, libstand.a with the SHA-256 {sum}")
 }
 
 /// Writes the file that a test or a program includes at its root: mask.rs, unchanged, as the
@@ -103,12 +142,11 @@ fn main() {
         .expect("host/ lies in the repository")
         .to_path_buf();
     println!("cargo:rerun-if-changed=build.rs");
-    let folder = archive_folder(&root);
+    let folder = archive_folder(&root, &host);
+    let archive = folder.join("libstand.a");
     println!("cargo:rustc-link-search=native={}", folder.display());
     println!("cargo:rustc-link-lib=static=stand");
-    println!(
-        "cargo:rustc-env=STAND_ARCHIVE={}",
-        folder.join("libstand.a").display()
-    );
+    println!("cargo:rustc-env=STAND_ARCHIVE={}", archive.display());
+    println!("cargo:rustc-env=STAND_PROVED={}", version(&root, &archive));
     the_rust(&root, &host);
 }

@@ -13,8 +13,8 @@
 //! its [`Refusal`]. Whoever cuts one picture after the other and wants to keep the buffers calls
 //! [`raw`] instead, with buffers of [`work_len`] numbers.
 //!
-//! The program `stand` cuts picture files; [`netpbm`], [`filing`], [`record`] and [`preview`] are
-//! what it reads and writes.
+//! The program `stand` cuts picture files. [`decoding`] and [`netpbm`] read them; [`filing`],
+//! [`record`], [`preview`], [`cutout`] and [`png`] are what it writes.
 //!
 //! ```
 //! use stand::{Picture, Settings};
@@ -46,8 +46,18 @@
 use std::fmt;
 use std::ops::Range;
 
+mod converter;
+pub mod cutout;
+pub mod decoding;
+mod deflate;
+pub mod diagnosis;
+mod elsewhere;
+pub mod exif;
 pub mod filing;
+mod kinds;
 pub mod netpbm;
+mod parts;
+pub mod placing;
 pub mod png;
 pub mod preview;
 #[allow(unsafe_code)]

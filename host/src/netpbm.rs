@@ -1,4 +1,4 @@
-//! Netpbm pictures: reads PAM, PPM and PGM, and writes PAM, PGM and PBM.
+//! Netpbm pictures: reads PAM, PPM and PGM, and writes PAM, PPM, PGM and PBM.
 //!
 //! Read are PAM (P7) of tuple type RGB_ALPHA, RGB, GRAYSCALE_ALPHA or GRAYSCALE, PPM (P6, and P3 in
 //! digits) and PGM (P5, and P2 in digits), all with MAXVAL 255, one picture a file. A grey is three
@@ -8,7 +8,7 @@
 use crate::sha256::Summed;
 use crate::{Cut, Picture, Refusal, Settings, MOST_SIDE};
 use std::fmt;
-use std::io::{self, BufReader, Read};
+use std::io::{self, BufRead, BufReader, Read};
 
 /// A picture of bytes.
 #[derive(Clone, Debug, PartialEq, Eq)]
@@ -96,8 +96,19 @@ struct Header {
     h: usize,
     /// Numbers a pixel: grey, grey and alpha, colours, colours and alpha.
     depth: usize,
-    /// Whether the numbers are written in digits.
-    digits: bool,
+    written: Written,
+    /// The MAXVAL.
+    most: usize,
+}
+
+/// How the numbers of a picture are written.
+#[derive(Clone, Copy, PartialEq, Eq)]
+enum Written {
+    Digits,
+    /// As bytes, two each where MAXVAL is above 255, the higher first.
+    Bytes,
+    /// As bits, 1 for black, each row from a new byte.
+    Bits,
 }
 
 /// Reads one picture, and gives it with the SHA-256 of all its bytes in hexadecimal.
@@ -110,18 +121,41 @@ struct Header {
 /// # Ok::<(), stand::netpbm::Fault>(())
 /// ```
 pub fn read(input: impl Read) -> Result<(Image, String), Fault> {
-    let mut source = Source {
-        input: BufReader::with_capacity(1 << 16, Summed::new(input)),
-        left: MOST_HEADER,
-    };
-    let header = source.header()?;
-    let samples = if header.digits {
-        source.samples_in_digits(&header)?
-    } else {
-        source.samples(&header)?
-    };
-    let sum = source.input.get_ref().sum.hex();
-    Ok((image(&header, samples), sum))
+    let mut input = BufReader::with_capacity(1 << 16, Summed::new(input));
+    let (image, _) = Source::new(&mut input, false).picture()?;
+    if !input.fill_buf()?.is_empty() {
+        return form(LEFT_OVER);
+    }
+    Ok((image, input.get_ref().sum.hex()))
+}
+
+/// Reads the first picture of what a converter writes, and gives it with its MAXVAL. Where that is
+/// not 255, each number v has become 255 v / MAXVAL, rounded, as by pamdepth. Black and white alone
+/// (P4) is read too.
+pub(crate) fn converted(input: &mut impl BufRead) -> Result<(Image, usize), Fault> {
+    Source::new(input, true).picture()
+}
+
+/// The samples of these bytes, from 0 to 255.
+fn scaled(header: &Header, bytes: Vec<u8>) -> Vec<u8> {
+    let most = header.most;
+    let scale = |v: usize| ((255 * v.min(most) + most / 2) / most) as u8;
+    match header.written {
+        Written::Bits => {
+            let bit = |row: &[u8], x: usize| row[x / 8] >> (7 - x % 8) & 1;
+            let white = |row, x| if bit(row, x) == 0 { 255 } else { 0 };
+            let rows = bytes.chunks_exact(header.w.div_ceil(8));
+            rows.flat_map(|row| (0..header.w).map(move |x| white(row, x)))
+                .collect()
+        }
+        _ if most == 255 => bytes,
+        _ if most < 255 => bytes.iter().map(|&v| scale(v.into())).collect(),
+        _ => {
+            let pairs = bytes.chunks_exact(2);
+            let number = |p: &[u8]| usize::from(u16::from_be_bytes([p[0], p[1]]));
+            pairs.map(|p| scale(number(p))).collect()
+        }
+    }
 }
 
 /// The picture of a header's samples.
@@ -147,12 +181,29 @@ fn image(header: &Header, samples: Vec<u8>) -> Image {
 }
 
 /// The bytes of a file, with how many may still be taken one by one.
-struct Source<R> {
-    input: BufReader<Summed<R>>,
+struct Source<'a, R> {
+    input: &'a mut R,
     left: usize,
+    /// Whether it is a converter's: every MAXVAL and black and white are read, digits are not.
+    any: bool,
 }
 
-impl<R: Read> Source<R> {
+impl<R: BufRead> Source<'_, R> {
+    fn new(input: &mut R, any: bool) -> Source<'_, R> {
+        let left = MOST_HEADER;
+        Source { input, left, any }
+    }
+
+    /// A picture with its MAXVAL.
+    fn picture(&mut self) -> Result<(Image, usize), Fault> {
+        let header = self.header()?;
+        let samples = match header.written {
+            Written::Digits => self.samples_in_digits(&header)?,
+            _ => scaled(&header, self.samples(&header)?),
+        };
+        Ok((image(&header, samples), header.most))
+    }
+
     /// The next byte; `None` at the end.
     fn byte(&mut self) -> Result<Option<u8>, Fault> {
         if self.left == 0 {
@@ -164,35 +215,38 @@ impl<R: Read> Source<R> {
 
     fn header(&mut self) -> Result<Header, Fault> {
         let Some(first) = self.byte()? else {
-            return form("it is empty; give a picture in PPM, PGM or PAM form");
+            return form("it is empty; give a picture, or copy it again");
         };
         let second = self.byte()?.unwrap_or(0);
         match &[first, second] {
-            b"P2" => self.pnm_header(1, true),
-            b"P3" => self.pnm_header(3, true),
-            b"P5" => self.pnm_header(1, false),
-            b"P6" => self.pnm_header(3, false),
+            b"P2" if !self.any => self.pnm_header(1, Written::Digits),
+            b"P3" if !self.any => self.pnm_header(3, Written::Digits),
+            b"P4" if self.any => self.pnm_header(1, Written::Bits),
+            b"P5" => self.pnm_header(1, Written::Bytes),
+            b"P6" => self.pnm_header(3, Written::Bytes),
             b"P7" => self.pam_header(),
             other => form(not_read(other)),
         }
     }
 
-    /// The header of a PGM or a PPM, after its first two bytes, with the byte that ends it.
-    fn pnm_header(&mut self, depth: usize, digits: bool) -> Result<Header, Fault> {
-        let mut numbers = [0; 3];
-        for number in &mut numbers {
+    /// The header of a PBM, a PGM or a PPM, after its first two bytes, with the byte that ends it.
+    fn pnm_header(&mut self, depth: usize, written: Written) -> Result<Header, Fault> {
+        let mut numbers = [0, 0, 1];
+        let count = if written == Written::Bits { 2 } else { 3 };
+        for number in &mut numbers[..count] {
             *number = match self.number()? {
                 Some(number) => number,
                 None => return form(CUT_SHORT),
             };
         }
         let [w, h, most] = numbers;
-        accepted(w, h, most)?;
+        self.accepted(w, h, most)?;
         Ok(Header {
             w,
             h,
             depth,
-            digits,
+            written,
+            most,
         })
     }
 
@@ -220,14 +274,31 @@ impl<R: Read> Source<R> {
         let (Some(w), Some(h), Some(depth), Some(most)) = (w, h, depth, most) else {
             return form("its header lacks a WIDTH, HEIGHT, DEPTH or MAXVAL line");
         };
-        accepted(w, h, most)?;
+        self.accepted(w, h, most)?;
         tuple_type(&kind.join(&b' '), depth)?;
         Ok(Header {
             w,
             h,
             depth,
-            digits: false,
+            written: Written::Bytes,
+            most,
         })
+    }
+
+    /// Refuses sides that the cut would refuse, before anything is read for them, and a MAXVAL that
+    /// is not read.
+    fn accepted(&self, w: usize, h: usize, most: usize) -> Result<(), Fault> {
+        let side = 1..=MOST_SIDE;
+        if !side.contains(&w) || !side.contains(&h) {
+            return Err(Fault::Sides(h, w));
+        }
+        if most == 255 || self.any && (1..65_536).contains(&most) {
+            return Ok(());
+        }
+        form(format!(
+            "its MAXVAL is {} and not 255; convert it, as by pamdepth 255",
+            count(most)
+        ))
     }
 
     /// A line of the header, without its newline.
@@ -276,9 +347,14 @@ impl<R: Read> Source<R> {
         }
     }
 
-    /// The samples as bytes, which must end with the input.
+    /// The bytes of the samples.
     fn samples(&mut self, header: &Header) -> Result<Vec<u8>, Fault> {
-        let count = header.w * header.h * header.depth;
+        let &Header { w, h, depth, .. } = header;
+        let count = match header.written {
+            Written::Bits => w.div_ceil(8) * h,
+            _ if header.most > 255 => 2 * w * h * depth,
+            _ => w * h * depth,
+        };
         let mut samples = Vec::with_capacity(count);
         self.input
             .by_ref()
@@ -287,11 +363,7 @@ impl<R: Read> Source<R> {
         if samples.len() < count {
             return short(samples.len(), count);
         }
-        self.left = 1;
-        match self.byte()? {
-            None => Ok(samples),
-            Some(_) => form(LEFT_OVER),
-        }
+        Ok(samples)
     }
 
     /// The samples in digits, after which only blanks and comments may follow.
@@ -329,22 +401,6 @@ fn short<T>(found: usize, wanted: usize) -> Result<T, Fault> {
 fn shown(bytes: &[u8]) -> String {
     let first = &bytes[..bytes.len().min(20)];
     format!("\"{}\"", first.escape_ascii())
-}
-
-/// Refuses sides that the cut would refuse, before anything is read for them, and a MAXVAL that is
-/// not 255.
-fn accepted(w: usize, h: usize, most: usize) -> Result<(), Fault> {
-    let side = 1..=MOST_SIDE;
-    if !side.contains(&w) || !side.contains(&h) {
-        return Err(Fault::Sides(h, w));
-    }
-    if most != 255 {
-        return form(format!(
-            "its MAXVAL is {} and not 255; convert it, as by pamdepth 255",
-            count(most)
-        ));
-    }
-    Ok(())
 }
 
 /// The first word of a header line of a PAM, and what follows it.
@@ -412,7 +468,10 @@ fn not_read(first: &[u8; 2]) -> String {
         b"GI" => ("GIF", "giftopnm"),
         b"BM" => ("BMP", "bmptopnm"),
         b"P1" | b"P4" => return "it is a PBM, black and white only; give a PPM, PGM or PAM".into(),
-        _ => return "it is no picture in PPM, PGM or PAM form; convert it to one of these".into(),
+        _ => {
+            return "it is no picture that is read here; give a JPEG, PNG, TIFF, PPM, PGM or PAM"
+                .into()
+        }
     };
     format!("it looks like a {kind} picture; convert it first, as by {command} FILE > FILE.pam")
 }
@@ -442,6 +501,12 @@ pub fn pgm(plane: &[u8], w: usize) -> Vec<u8> {
     let mut out = format!("P5\n{w} {}\n255\n", plane.len() / w).into_bytes();
     out.extend_from_slice(plane);
     out
+}
+
+/// A raw PPM (P6) of a picture, without its alpha.
+pub fn ppm(image: &Image) -> Vec<u8> {
+    let Image { h, w, rgb, .. } = image;
+    [format!("P6\n{w} {h}\n255\n").as_bytes(), rgb].concat()
 }
 
 /// A PAM of tuple type RGB_ALPHA.
@@ -507,9 +572,58 @@ mod tests {
             alpha: vec![0, 255],
         };
         assert_eq!(read(&pam(&image)[..]).unwrap().0, image);
+        let opaque = read(&ppm(&image)[..]).unwrap().0;
+        assert_eq!((opaque.rgb, opaque.alpha), (image.rgb, vec![255; 2]));
         let grey = read(&pgm(&[7, 8], 1)[..]).unwrap().0;
         assert_eq!((grey.h, grey.w, grey.rgb), (2, 1, vec![7, 7, 7, 8, 8, 8]));
         assert_eq!(pbm(&[1; 9], 9), b"P4\n9 1\n\xff\x80");
+    }
+
+    /// What a converter writes is scaled to 255, one picture at a time; what follows is left.
+    #[test]
+    fn from_a_converter() {
+        let pam = |most: usize, pixels: &[u8]| {
+            let head = format!("P7\nWIDTH 1\nHEIGHT 1\nDEPTH 2\nMAXVAL {most}\n");
+            [
+                head.as_bytes(),
+                b"TUPLTYPE GRAYSCALE_ALPHA\nENDHDR\n",
+                pixels,
+            ]
+            .concat()
+        };
+        for (bytes, most, grey, alpha) in [
+            (b"P5 1 1 255\n\x07".to_vec(), 255, 7, 255),
+            (b"P5 1 1 15\n\x05".to_vec(), 15, 85, 255),
+            (b"P5 1 1 65535\n\x80\x80".to_vec(), 65535, 128, 255),
+            (b"P5 1 1 65535\n\x00\x80".to_vec(), 65535, 0, 255),
+            (b"P5 1 1 65535\n\x00\x81".to_vec(), 65535, 1, 255),
+            (b"P4 1 1\n\x80".to_vec(), 1, 0, 255),
+            (b"P4 1 1\n\x7f".to_vec(), 1, 255, 255),
+            (pam(1, &[1, 0]), 1, 255, 0),
+            (pam(3, &[1, 9]), 3, 85, 255),
+        ] {
+            let all = [&bytes[..], b"rest"].concat();
+            let mut input = &all[..];
+            let (image, found) = converted(&mut input).unwrap();
+            assert_eq!(
+                (found, &*image.rgb, &*image.alpha),
+                (most, &[grey; 3][..], &[alpha][..])
+            );
+            assert_eq!(input, b"rest");
+        }
+        let nine = converted(&mut &b"P4 9 2\n\xaa\x80\x00\x7f"[..]).unwrap().0;
+        let greys: Vec<u8> = nine.rgb.into_iter().step_by(3).collect();
+        let want = [0, 255, 0, 255, 0, 255, 0, 255, 0];
+        assert_eq!(greys, [want, [255; 9]].concat());
+        for bad in [
+            "P5 1 1 0\na",
+            "P5 1 1 65536\nabc",
+            "P4 4097 1\na",
+            "P2 1 1 255 1",
+            "P4 9 1\na",
+        ] {
+            assert!(converted(&mut bad.as_bytes()).is_err(), "{bad}");
+        }
     }
 
     #[test]

@@ -3,10 +3,12 @@
 //! The outline is a line just outside the mask, magenta with white around it, so that it shows on
 //! any card. The crop box is a dashed line just outside the box, black and yellow in turn, and what
 //! lies outside is darker. What is transparent is laid on white. A picture of fewer than 600 pixels
-//! a side is shown enlarged, each pixel as a square; lines are wider on larger pictures.
+//! a side is shown enlarged, each pixel as a square, and one of more than 1600 smaller, each pixel as
+//! the mean of those that fall on it. The lines are drawn after that, so that they always show.
 
 use crate::netpbm::Image;
 use crate::{Crop, Cut, Refusal};
+use std::ops::Range;
 
 const OUTLINE: [u8; 3] = [230, 0, 126];
 const AROUND: [u8; 3] = [255, 255, 255];
@@ -14,6 +16,12 @@ const DASHES: [[u8; 3]; 2] = [[20, 20, 20], [255, 210, 0]];
 
 /// The larger side from which on pictures are not enlarged.
 const LARGE: usize = 600;
+
+/// The larger side up to which pictures are not made smaller.
+const LARGEST: usize = 1600;
+
+/// The larger side of a thumbnail.
+const THUMBNAIL: usize = 240;
 
 /// A preview.
 #[derive(Clone, Debug, PartialEq, Eq)]
@@ -29,12 +37,15 @@ pub struct Preview {
 /// The preview of a picture and its cut.
 pub fn preview(image: &Image, cut: &Cut) -> Result<Preview, Refusal> {
     let scale = LARGE.div_ceil(image.h.max(image.w));
-    let (h, w) = (image.h * scale, image.w * scale);
-    let mut rgb = enlarged(&on_white(image), image.w, 3, scale);
-    let mask = enlarged(&cut.mask, image.w, 1, scale);
+    let shown = Smaller::new(image.h, image.w, LARGEST);
+    let rgb = shown.means(&on_white(image));
+    let mut rgb = enlarged(&rgb, shown.to.1, 3, scale);
+    let mask = enlarged(&shown.any(&cut.mask), shown.to.1, 1, scale);
+    let (h, w) = (shown.to.0 * scale, shown.to.1 * scale);
+    let crop = shown.crop(&cut.crop);
     let crop = Crop {
-        rows: cut.crop.rows.start * scale..cut.crop.rows.end * scale,
-        cols: cut.crop.cols.start * scale..cut.crop.cols.end * scale,
+        rows: crop.rows.start * scale..crop.rows.end * scale,
+        cols: crop.cols.start * scale..crop.cols.end * scale,
     };
     let line = 2 + h.max(w) / 700;
     for (reach, colour) in [(line + line / 2, AROUND), (line, OUTLINE)] {
@@ -47,6 +58,83 @@ pub fn preview(image: &Image, cut: &Cut) -> Result<Preview, Refusal> {
     }
     crop_box(&mut rgb, h, w, &crop, line);
     Ok(Preview { h, w, rgb })
+}
+
+/// The preview on a contact sheet: at most 240 pixels a side, each the mean of those that fall on it.
+pub fn thumbnail(preview: &Preview) -> Preview {
+    let shown = Smaller::new(preview.h, preview.w, THUMBNAIL);
+    let (h, w) = shown.to;
+    let rgb = shown.means(&preview.rgb);
+    Preview { h, w, rgb }
+}
+
+/// Planes made smaller: each pixel of a plane falls on one of a smaller plane.
+struct Smaller {
+    /// Rows and columns of the plane, and of the smaller one.
+    from: (usize, usize),
+    to: (usize, usize),
+}
+
+impl Smaller {
+    /// To at most so many pixels a side, as many times fewer rows as columns.
+    fn new(h: usize, w: usize, most: usize) -> Smaller {
+        let side = h.max(w).max(most);
+        let fewer = |n: usize| (n * most / side).max(1);
+        Smaller {
+            from: (h, w),
+            to: (fewer(h), fewer(w)),
+        }
+    }
+
+    /// For each pixel of the smaller plane the rows and the columns that fall on it.
+    fn boxes(&self) -> impl Iterator<Item = (Range<usize>, Range<usize>)> {
+        let side = |from, to| (0..to).map(move |at| at * from / to..(at + 1) * from / to);
+        let cols = side(self.from.1, self.to.1);
+        let rows = side(self.from.0, self.to.0);
+        rows.flat_map(move |rows| cols.clone().map(move |cols| (rows.clone(), cols)))
+    }
+
+    /// A picture made smaller: the mean colours.
+    fn means(&self, rgb: &[u8]) -> Vec<u8> {
+        let mut out = Vec::with_capacity(3 * self.to.0 * self.to.1);
+        for (rows, cols) in self.boxes() {
+            let count = rows.len() * cols.len();
+            let mut sums = [count / 2; 3];
+            for y in rows {
+                let at = 3 * (y * self.from.1 + cols.start);
+                for pixel in rgb[at..][..3 * cols.len()].chunks_exact(3) {
+                    let add = |(sum, &v): (&mut usize, &u8)| *sum += usize::from(v);
+                    sums.iter_mut().zip(pixel).for_each(add);
+                }
+            }
+            out.extend(sums.map(|sum| (sum / count) as u8));
+        }
+        out
+    }
+
+    /// A mask made smaller: on where any pixel is, so that nothing of the object is lost.
+    fn any(&self, mask: &[u8]) -> Vec<u8> {
+        let on = |(mut rows, cols): (Range<usize>, Range<usize>)| {
+            let on = |y| {
+                mask[y * self.from.1..][cols.clone()]
+                    .iter()
+                    .any(|&m| m != 0)
+            };
+            u8::from(rows.any(on))
+        };
+        self.boxes().map(on).collect()
+    }
+
+    /// The box that the pixels of a box fall on.
+    fn crop(&self, crop: &Crop) -> Crop {
+        let on = |at: usize, from: usize, to: usize| ((at + 1) * to).div_ceil(from) - 1;
+        let side =
+            |own: &Range<usize>, from, to| on(own.start, from, to)..on(own.end - 1, from, to) + 1;
+        Crop {
+            rows: side(&crop.rows, self.from.0, self.to.0),
+            cols: side(&crop.cols, self.from.1, self.to.1),
+        }
+    }
 }
 
 /// A plane of `w` columns, `each` bytes a pixel, with every pixel as a square of `scale` a side.
@@ -152,6 +240,82 @@ mod tests {
                 assert_eq!(out.rgb.len(), 3 * out.h * out.w);
             }
         }
+    }
+
+    /// A large picture is shown smaller, with its object, its outline and its crop box.
+    #[test]
+    fn large() {
+        let mut image = white(4096, 3000, 255);
+        // A bar of one pixel's width, which falls within a pixel of the preview, and two spots.
+        let bar = (1000..3000).map(|y| (y, 1500));
+        for (y, x) in bar.chain([(500, 300), (3500, 2700)]) {
+            image.rgb[3 * (y * 3000 + x)..][..3].fill(0);
+        }
+        let (cut, out) = drawn(&image);
+        assert!(cut.keyed);
+        assert_eq!((out.h, out.w), (1600, 1171));
+        let at = |y: usize, x: usize| out.rgb[3 * (y * 1171 + x)..][..3].to_vec();
+        let x = 1500 * 1171 / 3000;
+        assert!(at(800, x)[0] < 200);
+        assert_eq!(
+            (at(800, x - 1), at(800, x + 4)),
+            (OUTLINE.to_vec(), OUTLINE.to_vec())
+        );
+        assert_eq!(at(800, x - 20), [255; 3]);
+        assert_eq!(at(800, 90), [192; 3]);
+
+        let small = thumbnail(&out);
+        assert_eq!((small.h, small.w), (240, 175));
+        let pink = |pixel: &[u8]| pixel[0] > 160 && pixel[1] < pixel[0] - 80;
+        assert!(small.rgb.chunks(3).filter(|p| pink(p)).count() > 110);
+    }
+
+    /// Each pixel falls on one pixel of the smaller plane, the one that [`Smaller::crop`] gives, and
+    /// a plane that is small enough stays as it is.
+    #[test]
+    fn smaller() {
+        for (h, w, most) in [
+            (1, 1, 1),
+            (7, 5, 3),
+            (100, 1, 9),
+            (3, 1000, 240),
+            (17, 17, 16),
+        ] {
+            let shown = Smaller::new(h, w, most);
+            assert!(shown.to.0.max(shown.to.1) == most.min(h.max(w)));
+            let mut falls = vec![None; h * w];
+            for (at, (rows, cols)) in shown.boxes().enumerate() {
+                let place = (at / shown.to.1, at % shown.to.1);
+                for y in rows {
+                    for x in cols.clone() {
+                        assert_eq!(falls[y * w + x].replace(place), None);
+                    }
+                }
+            }
+            for (at, place) in falls.iter().enumerate() {
+                let (y, x) = (at / w, at % w);
+                let one = Crop {
+                    rows: y..y + 1,
+                    cols: x..x + 1,
+                };
+                let on = shown.crop(&one);
+                assert_eq!(Some((on.rows.start, on.cols.start)), *place);
+                assert_eq!((on.rows.len(), on.cols.len()), (1, 1));
+                let mut mask = vec![0; h * w];
+                mask[at] = 9;
+                let any = shown.any(&mask);
+                let found = any.iter().position(|&m| m != 0).unwrap();
+                assert_eq!(Some((found / shown.to.1, found % shown.to.1)), *place);
+                assert_eq!(any.iter().filter(|&&m| m != 0).count(), 1);
+            }
+        }
+        let shown = Smaller::new(2, 2, 1);
+        assert_eq!(
+            shown.means(&[0, 9, 255, 0, 9, 255, 1, 9, 255, 1, 9, 0]),
+            [1, 9, 191]
+        );
+        let same = Smaller::new(2, 1, 240);
+        assert_eq!(same.means(&[1, 2, 3, 4, 5, 6]), [1, 2, 3, 4, 5, 6]);
     }
 
     #[test]

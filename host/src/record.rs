@@ -1,7 +1,7 @@
 //! The record that is filed with a cut: a text that says what was cut, how, and to what.
 //!
 //! ```text
-//! stand record 1
+//! stand record 2
 //! rows: 5
 //! columns: 5
 //! alpha_threshold: 128
@@ -13,18 +13,27 @@
 //! keyed: yes
 //! crop: 1 4 1 4
 //! picture_sha256: (64 digits)
+//! original_sha256: (64 digits)
 //! mask_sha256: (64 digits)
 //! weights_sha256: (64 digits)
+//! weights_pgm_sha256: (64 digits)
 //! ```
 //!
 //! The lines stand in this order, each ends with a newline, and after the first each is a key, a
 //! colon, a space and a value. The tolerance is written as the shortest decimal number that gives
 //! the same f64 back, and again as the f64's 64 bits in hexadecimal. The crop box is its first row,
 //! the row after its last, its first column and the column after its last. The sums are of the bytes
-//! of three files: the picture, the mask and the weights.
+//! of files: the picture that was cut; the file that it was decoded from, or standard input, a line
+//! that is there only where it was; the mask; and the weights in their two forms.
+//!
+//! Form 1 has neither the line of the original nor the last line. Records of form 1 are read and
+//! written as they always were. A setting that comes later adds a line after `crop_to_alpha`, only
+//! where it is used.
 
 use crate::{Crop, Settings};
 use std::fmt;
+use std::iter::Peekable;
+use std::str::Lines;
 
 /// What a record says.
 #[derive(Clone, Debug, PartialEq)]
@@ -39,16 +48,20 @@ pub struct Record {
     pub keyed: bool,
     /// The crop box.
     pub crop: Crop,
-    /// The SHA-256 of the picture's file, in hexadecimal.
+    /// The SHA-256 of the file of the picture that was cut, in hexadecimal.
     pub picture: String,
+    /// The SHA-256 of the file that the picture was decoded from, or of standard input, where it was.
+    pub original: Option<String>,
     /// The SHA-256 of the mask's file.
     pub mask: String,
-    /// The SHA-256 of the weights' file.
+    /// The SHA-256 of the weights' file with 8 bytes a pixel.
     pub weights: String,
+    /// The SHA-256 of the weights' file with one byte a pixel; `None` in a record of form 1.
+    pub weights_pgm: Option<String>,
 }
 
-/// The first line of a record.
-const FORM: &str = "stand record 1";
+/// The first line of a record, before the number of its form.
+const FORM: &str = "stand record ";
 
 fn yes_or_no(yes: bool) -> &'static str {
     if yes {
@@ -64,7 +77,8 @@ impl fmt::Display for Record {
         let settings = &self.settings;
         let tolerance = settings.key_bg_tolerance;
         let Crop { rows, cols } = &self.crop;
-        writeln!(f, "{FORM}")?;
+        let form = if self.weights_pgm.is_some() { 2 } else { 1 };
+        writeln!(f, "{FORM}{form}")?;
         writeln!(f, "rows: {}", self.h)?;
         writeln!(f, "columns: {}", self.w)?;
         writeln!(f, "alpha_threshold: {}", settings.alpha_threshold)?;
@@ -80,13 +94,20 @@ impl fmt::Display for Record {
             rows.start, rows.end, cols.start, cols.end
         )?;
         writeln!(f, "picture_sha256: {}", self.picture)?;
+        if let Some(original) = &self.original {
+            writeln!(f, "original_sha256: {original}")?;
+        }
         writeln!(f, "mask_sha256: {}", self.mask)?;
-        writeln!(f, "weights_sha256: {}", self.weights)
+        writeln!(f, "weights_sha256: {}", self.weights)?;
+        if let Some(weights) = &self.weights_pgm {
+            writeln!(f, "weights_pgm_sha256: {weights}")?;
+        }
+        Ok(())
     }
 }
 
 /// The values of a record's lines, taken one after the other.
-struct Values<'a>(std::str::Lines<'a>);
+struct Values<'a>(Peekable<Lines<'a>>);
 
 impl<'a> Values<'a> {
     /// The value of the next line, which must have this key.
@@ -119,6 +140,28 @@ impl<'a> Values<'a> {
         }
     }
 
+    fn settings(&mut self) -> Result<Settings, String> {
+        Ok(Settings {
+            alpha_threshold: self.number("alpha_threshold")?,
+            key_bg: self.yes("key_bg")?,
+            key_bg_fringe: self.number("key_bg_fringe")?,
+            key_bg_tolerance: {
+                let tolerance = self.number("key_bg_tolerance")?;
+                self.text("key_bg_tolerance_bits")?;
+                tolerance
+            },
+            crop_to_alpha: self.yes("crop_to_alpha")?,
+        })
+    }
+
+    /// The sum of a line that is there only where it is needed.
+    fn sum_if_there(&mut self, key: &str) -> Result<Option<String>, String> {
+        match self.0.peek() {
+            Some(line) if line.starts_with(key) => Ok(Some(self.sum(key)?)),
+            _ => Ok(None),
+        }
+    }
+
     fn sum(&mut self, key: &str) -> Result<String, String> {
         let text = self.text(key)?;
         let hex = |c: char| c.is_ascii_digit() || ('a'..='f').contains(&c);
@@ -133,30 +176,28 @@ impl<'a> Values<'a> {
 impl Record {
     /// Reads a text in the form of a record, or says where it is not.
     pub fn read(text: &str) -> Result<Record, String> {
-        let mut values = Values(text.lines());
-        let first = values.0.next().unwrap_or("");
-        if first != FORM {
-            return Err(format!("the first line is not \"{FORM}\""));
+        if text.contains('\r') {
+            return Err(CARRIAGE_RETURN.into());
         }
+        let mut values = Values(text.lines().peekable());
+        let form = form(values.0.next().unwrap_or(""))?;
         let record = Record {
             h: values.number("rows")?,
             w: values.number("columns")?,
-            settings: Settings {
-                alpha_threshold: values.number("alpha_threshold")?,
-                key_bg: values.yes("key_bg")?,
-                key_bg_fringe: values.number("key_bg_fringe")?,
-                key_bg_tolerance: {
-                    let tolerance = values.number("key_bg_tolerance")?;
-                    values.text("key_bg_tolerance_bits")?;
-                    tolerance
-                },
-                crop_to_alpha: values.yes("crop_to_alpha")?,
-            },
+            settings: values.settings()?,
             keyed: values.yes("keyed")?,
             crop: values.crop("crop")?,
             picture: values.sum("picture_sha256")?,
+            original: match form {
+                1 => None,
+                _ => values.sum_if_there("original_sha256")?,
+            },
             mask: values.sum("mask_sha256")?,
             weights: values.sum("weights_sha256")?,
+            weights_pgm: match form {
+                1 => None,
+                _ => Some(values.sum("weights_pgm_sha256")?),
+            },
         };
         // What the lines above let pass, such as a second blank, is found here.
         let own = record.to_string();
@@ -168,6 +209,23 @@ impl Record {
             Some((has, should)) => format!("the record has \"{has}\" for \"{should}\""),
             None => "the record does not end after its last line".into(),
         })
+    }
+}
+
+const CARRIAGE_RETURN: &str = "the record's lines end in CR LF, and those of a record end in LF \
+                               alone: some program has rewritten it; restore it, as by dos2unix";
+
+/// The number of the form that the first line names.
+fn form(first: &str) -> Result<u8, String> {
+    match first.strip_prefix(FORM) {
+        Some("1") => Ok(1),
+        Some("2") => Ok(2),
+        Some(other) => Err(format!(
+            "the record is of form {other}; this version of stand knows 1 and 2"
+        )),
+        None => Err(format!(
+            "it is no record: its first line is not \"{FORM}2\""
+        )),
     }
 }
 
@@ -192,9 +250,25 @@ mod tests {
                 cols: 1..4,
             },
             picture: "0".repeat(64),
+            original: None,
             mask: "a1".repeat(32),
             weights: "f".repeat(64),
+            weights_pgm: None,
         }
+    }
+
+    /// The sample in its three shapes: form 1, form 2, and form 2 of a picture that was decoded.
+    fn samples(tolerance: f64) -> [Record; 3] {
+        let one = sample(tolerance);
+        let two = Record {
+            weights_pgm: Some("9".repeat(64)),
+            ..one.clone()
+        };
+        let decoded = Record {
+            original: Some("e".repeat(64)),
+            ..two.clone()
+        };
+        [one, two, decoded]
     }
 
     #[test]
@@ -205,6 +279,11 @@ mod tests {
                     key_bg_tolerance_bits: 3fa0000000000000\ncrop_to_alpha: yes\nkeyed: yes\n\
                     crop: 0 5 1 4\npicture_sha256: 0000";
         assert!(text.starts_with(want), "{text}");
+        let [_, two, decoded] = samples(0.03125).map(|record| record.to_string());
+        assert!(two.starts_with("stand record 2\nrows: 5\n"), "{two}");
+        assert!(two.ends_with(&format!("\nweights_pgm_sha256: {}\n", "9".repeat(64))));
+        let line = format!("original_sha256: {}\n", "e".repeat(64));
+        assert_eq!(decoded.replace(&line, ""), two);
     }
 
     /// The tolerance comes back bit for bit.
@@ -225,29 +304,48 @@ mod tests {
             tolerances.push(f64::from_bits(bits));
         }
         for tolerance in tolerances.into_iter().filter(|t| t.is_finite()) {
-            let text = sample(tolerance).to_string();
-            let back = Record::read(&text).unwrap();
-            assert_eq!(
-                back.settings.key_bg_tolerance.to_bits(),
-                tolerance.to_bits()
-            );
-            assert_eq!(back, sample(tolerance));
+            for record in samples(tolerance) {
+                let back = Record::read(&record.to_string()).unwrap();
+                let bits = back.settings.key_bg_tolerance.to_bits();
+                assert_eq!(bits, tolerance.to_bits());
+                assert_eq!(back, record);
+            }
         }
     }
 
     /// A record with any byte changed or left out is another record or none.
     #[test]
     fn changed() {
-        let record = sample(0.03125);
-        let text = record.to_string();
-        for at in 0..text.len() {
-            let (before, after) = (&text[..at], &text[at + 1..]);
-            for between in ["", " ", "0", "yes", "\n", "\r", "+"] {
-                let changed = format!("{before}{between}{after}");
-                assert!(changed == text || Record::read(&changed).as_ref() != Ok(&record));
+        for record in samples(0.03125) {
+            let text = record.to_string();
+            for at in 0..text.len() {
+                let (before, after) = (&text[..at], &text[at + 1..]);
+                for between in ["", " ", "0", "yes", "\n", "\r", "+"] {
+                    let changed = format!("{before}{between}{after}");
+                    assert!(changed == text || Record::read(&changed).as_ref() != Ok(&record));
+                }
             }
+            assert!(Record::read(&format!("{text}\n")).is_err());
         }
-        assert!(Record::read(&format!("{text}\n")).is_err());
         assert!(Record::read("").is_err());
+    }
+
+    #[test]
+    fn sentences() {
+        let text = samples(0.03125)[1].to_string();
+        for (old, new, said) in [
+            ("\n", "\r\n", "CR LF"),
+            ("record 2", "record 3", "of form 3"),
+            ("stand", "stood", "no record"),
+            (
+                "keyed: yes",
+                "margin: 4\nkeyed: yes",
+                "\"margin: 4\" where its keyed",
+            ),
+            ("record 2", "record 1", "does not end"),
+        ] {
+            let why = Record::read(&text.replace(old, new)).unwrap_err();
+            assert!(why.contains(said), "{why}");
+        }
     }
 }

@@ -8,7 +8,9 @@
 mod draw;
 
 use draw::Drawn;
-use stand::filing::{self, Place};
+use stand::decoding::Given;
+use stand::filing;
+use stand::placing::Place;
 use stand::{netpbm, sha256, Settings};
 use std::error::Error;
 use std::fs;
@@ -21,8 +23,12 @@ fn cut(folder: &Path, drawn: &Drawn) -> Result<(), Box<dyn Error>> {
     let bytes = netpbm::pam(&drawn.image);
     fs::write(&path, &bytes)?;
     println!("{}: {}", path.display(), drawn.about);
-    let sum = sha256::of(&bytes);
-    let results = match filing::results(&drawn.image, &sum, &Settings::default()) {
+    let given = Given {
+        image: drawn.image.clone(),
+        sum: sha256::of(&bytes),
+        decoded: None,
+    };
+    let results = match filing::results(given, &Settings::default(), false) {
         Ok(results) => results,
         Err(why) => {
             println!("  {why}");
@@ -33,7 +39,7 @@ fn cut(folder: &Path, drawn: &Drawn) -> Result<(), Box<dyn Error>> {
         folder: folder.into(),
         name: drawn.name.into(),
     };
-    place.write(&results, true)?;
+    place.write(&results.files, true)?;
     let found = if results.record.keyed {
         "found"
     } else {

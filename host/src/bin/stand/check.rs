@@ -1,103 +1,191 @@
-//! Checks a filed result: the files beside the record against it, and the picture, cut again.
+//! Checks filed results: the files beside a record against it, and the picture, cut again.
 
-use crate::progress::{shown, Step};
-use crate::{picture, Failure};
-use stand::filing::{self, Place};
+use crate::cutting::picture;
+use crate::failure::{worse, Failure, REFUSED, WELL, WRONG};
+use crate::options::Checks;
+use crate::progress::{say, shown, tell, Step};
+use crate::told;
+use stand::decoding::Given;
+use stand::filing;
+use stand::placing::Place;
 use stand::record::Record;
 use stand::sha256::Summed;
 use std::fs::File;
 use std::io::{self, Read};
 use std::path::{Path, PathBuf};
 
-/// What a check found.
-pub struct Found {
-    /// A line for each comparison.
-    pub text: String,
-    /// Whether all comparisons agreed.
-    pub alike: bool,
-}
-
-impl Found {
-    fn line(&mut self, what: impl std::fmt::Display, alike: bool) {
-        let answer = if alike {
-            "as recorded"
-        } else {
-            "NOT as recorded"
-        };
-        self.text += &format!("{what}: {answer}\n");
-        self.alike &= alike;
+/// Checks all records, and gives the program's status.
+pub fn run(checks: &Checks) -> u8 {
+    let mut counts = [0; 3];
+    let mut status = WELL;
+    for (record, picture) in &checks.records {
+        let mut found = Found::new(checks.quiet);
+        found.record(record, picture.as_deref());
+        status = worse(status, found.status);
+        counts[usize::from(found.status)] += 1;
     }
+    if checks.records.len() > 1 && !checks.quiet {
+        let [well, differ, failed] = counts;
+        let text = format!(
+            "{} records: {well} as recorded, {differ} NOT as recorded, {failed} not wholly checked\n",
+            checks.records.len()
+        );
+        status = worse(status, told(tell(&text)));
+    }
+    status
 }
 
 /// The longest record that is read, in bytes; the form needs fewer than 2000.
 const MOST_RECORD: u64 = 65_536;
 
-fn failed(path: &Path, why: io::Error) -> Failure {
-    Failure::file(format!("{} could not be read: {why}", path.display()))
+fn text(path: &Path) -> Result<String, Failure> {
+    let read = || {
+        let mut text = String::new();
+        let file = File::open(path)?;
+        file.take(MOST_RECORD).read_to_string(&mut text)?;
+        Ok(text)
+    };
+    read().map_err(|why| unread(path, why))
 }
 
-fn text(path: &Path) -> io::Result<String> {
-    let mut text = String::new();
-    File::open(path)?
-        .take(MOST_RECORD)
-        .read_to_string(&mut text)?;
-    Ok(text)
+fn unread(path: &Path, why: io::Error) -> Failure {
+    let stopped = Place::of(path, filing::RECORD).is_some_and(|place| place.stopped());
+    let hint = if stopped {
+        "; its results were being replaced when the program was stopped: the files whose names end \
+         in .old are those of before, and cutting the picture again puts them back"
+    } else {
+        ""
+    };
+    Failure::file(format!("it could not be read: {why}{hint}"))
 }
 
 /// The SHA-256 of a file.
-fn sum(path: PathBuf) -> Result<String, Failure> {
-    let _step = Step::begin(format!("reading {}", path.display()), false);
+fn sum(path: &Path, quiet: bool) -> Result<String, Failure> {
+    let _step = Step::begin(format!("reading {}", path.display()), quiet);
     let read = || {
-        let mut file = Summed::new(File::open(&path)?);
+        let mut file = Summed::new(File::open(path)?);
         io::copy(&mut file, &mut io::sink())?;
         Ok(file.sum.hex())
     };
-    read().map_err(|why| failed(&path, why))
+    read().map_err(|why| unread(path, why))
 }
 
-/// The place of the record's files, from the record's own path.
-fn place(path: &Path) -> Result<Place, Failure> {
-    // NAME.record.txt without its two last parts.
-    let stem = path.file_stem().map(Path::new);
-    let name = stem.and_then(Path::file_stem).unwrap_or_default();
-    let place = Place {
-        folder: path.parent().unwrap_or(Path::new("")).into(),
-        name: name.into(),
-    };
-    if place.path(filing::RECORD) != path {
-        let end = filing::RECORD;
-        return Err(Failure::file(format!(
-            "the name of a record ends in .{end}"
-        )));
-    }
-    Ok(place)
+/// What the check of a record found so far.
+struct Found {
+    quiet: bool,
+    status: u8,
 }
 
-/// Compares the mask and the weights beside a record with it, and the picture where it is given.
-pub fn check(path: &Path, given: Option<&Path>) -> Result<Found, Failure> {
-    let place = place(path)?;
-    let text = text(path).map_err(|why| failed(path, why))?;
-    let record = Record::read(&text).map_err(Failure::file)?;
-    let mut found = Found {
-        text: String::new(),
-        alike: true,
-    };
-    for (end, recorded) in [
-        (filing::MASK, &record.mask),
-        (filing::WEIGHTS, &record.weights),
-    ] {
-        let path = place.path(end);
-        found.line(shown(&path), sum(path.clone())? == *recorded);
+impl Found {
+    fn new(quiet: bool) -> Found {
+        let status = WELL;
+        Found { quiet, status }
     }
-    if let Some(path) = given {
-        let (image, own) = picture(path, false)?;
-        found.line(shown(path), own == record.picture);
-        let _step = Step::begin(format!("cutting {}", path.display()), false);
-        let again = filing::results(&image, &record.picture, &record.settings)?.record;
-        found.line(
-            "its outline, cut again with the recorded settings",
-            again == record,
-        );
+
+    /// Says of something whether it is as recorded.
+    fn line(&mut self, what: &str, alike: bool) {
+        let answer = if alike {
+            "as recorded"
+        } else {
+            self.status = worse(self.status, REFUSED);
+            "NOT as recorded"
+        };
+        if !(alike && self.quiet) {
+            let status = told(tell(&format!("{what}: {answer}\n")));
+            self.status = worse(self.status, status);
+        }
     }
-    Ok(found)
+
+    /// Says what could not be checked, and why.
+    fn failed(&mut self, of: &Path, why: &Failure) {
+        say(format!("{}: {}", of.display(), why.text));
+        self.status = worse(self.status, WRONG);
+    }
+
+    /// Checks a record with the files beside it, and with its picture.
+    fn record(&mut self, path: &Path, given: Option<&Path>) {
+        let (Some(place), Some(record)) = (Place::of(path, filing::RECORD), self.read(path)) else {
+            return;
+        };
+        self.file(&place.path(filing::MASK), &record.mask);
+        self.weights(&place, &record);
+        let beside = [filing::PICTURE_PPM, filing::PICTURE_PAM].map(|end| place.path(end));
+        let beside = beside.into_iter().find(|path| path.is_file());
+        match given.map(PathBuf::from).or(beside) {
+            Some(path) => self.picture(&path, &record),
+            None if record.original.is_some() => {
+                let why = "it is not there; the picture that was cut is filed with its record";
+                self.failed(&place.path(filing::PICTURE_PPM), &Failure::file(why));
+            }
+            None => {}
+        }
+    }
+
+    fn read(&mut self, path: &Path) -> Option<Record> {
+        let record = text(path).and_then(|text| Record::read(&text).map_err(Failure::file));
+        record.map_err(|why| self.failed(path, &why)).ok()
+    }
+
+    /// Compares a file with its sum.
+    fn file(&mut self, path: &Path, recorded: &str) {
+        match sum(path, self.quiet) {
+            Ok(own) => self.line(&shown(path), own == recorded),
+            Err(why) => self.failed(path, &why),
+        }
+    }
+
+    /// Compares the weights: of their two forms those that are there, and one must be.
+    fn weights(&mut self, place: &Place, record: &Record) {
+        let wide = place.path(filing::WEIGHTS);
+        let small = place.path(filing::WEIGHTS_PGM);
+        let recorded = record.weights_pgm.as_deref();
+        let small = recorded.filter(|_| small.exists()).map(|sum| (small, sum));
+        if wide.exists() || small.is_none() {
+            self.file(&wide, &record.weights);
+        }
+        if let Some((path, sum)) = small {
+            self.file(&path, sum);
+        }
+    }
+
+    /// Compares a picture with its sum, and cuts it again.
+    fn picture(&mut self, path: &Path, record: &Record) {
+        let given = match picture(path, self.quiet) {
+            Ok(given) => given,
+            Err(why) => return self.failed(path, &why),
+        };
+        match (&given.decoded, &record.original) {
+            (None, _) => self.line(&shown(path), given.sum == record.picture),
+            (Some(decoded), original) => {
+                self.line(&shown(path), original.as_ref() == Some(&decoded.original));
+                let what = "its pixels, as they are decoded here";
+                self.line(what, given.sum == record.picture);
+            }
+        }
+        if let Err(why) = self.again(path, &given, record) {
+            self.failed(path, &why);
+        }
+    }
+
+    /// Cuts a picture with the recorded settings, and compares what comes of it.
+    fn again(&mut self, path: &Path, given: &Given, record: &Record) -> Result<(), Failure> {
+        let step = Step::begin(format!("cutting {}", path.display()), self.quiet);
+        let cut = given.image.cut(&record.settings)?;
+        let again = filing::filed(given, &record.settings, &cut).record;
+        drop(step);
+        let alike = [
+            ("sides", (again.h, again.w) == (record.h, record.w)),
+            ("mask", again.mask == record.mask),
+            ("weights", again.weights == record.weights),
+            ("keyed flag", again.keyed == record.keyed),
+            ("crop box", again.crop == record.crop),
+        ];
+        for (what, alike) in alike {
+            self.line(
+                &format!("{what}, cut again with the recorded settings"),
+                alike,
+            );
+        }
+        Ok(())
+    }
 }

@@ -1,6 +1,7 @@
 //! The words after the program's name.
 
-use stand::filing::Place;
+use stand::filing;
+use stand::placing::Place;
 use stand::Settings;
 use std::ffi::{OsStr, OsString};
 use std::path::{Path, PathBuf};
@@ -11,10 +12,9 @@ pub enum Asked {
     Help,
     Version,
     Cut(Work),
-    Check {
-        record: PathBuf,
-        picture: Option<PathBuf>,
-    },
+    Check(Checks),
+    /// The contact sheet and the summary of a folder.
+    Sheet(PathBuf),
 }
 
 /// Pictures to be cut, and how.
@@ -23,7 +23,23 @@ pub struct Work {
     pub settings: Settings,
     /// Each picture with the place of its results; `-` is standard input.
     pub pictures: Vec<(PathBuf, Place)>,
+    /// The folder that all results go to, where one was named.
+    pub out: Option<PathBuf>,
+    /// Whether the results have a name of their own, and are not called after their picture.
+    pub named: bool,
     pub force: bool,
+    pub quiet: bool,
+    pub small_weights: bool,
+    pub keep_going: bool,
+    /// How many pictures are cut at the same time; 0 where it was not said.
+    pub jobs: usize,
+}
+
+/// Records to be checked.
+#[derive(Debug, Default, PartialEq)]
+pub struct Checks {
+    /// Each record with its picture, where that was named.
+    pub records: Vec<(PathBuf, Option<PathBuf>)>,
     pub quiet: bool,
 }
 
@@ -31,10 +47,12 @@ pub struct Work {
 #[derive(Default)]
 struct Reading {
     work: Work,
-    pictures: Vec<OsString>,
-    out: Option<PathBuf>,
+    files: Vec<OsString>,
     name: Option<OsString>,
-    record: Option<PathBuf>,
+    check: bool,
+    sheet: Option<PathBuf>,
+    /// The options that were given.
+    given: Vec<String>,
 }
 
 /// What the words ask for, or a sentence that says what is wrong with them.
@@ -44,37 +62,40 @@ pub fn read(words: impl IntoIterator<Item = OsString>) -> Result<Asked, String> 
     while let Some(word) = words.next() {
         let text = word.to_str().unwrap_or("");
         if text == "--" {
-            reading.pictures.extend(words.by_ref());
+            reading.files.extend(words.by_ref());
         } else if word == "-" || !word.as_encoded_bytes().starts_with(b"-") {
-            reading.pictures.push(word);
+            reading.files.push(word);
         } else if matches!(text, "--help" | "-h") {
             return Ok(Asked::Help);
         } else if matches!(text, "--version" | "-V") {
             return Ok(Asked::Version);
-        } else if !reading.flag(text) {
+        } else if reading.flag(text) {
+            reading.given.push(text.into());
+        } else {
             let (option, value) = match text.split_once('=') {
                 Some((option, value)) => (option, Some(value.into())),
                 None => (text, None),
             };
-            let known = OPTIONS.contains(&option);
-            if !known {
+            if !OPTIONS.contains(&option) {
                 return Err(format!("there is no option {}", shown(&word)));
             }
             let value = value.or_else(|| words.next());
             reading.option(option, value.ok_or(format!("{option} needs a value"))?)?;
+            reading.given.push(option.into());
         }
     }
     reading.asked()
 }
 
 /// The options that have a value.
-const OPTIONS: [&str; 6] = [
+const OPTIONS: [&str; 7] = [
     "--alpha-threshold",
     "--fringe",
     "--tolerance",
     "--out",
     "--name",
-    "--check",
+    "--jobs",
+    "--sheet",
 ];
 
 /// A word as it is shown in a sentence.
@@ -96,6 +117,16 @@ fn real(option: &str, value: &OsStr) -> Result<f64, String> {
     number.ok_or_else(|| format!("{option} takes a number, such as 0.03125, and not \"{shown}\""))
 }
 
+/// How many pictures are cut at the same time.
+fn jobs(option: &str, value: &OsStr) -> Result<usize, String> {
+    match whole(option, value)? {
+        n @ 1..=256 => Ok(n as usize),
+        n => Err(format!(
+            "{option} takes a number from 1 to 256, and not {n}"
+        )),
+    }
+}
+
 impl Reading {
     /// Takes a word without a value; says whether it is one.
     fn flag(&mut self, text: &str) -> bool {
@@ -104,6 +135,9 @@ impl Reading {
             "--no-crop" => self.work.settings.crop_to_alpha = false,
             "--force" => self.work.force = true,
             "--quiet" => self.work.quiet = true,
+            "--small-weights" => self.work.small_weights = true,
+            "--keep-going" => self.work.keep_going = true,
+            "--check" => self.check = true,
             _ => return false,
         }
         true
@@ -116,29 +150,58 @@ impl Reading {
             "--alpha-threshold" => settings.alpha_threshold = whole(option, &value)?,
             "--fringe" => settings.key_bg_fringe = whole(option, &value)?,
             "--tolerance" => settings.key_bg_tolerance = real(option, &value)?,
-            "--out" => self.out = Some(value.into()),
+            "--out" => self.work.out = Some(value.into()),
             "--name" => self.name = Some(value),
-            _ => self.record = Some(value.into()),
+            "--jobs" => self.work.jobs = jobs(option, &value)?,
+            _ => self.sheet = Some(value.into()),
         }
         Ok(())
     }
 
     /// What all words together ask for.
     fn asked(mut self) -> Result<Asked, String> {
-        if let Some(record) = self.record {
-            if self.pictures.len() > 1 {
-                return Err("--check takes one record and at most one picture".into());
+        if let Some(folder) = self.sheet.take() {
+            self.alone("--sheet", "it takes a folder and nothing else")?;
+            if let Some(file) = self.files.first() {
+                return Err(format!(
+                    "--sheet takes a folder, and no file {}",
+                    shown(file)
+                ));
             }
-            let picture = self.pictures.pop().map(PathBuf::from);
-            return Ok(Asked::Check { record, picture });
+            return Ok(Asked::Sheet(folder));
         }
-        if self.pictures.is_empty() {
+        if self.check {
+            self.alone("--check", "a check goes by the settings in the record")?;
+            return Ok(Asked::Check(Checks {
+                quiet: self.work.quiet,
+                records: pairs(self.files)?,
+            }));
+        }
+        self.cuts()
+    }
+
+    /// Refuses options that mean nothing beside this one.
+    fn alone(&self, option: &str, because: &str) -> Result<(), String> {
+        let fits = |given: &&String| *given == option || *given == "--quiet";
+        match self.given.iter().find(|given| !fits(given)) {
+            Some(other) => Err(format!("{other} means nothing beside {option}: {because}")),
+            None => Ok(()),
+        }
+    }
+
+    /// The pictures to be cut, each with its place.
+    fn cuts(mut self) -> Result<Asked, String> {
+        if self.files.is_empty() {
             return Err("give a picture to cut".into());
         }
-        if self.name.is_some() && self.pictures.len() > 1 {
+        if self.name.is_some() && self.files.len() > 1 {
             return Err("--name is for one picture; give one, or leave --name away".into());
         }
-        for picture in std::mem::take(&mut self.pictures) {
+        if self.work.force && self.work.keep_going {
+            return Err("--force replaces results, and --keep-going leaves them: give one".into());
+        }
+        self.work.named = self.name.is_some();
+        for picture in std::mem::take(&mut self.files) {
             let place = self.place(Path::new(&picture))?;
             let mut before = self.work.pictures.iter();
             if let Some((other, _)) = before.find(|(_, other)| *other == place) {
@@ -170,12 +233,60 @@ impl Reading {
             return Err(format!("--name \"{}\" is no file's name", shown(&name)));
         }
         let beside = if input { None } else { picture.parent() };
-        let folder = self.out.as_deref().or(beside).unwrap_or(Path::new(""));
+        let out = self.work.out.as_deref();
+        let folder = out.or(beside).unwrap_or(Path::new(""));
         Ok(Place {
             folder: folder.into(),
             name,
         })
     }
+}
+
+/// The name that a record shares with its files.
+fn name_of_record(path: &Path) -> Option<OsString> {
+    Place::of(path, filing::RECORD).map(|place| place.name)
+}
+
+/// The name of the record to which a picture belongs: NAME.ppm, NAME.jpg, NAME.picture.ppm.
+fn name_of_picture(path: &Path) -> Option<OsString> {
+    let filed = [filing::PICTURE_PPM, filing::PICTURE_PAM];
+    match filed.iter().find_map(|end| Place::of(path, end)) {
+        Some(place) => Some(place.name),
+        None => path.file_stem().map(OsString::from),
+    }
+}
+
+/// Records and pictures, put together by their names; one record and one picture belong together
+/// whatever their names are.
+fn pairs(files: Vec<OsString>) -> Result<Vec<(PathBuf, Option<PathBuf>)>, String> {
+    let files = files.into_iter().map(PathBuf::from);
+    let (records, pictures): (Vec<PathBuf>, Vec<PathBuf>) =
+        files.partition(|path| name_of_record(path).is_some());
+    if records.is_empty() {
+        let end = filing::RECORD;
+        return Err(format!("give a record to check; its name ends in .{end}"));
+    }
+    let mut pairs: Vec<_> = records.into_iter().map(|record| (record, None)).collect();
+    let single = pairs.len() == 1 && pictures.len() == 1;
+    for picture in pictures {
+        let name = name_of_picture(&picture);
+        let own = |(record, _): &&mut (PathBuf, Option<PathBuf>)| {
+            single || name_of_record(record) == name
+        };
+        match pairs.iter_mut().find(own) {
+            Some((_, place @ None)) => *place = Some(picture),
+            Some((record, _)) => {
+                return Err(format!("{} has two pictures; give one", record.display()))
+            }
+            None => {
+                return Err(format!(
+                    "no record has the name of {}; give one record with one picture",
+                    picture.display()
+                ))
+            }
+        }
+    }
+    Ok(pairs)
 }
 
 #[cfg(test)]
@@ -237,13 +348,29 @@ mod tests {
     fn other_calls() {
         assert_eq!(words("--help a"), Ok(Asked::Help));
         assert_eq!(words("-V"), Ok(Asked::Version));
-        let check = |picture: Option<&str>| Asked::Check {
-            record: "r".into(),
-            picture: picture.map(PathBuf::from),
-        };
-        assert_eq!(words("--check r"), Ok(check(None)));
-        assert_eq!(words("p --check r"), Ok(check(Some("p"))));
+        assert_eq!(words("--sheet cuts"), Ok(Asked::Sheet("cuts".into())));
         assert!(work("a --force --quiet").force);
+        assert_eq!(work("a b c --jobs 2").jobs, 2);
+        assert_eq!(work("a").jobs, 0);
+    }
+
+    #[test]
+    fn checks() {
+        let of = |text: &str| match words(text) {
+            Ok(Asked::Check(checks)) => checks.records,
+            other => panic!("{text}: {other:?}"),
+        };
+        let pair = |record: &str, picture: &str| {
+            let picture = (!picture.is_empty()).then(|| PathBuf::from(picture));
+            (PathBuf::from(record), picture)
+        };
+        let (a, b) = ("x/a.record.txt", "b.c.record.txt");
+        assert_eq!(of(&format!("--check {a}")), [pair(a, "")]);
+        assert_eq!(of(&format!("p --check {a}")), [pair(a, "p")]);
+        let both = of(&format!("--check {a} {b} b.c.ppm y/a.picture.ppm"));
+        assert_eq!(both, [pair(a, "y/a.picture.ppm"), pair(b, "b.c.ppm")]);
+        let one = of(&format!("--check {a} {b} a.jpg"));
+        assert_eq!(one, [pair(a, "a.jpg"), pair(b, "")]);
     }
 
     #[test]
@@ -265,7 +392,23 @@ mod tests {
             ("a --name ..", "no file's name"),
             ("a --name=", "no file's name"),
             ("a.pam a.ppm", "one name"),
-            ("--check r a b", "at most one"),
+            ("--check r a b", "give a record to check"),
+            ("--check a.record.txt a.ppm a.pgm", "has two pictures"),
+            (
+                "--check a.record.txt b.record.txt c.ppm",
+                "no record has the name",
+            ),
+            (
+                "--check a.record.txt --tolerance 1",
+                "--tolerance means nothing",
+            ),
+            ("--check a.record.txt --force", "--force means nothing"),
+            ("--check a.record.txt --name b", "--name means nothing"),
+            ("--sheet cuts --jobs 2", "--jobs means nothing"),
+            ("--sheet cuts a.ppm", "no file a.ppm"),
+            ("a --jobs 0", "from 1 to 256"),
+            ("a --jobs two", "whole number"),
+            ("a --force --keep-going", "give one"),
         ] {
             let why = words(text).unwrap_err();
             assert!(why.contains(part), "{text}: {why}");

@@ -1,7 +1,7 @@
 //! What the program says while it works and afterwards. It goes on where its output is closed.
 
 use std::fmt::Display;
-use std::io::{self, ErrorKind, Write};
+use std::io::{self, ErrorKind, IsTerminal, Write};
 use std::path::Path;
 use std::sync::mpsc::{self, RecvTimeoutError, Sender};
 use std::thread::{Builder, JoinHandle};
@@ -71,5 +71,75 @@ impl Drop for Step {
         if let Some(thread) = self.thread.take() {
             let _ = thread.join();
         }
+    }
+}
+
+/// How far the work on several pictures has come: a bar on standard error, where that is a terminal.
+pub struct Bar {
+    done: usize,
+    all: usize,
+    drawn: bool,
+}
+
+impl Bar {
+    pub fn new(all: usize, quiet: bool) -> Bar {
+        let bar = Bar {
+            done: 0,
+            all,
+            drawn: all > 1 && !quiet && io::stderr().is_terminal(),
+        };
+        bar.draw();
+        bar
+    }
+
+    /// Counts one more, and gives its number in words; none where there is one picture alone.
+    pub fn next(&mut self) -> String {
+        self.done += 1;
+        match self.all {
+            1 => String::new(),
+            all => format!("{} of {all}: ", self.done),
+        }
+    }
+
+    /// Draws the bar at the end of what was said.
+    pub fn draw(&self) {
+        if self.drawn {
+            let _ = write!(io::stderr(), "\r{}", self.text());
+        }
+    }
+
+    /// Takes the bar away, so that something can be said.
+    pub fn clear(&self) {
+        if self.drawn {
+            let _ = write!(io::stderr(), "\r{}\r", " ".repeat(self.text().len()));
+        }
+    }
+
+    fn text(&self) -> String {
+        const WIDE: usize = 40;
+        let full = WIDE * self.done / self.all;
+        let bar = "#".repeat(full) + &".".repeat(WIDE - full);
+        format!("[{bar}] {} of {}", self.done, self.all)
+    }
+}
+
+#[cfg(test)]
+mod tests {
+    use super::*;
+
+    #[test]
+    fn bar() {
+        let mut bar = Bar {
+            done: 0,
+            all: 200,
+            drawn: false,
+        };
+        let texts: Vec<String> = (0..200).map(|_| (bar.next(), bar.text()).1).collect();
+        assert_eq!(
+            texts[16],
+            format!("[{}{}] 17 of 200", "#".repeat(3), ".".repeat(37))
+        );
+        assert_eq!(texts[199], format!("[{}] 200 of 200", "#".repeat(40)));
+        assert_eq!(Bar::new(1, true).next(), "");
     }
 }
