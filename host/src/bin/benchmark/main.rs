@@ -1,8 +1,9 @@
-//! Ours and mask.rs side by side, in one process, on the same masks and pictures.
+//! Ours and mask.rs side by side, in one process, on the same masks and pictures; or ours and an
+//! earlier version of ours.
 //!
 //! ```text
 //! cargo run --release --manifest-path host/Cargo.toml --bin benchmark \
-//!     [-- [wall] [planes | cut] [RUNS] [SIDE..]]
+//!     [-- [before ARCHIVE] [wall] [planes | cut] [RUNS] [SIDE..]]
 //! ```
 //!
 //! The clock counts the processor time of this thread, the system's work for it included, where the
@@ -13,75 +14,33 @@
 //! SIDE is the side of the square planes: 1024 2048 4096 by default. Ours writes into buffers that
 //! were made and touched before the clock starts; mask.rs allocates its planes, as it always does,
 //! and gives them back after the clock has stopped. Both are built for release.
+//! `before` has the libstand.a of another version in the place of mask.rs (see `versions.rs`).
 //!
 //! Prints a Markdown page with ns per pixel, the ratio (mask.rs's time over ours), and the memory
 //! that is lent.
 
 include!(concat!(env!("OUT_DIR"), "/the_rust.rs"));
 
-#[path = "../../support/lent.rs"]
+#[path = "../../../support/lent.rs"]
 mod lent;
-#[path = "../../support/masks.rs"]
+#[path = "../../../support/masks.rs"]
 mod masks;
-#[path = "../../support/pictures.rs"]
+#[path = "../../../support/pictures.rs"]
 mod pictures;
 
+mod clock;
+mod versions;
+
+use clock::Clock;
 use lent::{CutLent, Lent};
 use masks::Random;
 use stand::{Rgb, Settings};
 use std::fs;
 use std::hint::black_box;
 use std::mem::size_of_val;
+use std::path::Path;
 use std::process::Command;
-use std::time::Instant;
-
-/// Which clock is read.
-#[derive(Clone, Copy, PartialEq)]
-enum Clock {
-    Processor,
-    Wall,
-}
-
-impl Clock {
-    /// The processor time where it is asked for and can be had.
-    fn of(wall: bool) -> Clock {
-        match processor_time() {
-            Some(_) if !wall => Clock::Processor,
-            _ => Clock::Wall,
-        }
-    }
-
-    fn name(self) -> &'static str {
-        match self {
-            Clock::Processor => "processor time of the thread",
-            Clock::Wall => "time that passes",
-        }
-    }
-
-    /// What the call gives, and the seconds it took.
-    fn time<T>(self, call: impl FnOnce() -> T) -> (T, f64) {
-        match self {
-            Clock::Processor => {
-                let start = processor_time().expect("schedstat");
-                let given = black_box(call());
-                (given, processor_time().expect("schedstat") - start)
-            }
-            Clock::Wall => {
-                let start = Instant::now();
-                let given = black_box(call());
-                (given, start.elapsed().as_secs_f64())
-            }
-        }
-    }
-}
-
-/// Seconds that this thread has run. The system brings the number up to date when a thread yields.
-fn processor_time() -> Option<f64> {
-    std::thread::yield_now();
-    let text = fs::read_to_string("/proc/thread-self/schedstat").ok()?;
-    let ns: u64 = text.split(' ').next()?.parse().ok()?;
-    (ns > 0).then_some(ns as f64 / 1e9)
-}
+use versions::Version;
 
 /// What is timed.
 #[derive(Clone, Copy, PartialEq)]
@@ -253,10 +212,11 @@ fn median(mut times: Vec<f64>) -> f64 {
     (times[(n - 1) / 2] + times[n / 2]) / 2.0
 }
 
-#[derive(Clone, Copy)]
 struct How {
     clock: Clock,
     runs: usize,
+    /// The earlier version and this one, where they are compared.
+    versions: Option<[Version; 2]>,
 }
 
 /// One line of the table: ns per pixel.
@@ -274,32 +234,42 @@ impl Line {
     }
 }
 
-fn measure(call: Call, plane: &Plane, lent: &mut Lents, how: How) -> Line {
-    let pixels = (plane.side * plane.side) as f64;
+/// One line of the table, printed.
+fn measure(call: Call, plane: &Plane, lents: &mut Lents, how: &How) -> Option<Line> {
+    let scale = 1e9 / (plane.side * plane.side) as f64;
+    let begin = format!("| {} | {} | {}", call.name(), plane.name, plane.side);
+    if let Some([before, after]) = &how.versions {
+        let how = (how.clock, how.runs);
+        let times = versions::times([before, after], call, how, lents, plane)?;
+        let [before, after] = times.map(|places| {
+            let medians = places.into_iter().map(median);
+            medians.sum::<f64>() / 4.0 * scale
+        });
+        let change = 100.0 * (after / before - 1.0);
+        println!("{begin} | {before:.2} | {after:.2} | {change:+.1} % |");
+        return None;
+    }
     let (mut ours, mut theirs) = (Vec::new(), Vec::new());
-    call.ours(how.clock, lent, plane);
+    call.ours(how.clock, lents, plane);
     call.theirs(how.clock, plane);
     for _ in 0..how.runs {
         theirs.extend(call.theirs(how.clock, plane));
-        ours.push(call.ours(how.clock, lent, plane));
+        ours.push(call.ours(how.clock, lents, plane));
     }
     let line = Line {
         call,
         mask: plane.name,
         side: plane.side,
-        theirs: (!theirs.is_empty()).then(|| median(theirs) * 1e9 / pixels),
-        ours: median(ours) * 1e9 / pixels,
+        theirs: (!theirs.is_empty()).then(|| median(theirs) * scale),
+        ours: median(ours) * scale,
     };
     println!(
-        "| {} | {} | {} | {} | {:.2} | {} |",
-        call.name(),
-        line.mask,
-        line.side,
+        "{begin} | {} | {:.2} | {} |",
         number(line.theirs, 2),
         line.ours,
         number(line.ratio(), 1)
     );
-    line
+    Some(line)
 }
 
 fn number(value: Option<f64>, digits: usize) -> String {
@@ -391,7 +361,7 @@ fn said(command: &str, words: &[&str]) -> String {
         .unwrap_or_else(|| "not known".into())
 }
 
-fn head(how: How) {
+fn head(how: &How) {
     let cpu = looked_up("/proc/cpuinfo", "model name").unwrap_or_else(|| "not known".into());
     let cores = std::thread::available_parallelism().map_or(0, |n| n.get());
     let load = fs::read_to_string("/proc/loadavg").unwrap_or_default();
@@ -402,14 +372,20 @@ fn head(how: How) {
     );
     println!("Date: {}.", said("date", &["-u", "+%Y-%m-%d %H:%M UTC"]));
     println!(
-        "Median of {} runs, in turn, by the {}; ns per pixel; ratio: mask.rs's time over ours.",
+        "Median of {} runs, in turn, by the {}; ns per pixel.",
         how.runs,
         how.clock.name()
     );
+    if how.versions.is_some() {
+        println!("Before and after: the mean over four places of the code.\n");
+        println!("| call | on | side | before | after | change |\n|---|---|---:|---:|---:|---:|");
+        return;
+    }
+    println!("Ratio: mask.rs's time over ours.");
     if !cfg!(mask_rs) {
         println!("mask.rs is not at hand (PIXELFORGE_MASK_RS names its place): ours alone.");
     }
-    println!();
+    println!("\n| call | on | side | mask.rs | ours | ratio |\n|---|---|---:|---:|---:|---:|");
 }
 
 /// What a caller lends beside inputs: bytes per pixel, and the work buffers in MiB.
@@ -442,7 +418,7 @@ fn memory(side: usize, lents: &Lents) {
 }
 
 /// Nearest, squares, labels, square distance and fill.
-fn planes(side: usize, random: &mut Random, lents: &mut Lents, how: How, lines: &mut Vec<Line>) {
+fn planes(side: usize, random: &mut Random, lents: &mut Lents, how: &How, lines: &mut Vec<Line>) {
     let colours: Vec<f64> = (0..3 * side * side)
         .map(|_| (random.next() >> 11) as f64 / 9e15)
         .collect();
@@ -461,25 +437,25 @@ fn planes(side: usize, random: &mut Random, lents: &mut Lents, how: How, lines: 
     ]
     .map(|(name, mask)| Plane::mask(side, name, mask, &colours));
     for plane in &planes[..7] {
-        lines.push(measure(Call::Nearest, plane, lents, how));
+        lines.extend(measure(Call::Nearest, plane, lents, how));
     }
     for plane in [&planes[0], &planes[2]] {
         for k in [1, 4, 64, 4096] {
-            lines.push(measure(Call::Squares(k), plane, lents, how));
+            lines.extend(measure(Call::Squares(k), plane, lents, how));
         }
     }
     for plane in &planes {
-        lines.push(measure(Call::Labels, plane, lents, how));
+        lines.extend(measure(Call::Labels, plane, lents, how));
     }
     for call in [Call::Distance, Call::Fill] {
         for plane in [&planes[0], &planes[2]] {
-            lines.push(measure(call, plane, lents, how));
+            lines.extend(measure(call, plane, lents, how));
         }
     }
 }
 
 /// Ground, growth and cut, picture by picture; and growth on a background of single pixels.
-fn cuts(side: usize, random: &mut Random, lents: &mut Lents, how: How, lines: &mut Vec<Line>) {
+fn cuts(side: usize, random: &mut Random, lents: &mut Lents, how: &How, lines: &mut Vec<Line>) {
     let alpha = vec![255; side * side];
     for name in ["badge", "badge with dust", "half noise"] {
         let colours = match name {
@@ -496,7 +472,7 @@ fn cuts(side: usize, random: &mut Random, lents: &mut Lents, how: How, lines: &m
             Call::Cut(1),
             Call::Cut(3),
         ] {
-            lines.push(measure(call, &picture, lents, how));
+            lines.extend(measure(call, &picture, lents, how));
         }
     }
     for (name, share) in [("3 % noise", 30), ("12 % noise", 120)] {
@@ -504,54 +480,86 @@ fn cuts(side: usize, random: &mut Random, lents: &mut Lents, how: How, lines: &m
         let background = random.mask(side * side, share);
         let picture = Plane::mask(side, name, background, &colours);
         for call in [Call::Growth(1), Call::Growth(3)] {
-            lines.push(measure(call, &picture, lents, how));
+            lines.extend(measure(call, &picture, lents, how));
         }
     }
 }
 
+/// The words of the command line.
+struct Asked {
+    before: Option<String>,
+    wall: bool,
+    planes: bool,
+    cut: bool,
+    runs: usize,
+    sides: Vec<usize>,
+}
+
+impl Asked {
+    fn of(words: impl Iterator<Item = String>) -> Option<Asked> {
+        let mut words = words.peekable();
+        let mut taken = |word: &str| words.next_if(|next| next == word).is_some();
+        let named = taken("before");
+        let before = if named { Some(words.next()?) } else { None };
+        let mut taken = |word: &str| words.next_if(|next| next == word).is_some();
+        let (wall, planes) = (taken("wall"), taken("planes"));
+        let cut = !planes && taken("cut");
+        let numbers: Option<Vec<usize>> = words.map(|word| word.parse().ok()).collect();
+        let (runs, sides) = match numbers?[..] {
+            [] => (5, vec![]),
+            [runs, ref sides @ ..] => (runs, sides.to_vec()),
+        };
+        if runs < 5 || !sides.iter().all(|side| (32..=4096).contains(side)) {
+            return None;
+        }
+        Some(Asked {
+            before,
+            wall,
+            planes: !cut,
+            cut: !planes,
+            runs,
+            sides: if sides.is_empty() {
+                vec![1024, 2048, 4096]
+            } else {
+                sides
+            },
+        })
+    }
+}
+
+fn fail(sentence: &str) -> ! {
+    eprintln!("{sentence}");
+    std::process::exit(2)
+}
+
 fn main() {
-    let mut words: Vec<String> = std::env::args().skip(1).collect();
-    let mut taken = |word: &str| {
-        let is = words.first().is_some_and(|first| first == word);
-        if is {
-            words.remove(0);
-        }
-        is
+    let usage = "usage: benchmark [before ARCHIVE] [wall] [planes | cut] [RUNS] [SIDE..]\n\
+                 RUNS is at least 5, a SIDE 32 to 4096";
+    let asked = Asked::of(std::env::args().skip(1)).unwrap_or_else(|| fail(usage));
+    let versions = asked.before.as_deref().map(|before| {
+        versions::load([Path::new(before), Path::new(env!("STAND_ARCHIVE"))])
+            .unwrap_or_else(|why| fail(&format!("benchmark: {why}")))
+    });
+    let how = How {
+        clock: Clock::of(asked.wall),
+        runs: asked.runs,
+        versions,
     };
-    let wall = taken("wall");
-    let (only_planes, only_cut) = (taken("planes"), taken("cut"));
-    let numbers: Option<Vec<usize>> = words.iter().map(|word| word.parse().ok()).collect();
-    let usage = "usage: benchmark [wall] [planes | cut] [RUNS] [SIDE..]\n\
-                 RUNS is at least 5, a SIDE 16 to 4096";
-    let (runs, sides) = match numbers.as_deref() {
-        Some([]) => (5, vec![1024, 2048, 4096]),
-        Some([runs]) if *runs >= 5 => (*runs, vec![1024, 2048, 4096]),
-        Some([runs, sides @ ..]) if *runs >= 5 && sides.iter().all(|s| (16..=4096).contains(s)) => {
-            (*runs, sides.to_vec())
-        }
-        _ => {
-            eprintln!("{usage}");
-            std::process::exit(2);
-        }
-    };
-    let clock = Clock::of(wall);
-    let how = How { clock, runs };
-    head(how);
-    println!("| call | on | side | mask.rs | ours | ratio |\n|---|---|---:|---:|---:|---:|");
+    head(&how);
     let mut lines = Vec::new();
-    for &side in &sides {
+    for &side in &asked.sides {
         let mut random = Random(side as u64);
         let mut lents = Lents {
             planes: Lent::new(side, side),
             cut: CutLent::new(side, side),
         };
-        if !only_cut {
-            planes(side, &mut random, &mut lents, how, &mut lines);
+        if asked.planes {
+            planes(side, &mut random, &mut lents, &how, &mut lines);
         }
-        if !only_planes {
-            cuts(side, &mut random, &mut lents, how, &mut lines);
+        if asked.cut {
+            cuts(side, &mut random, &mut lents, &how, &mut lines);
         }
-        if side == *sides.last().unwrap() {
+        if how.versions.is_none() && Some(&side) == asked.sides.last() {
             summary(&lines);
             memory(side, &lents);
         }
