@@ -71,7 +71,10 @@ lesser-cases a b =
 -- and neither is less
 pub lesser-low : (a b : ℕ) → (lesserOf a b ≤ a) × (lesserOf a b ≤ b)
 lesser-low a b =
-    ⊎-elim {C = (lesserOf a b ≤ a) × (lesserOf a b ≤ b)} (λ z. omega (arith, z .0, z .1)) (λ z. omega (arith, z .0, z .1)) (lesser-cases a b)
+    ⊎-elim {C = (lesserOf a b ≤ a) × (lesserOf a b ≤ b)}
+    (λ z. omega (arith, z .0, z .1))
+    (λ z. omega (arith, z .0, z .1))
+    (lesser-cases a b)
 
 -- the pixels i and j carry one number
 abbrev Alike : List ℕ → ℕ → ℕ → Type 0

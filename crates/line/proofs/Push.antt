@@ -13,7 +13,7 @@ use Rattle.plane.proofs.Search.{which}
 use Rattle.line.specs.steps.Line.{mostCost, Site, valueAt}
 use Rattle.line.specs.steps.Part.{part}
 use Rattle.line.specs.steps.Envelope.{Regions, Beside, Leads, Stack, siteAt, startAt, heightAt}
-use Rattle.line.specs.steps.Envelope.{Stays, Dropped, Placed, Ready, Stacked}
+use Rattle.line.specs.steps.Envelope.{Stays, Dropped, Placed, Ready, Skips, Stacked}
 use Rattle.line.proofs.Squares.{height, takeoverAt, balance, beats, holds, heights, before, after}
 use Rattle.line.proofs.Part.{part-length, part-at, part-same}
 
@@ -26,6 +26,15 @@ module _ {costs : List ℕ} {u x : ℕ} where
     inside = omega (arith, h .inside);
     site = h .site;
     least = below-more (λ (j : ℕ). Site costs j → valueAt costs x i ≤ valueAt costs x j) u (h .least) p;
+    first = h .first;
+  }
+
+  -- and up to place v, where none of those between has a site
+  leads-far : {v i : ℕ} → u ≤ v → ((j : ℕ) → u ≤ j → j < v → Site costs j → ⊥) → Leads costs u x i → Leads costs v x i
+  leads-far l none h = record {
+    inside = omega (arith, h .inside);
+    site = h .site;
+    least = λ j g k. ⊎-elim (λ (a : j < u). h .least j a k) (λ (a : u ≤ j). absurd (none j a g k)) (which j u);
     first = h .first;
   }
 
@@ -75,15 +84,15 @@ module _ {costs : List ℕ} {s t : ℕ → ℕ} {u count : ℕ} (st : Stack cost
   pub at-start : (q : ℕ) → q < count → Leads costs u (t q) (s q)
   at-start q h = st .leads q h (t q) (omega arith) (st .inside q h) (st .rises q)
 
-  -- a place with no site changes nothing
-  skipped : (Site costs u → ⊥) → Stack costs s t (u + 1) count
-  skipped no-site = record {
+  -- places with no site change nothing
+  skipped : (v : ℕ) → u ≤ v → ((j : ℕ) → u ≤ j → j < v → Site costs j → ⊥) → Stack costs s t v count
+  skipped v l none = record {
     small = omega (arith, st .small);
-    empty = λ e. below-more (λ (j : ℕ). Site costs j → ⊥) u (st .empty e) no-site;
+    empty = λ e j g k. ⊎-elim (λ (a : j < u). st .empty e j a k) (λ (a : u ≤ j). none j a g k) (which j u);
     start = st .start;
     inside = st .inside;
     rises = st .rises;
-    leads = λ q h x a b l. leads-stays (st .leads q h x a b l) (λ k. absurd (no-site k));
+    leads = λ q h x a b m. leads-far l none (st .leads q h x a b m);
   }
 
   module _ (site : Site costs u) {r : ℕ} (d : Dropped (Even costs s t u) count r) where
@@ -415,12 +424,22 @@ module _ {old work : List ℕ} {out costs stack n u count : ℕ} (room : Regions
     whole = rw same-costs (sk .whole);
   }
 
-  -- a place with no site changes nothing
-  pub stacked-skip : mostCost < getD work (costs + u) 0 → Stacked old work out costs stack n (u + 1) count
-  stacked-skip g =
-      let e = part-at old costs n u 0 inside in
-      let f = same-cost u inside in
-      record { beside = sk .beside; whole = skipped (sk .whole) (λ h. omega arith) }
+  -- places with no site change nothing
+  pub stacked-skip : mostCost < getD work (costs + u) 0 → (v : ℕ) → Skips work costs n (u + 1) v
+      → Stacked old work out costs stack n v count
+  stacked-skip g v k =
+      let above : (j : ℕ) → u ≤ j → j < v → mostCost < getD work (costs + j) 0 = λ j a b.
+      ⊎-elim (λ (l : u < j). k .none j (omega arith) b)
+      (λ (l : j ≤ u). subst (λ (i : ℕ). mostCost < getD work (costs + i) 0) (omega arith) g) (which u j) in
+      record {
+        beside = sk .beside;
+        whole = skipped (sk .whole) v (omega (arith, k .after)) (λ j a b h.
+            (let l : j < n = omega (arith, k .within) in
+            let e = part-at old costs n j 0 l in
+            let f = same-cost j l in
+            let d = above j a b in
+            omega arith));
+      }
 
   -- and one with a site gives what its push gives
   pub stacked-next : (new : List ℕ) (r : ℕ) → Stacked work new out costs stack n (u + 1) r → Stacked old new out costs stack n (u + 1) r

@@ -8,7 +8,7 @@ ghost use Prim.Native.Nat.{ℕ, _+_, _*_, _-_, _/_, _<_, _≤_};
 ghost use lib.ListN.{length};
 ghost use Rattle.line.specs.steps.Line.{mostCost, mostLength};
 ghost use Rattle.line.specs.steps.Part.{Written};
-ghost use Rattle.line.specs.steps.Envelope.{Regions, Tops, Placed, Ready, Stacked, Segments, Spread};
+ghost use Rattle.line.specs.steps.Envelope.{Regions, Tops, Placed, Ready, Skips, Stacked, Segments, Spread};
 ghost use Rattle.line.specs.steps.Run.{Ends, Lone, Ran, Passed};
 
 // A place whose cost is above this has no site: 65,535².
@@ -91,6 +91,21 @@ fn push_site(
     k
 }
 
+// The next place from x on that has a site; the end of the line where there is none.
+fn next_site(work: &[u32], costs: usize, n: usize, x: usize) -> usize
+    requires { ⌜ (x ≤ n) × (costs + n ≤ length (now work)) ⌝ }
+    ensures { λ r. ⌜ Skips (now (work .entry)) costs n x r ⌝ }
+{
+    let mut k = x;
+    while k < n {
+        if work[costs + k] <= MAX_COST {
+            return k;
+        }
+        k += 1;
+    }
+    k
+}
+
 // The stack of the whole line; the number of its sites.
 fn build(work: &mut [u32], out: usize, costs: usize, stack: usize, n: usize) -> usize
     requires { ⌜ Regions out costs stack n (length (now work)) ⌝ }
@@ -101,8 +116,10 @@ fn build(work: &mut [u32], out: usize, costs: usize, stack: usize, n: usize) -> 
     while u < n {
         if work[costs + u] <= MAX_COST {
             count = push_site(work, out, costs, stack, n, count, u);
+            u += 1;
+        } else {
+            u = next_site(work, costs, n, u + 1);
         }
-        u += 1;
     }
     count
 }

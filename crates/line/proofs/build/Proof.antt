@@ -1,7 +1,6 @@
 -- `line::build` meets its contract.
 -- Assumes nothing.
-use mathlib.Core.Path.{_≡_, refl, ap, _∙_, subst}
-use mathlib.Core.Logic.{⊎-elim}
+use mathlib.Core.Path.{_≡_, refl, _∙_, subst}
 use Prim.Native.Nat.{ℕ, _-_, _≤_}
 use lib.ListN.{length}
 use native.Mathlib.Omega.{arith}
@@ -25,18 +24,32 @@ push-site-requires c κs =
 
 loop-again : tie.Need-loop-again Inv-loop μ-loop
 loop-again c =
-    let i = c .before .before in
+    let p = c .before .before in
+    let i = p .before .before .before .before in
     let l = i .before .loop in
-    let room = i .before .before .before .pre in
     let t = i .loop-test .taken in
-    ⊎-elim
-    (λ w. (
+    let push = p .push-site in (
       omega arith,
-      ap length (w .5) ∙ w .2 .kept .0 ∙ l .inv .1,
-      rw (w .5, w .6) (stacked-next room (l .inv .1) t (l .inv .2) (w .2 .last .0) (w .2 .result) (w .2 .ensures)),
-    ))
-    (λ w. (omega arith, ap length (w .1) ∙ l .inv .1, rw (w .1, w .2) (stacked-skip room (l .inv .1) t (l .inv .2) (w .0 .left))))
-    (c .if1 .came)
+      push .kept .0 ∙ l .inv .1,
+      stacked-next (i .before .before .before .pre) (l .inv .1) t (l .inv .2) (push .last .0) (push .result) (push .ensures),
+    )
+
+next-site-requires : tie.Need-next-site-requires Inv-loop μ-loop
+next-site-requires c κs =
+    let i = c .before .before .before in
+    omega (arith, i .loop-test .taken, i .before .before .before .pre, i .before .loop .inv)
+
+loop-again-2 : tie.Need-loop-again-2 Inv-loop μ-loop
+loop-again-2 c =
+    let e = c .before .before in
+    let i = e .before .before in
+    let l = i .before .loop in
+    let t = i .loop-test .taken in
+    let skip = c .next-site in (
+      skip .ensures .within,
+      l .inv .1,
+      stacked-skip (i .before .before .before .pre) (l .inv .1) t (l .inv .2) (e .if1 .left) (skip .result) (skip .ensures),
+    )
 
 returns : tie.Need-returns Inv-loop μ-loop
 returns c =
@@ -58,5 +71,9 @@ build-spec =
     (λ c. omega arith)
     (λ c. omega arith)
     loop-again
+    (λ c. omega arith)
+    next-site-requires
+    (λ c. omega (arith, c .next-site .ensures .after))
+    loop-again-2
     (λ c. c .before .loop .inv .1)
     returns)

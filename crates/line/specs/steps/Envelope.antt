@@ -86,6 +86,12 @@ pub record Ready (work : List ℕ) (out costs stack n count u : ℕ) : Type 0 wh
   pub cost : getD work (costs + u) 0 ≤ mostCost
   pub whole : Stack (part work costs n) (siteAt work stack) (startAt work out) u count
 
+-- from x up to r, which is no further than the end of the line, no place has a site
+pub record Skips (work : List ℕ) (costs n x r : ℕ) : Type 0 where
+  pub after : x ≤ r
+  pub within : r ≤ n
+  pub none : (j : ℕ) → x ≤ j → j < r → mostCost < getD work (costs + j) 0
+
 -- new has the stack of the first u places of the costs in old
 pub record Stacked (old new : List ℕ) (out costs stack n u count : ℕ) : Type 0 where
   pub beside : Beside old new out stack n

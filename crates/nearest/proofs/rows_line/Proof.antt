@@ -1,4 +1,4 @@
--- `nearest::pixels_line` meets its contract.
+-- `nearest::rows_line` meets its contract.
 -- Assumes nothing.
 use mathlib.Core.Path.{sym, ap, _∙_, subst}
 use mathlib.Core.List.{List}
@@ -10,19 +10,17 @@ use mir.Syntax.{w32}
 use mir.Facts.{toZ-ofZ}
 use Rattle.line.specs.steps.Line.{mostLength}
 use Rattle.line.proofs.Part.{part-at, Filling, filling-none, filling-more, filling-end}
-use Rattle.nearest.specs.Nearest.{rowOf, columnOf}
+use Rattle.nearest.specs.Nearest.{rowOf}
 use Rattle.nearest.specs.steps.Stages.{from, pixelAt, pixelIn}
 use Rattle.nearest.proofs.Stages.{part-long, part-pixel}
-use Rattle.nearest.proofs.pixels_line.Statement.{statement}
-use Rattle.nearest.proofs.pixels_line.Tie as tie
+use Rattle.nearest.proofs.rows_line.Statement.{statement}
+use Rattle.nearest.proofs.rows_line.Tie as tie
 
 abbrev Inv-loop : tie.InvT-loop
-Inv-loop work row near w rows₀ cols₀ end x₀ rows cols x =
-    Filling (pos 0) (λ (k : ℕ). rowOf (pixelIn work row near w k)) row w rows₀ rows x
-    × Filling (pos 0) (λ (k : ℕ). columnOf (pixelIn work row near w k)) row w cols₀ cols x
+Inv-loop work row near w rows₀ end x₀ rows x = Filling (pos 0) (λ (k : ℕ). rowOf (pixelIn work row near w k)) row w rows₀ rows x
 
 abbrev μ-loop : tie.MeasureT-loop
-μ-loop work row near w rows₀ cols₀ end x₀ rows cols x = w - x
+μ-loop work row near w rows₀ end x₀ rows x = w - x
 
 abbrev start : tie.In-loop Inv-loop μ-loop → tie.Start Inv-loop μ-loop
 start c = c .before .before .before
@@ -51,32 +49,24 @@ row-at-requires c κs =
 
 loop-again : tie.Need-loop-again Inv-loop μ-loop
 loop-again c =
-    let b = c .before .before .before in
+    let b = c .before .before in
     let i = b .before .before in
-    let l = i .before .loop in
     let o = start i in
     let w = o .args .w in
-    let t = i .loop-test .taken in
-    let line = from (work o) (near o) in (
-      filling-more (l .inv .0) t (o .pre .1)
-          (toZ-ofZ {w = w32} (record { sfits = c .before .row-at .ok })
-          ∙ c .before .row-at .ensures
-          ∙ ap rowOf (part-pixel (work o) (near o) w (k o) (omega arith) (o .pre .0 .room) (b .wide .result))
-          ∙ ap (λ (m : ℕ). rowOf (pixelAt w line m)) (b .wide .ensures)),
-      filling-more (l .inv .1) t (o .pre .2)
-          (toZ-ofZ {w = w32} (record { sfits = c .column-at .ok })
-          ∙ c .column-at .ensures line
-          ∙ ap (λ (m : ℕ). columnOf (pixelAt w line m)) (b .wide .ensures)),
-    )
+    filling-more (i .before .loop .inv) (i .loop-test .taken) (o .pre .1)
+    (toZ-ofZ {w = w32} (record { sfits = c .row-at .ok })
+    ∙ c .row-at .ensures
+    ∙ ap rowOf (part-pixel (work o) (near o) w (k o) (omega arith) (o .pre .0 .room) (b .wide .result))
+    ∙ ap (λ (m : ℕ). rowOf (pixelAt w (from (work o) (near o)) m)) (b .wide .ensures))
 
-pub pixels-line-spec : {M : Type 1} → statement M
-pixels-line-spec =
+pub rows-line-spec : {M : Type 1} → statement M
+rows-line-spec =
     tie.close
     (tie.spec
     Inv-loop
     μ-loop
     (λ c. omega (arith, c .before .pre))
-    (λ c. (filling-none, filling-none))
+    (λ c. filling-none)
     (λ c. omega (arith, start c .pre))
     (λ c. omega (arith, start c .pre))
     (λ c. omega (arith, start (c .before) .pre))
@@ -89,13 +79,8 @@ pixels-line-spec =
     (λ c. omega (arith, start (c .before .before .before .before) .pre))
     (λ c. omega (arith, start (c .before .before .before .before) .pre))
     (λ c. omega (arith, start (c .before .before .before .before) .pre))
-    (λ c κs. start (c .before .before .before .before) .pre .0 .short)
-    (λ c. omega (arith, start (c .before .before .before .before .before) .pre))
-    (λ c. omega (arith, start (c .before .before .before .before .before) .pre))
-    (λ c. omega (arith, start (c .before .before .before .before .before) .pre))
     (λ c. omega arith)
     (λ c. omega arith)
     loop-again
-    (λ c. c .before .loop .inv .0 .size)
-    (λ c. c .before .loop .inv .1 .size)
-    (λ c. (filling-end (c .before .loop .inv .0) (omega arith), filling-end (c .before .loop .inv .1) (omega arith))))
+    (λ c. c .before .loop .inv .size)
+    (λ c. filling-end (c .before .loop .inv) (omega arith)))
