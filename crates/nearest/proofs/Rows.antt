@@ -90,18 +90,19 @@ row-at {h = h} {w = w} {y = y} sides room inside p = record {
 }
 
 module _ {mask : List ℕ} {h w : ℕ} {start old : List ℕ} {y : ℕ} (r : Row mask h w start old y) where
-  pub row-room : RowRoom y (h * w) w old
-  row-room = record {
+  pub row-room : (out : ℕ) → out ≤ y * w → RowRoom y (h * w) w out old
+  row-room out clear = record {
     row-in = omega (arith, r .inside, r .sides .tall);
     short = r .sides .wide;
     inside = r .row;
+    out-inside = omega (arith, r .row);
     room = r .room;
     row-low = row-low mask h w (r .inside) (r .sides .tall) (r .passing .swept);
     near-low = line-low mask h w (r .inside) (r .sides .tall) (r .passing .swept);
   }
 
-  -- row y is passed
-  module _ {new : List ℕ} (size : length new ≡ length old) (d : RowDone y (h * w) w old new) where
+  -- row y is passed, and its chosen columns stand in it or before it
+  module _ {new : List ℕ} {out : ℕ} (clear : out ≤ y * w) (size : length new ≡ length old) (d : RowDone y (h * w) w out old new) where
     room : h * w + 3 * w ≤ length new
     room = omega (arith, r .room)
 
@@ -111,29 +112,29 @@ module _ {mask : List ℕ} {h w : ℕ} {start old : List ℕ} {y : ℕ} (r : Row
     passing-next e same = record {
       within = omega (arith, r .inside);
       size = e ∙ size ∙ r .passing .size;
-      swept = swept-next mask h w (r .inside) (r .sides .tall) (r .passing .swept) d same;
+      swept = swept-next mask h w (r .inside) (r .sides .tall) (r .passing .swept) clear d same;
     }
 
-    pub pixels : (x : ℕ) → x < w → pixelIn new (y * w) (h * w) w x ≡ nearest mask h w y x
-    pixels = pixel mask h w (r .inside) (r .sides .tall) (r .passing .swept) d (r .sides .wide) room
+    pub pixels : (x : ℕ) → x < w → pixelIn new out (h * w) w x ≡ nearest mask h w y x
+    pixels = pixel mask h w (r .inside) (r .sides .tall) (r .passing .swept) clear d (r .sides .wide) room
 
-    pub pixel-room : PixelRoom new (y * w) (h * w) w
+    pub pixel-room : PixelRoom new out (h * w) w
     pixel-room = record {
       short = r .sides .wide;
-      apart = r .row;
+      apart = omega (arith, r .row);
       room = omega (arith, room);
-      chosen = chosen-low mask h w (r .inside) (r .sides .tall) (r .passing .swept) d (r .sides .wide) room;
+      chosen = chosen-low mask h w (r .inside) (r .sides .tall) (r .passing .swept) clear d (r .sides .wide) room;
     }
 
-    pub distances : (x : ℕ) → x < w → distanceIn new (y * w) (h * w + w) w y x ≡ distance mask h w y x
-    distances = distance-is mask h w (r .inside) (r .sides .tall) (r .passing .swept) d (r .sides .wide) room
+    pub distances : (x : ℕ) → x < w → distanceIn new out (h * w + w) w y x ≡ distance mask h w y x
+    distances = distance-is mask h w (r .inside) (r .sides .tall) (r .passing .swept) clear d (r .sides .wide) room
 
-    pub distance-room : (long : ℕ) → h * w ≤ long → h * h + w * w ≤ 4294967295 → DistanceLineRoom new (y * w) (h * w + w) w y long
+    pub distance-room : (long : ℕ) → h * w ≤ long → h * h + w * w ≤ 4294967295 → DistanceLineRoom new out (h * w + w) w y (y * w) long
     distance-room long fits low = record {
       short = r .sides .wide;
       apart = omega (arith, r .row);
       room = omega (arith, room);
-      out-room = omega (arith, r .row);
+      row-room = omega (arith, r .row);
       row-in = omega (arith, r .inside, r .sides .tall);
       low = λ x g. (let e = distances x g in let m = distance-most mask h w y x (r .inside) g in omega arith);
     }

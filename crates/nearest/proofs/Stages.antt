@@ -59,16 +59,16 @@ module _ (work : List ℕ) (a w k : ℕ) (is : k ≡ w) (room : a + w ≤ length
 
 -- ---- one row of the buffer
 
-module _ (y : ℕ) {n w : ℕ} {old one two new : List ℕ} (inside : y * w + w ≤ n) (room : n + 3 * w ≤ length old)
+module _ (y : ℕ) {n w out : ℕ} {old one two new : List ℕ} (inside : out + w ≤ n) (room : n + 3 * w ≤ length old)
     (size : length two ≡ length old) (size2 : length new ≡ length old) (a : Written 0 (nearerIn y old (y * w) n) n w old one)
-    (b : Written 0 (costIn y one n) (n + w) w one two) (p : Passed two new (y * w) (n + w) (n + w + w) w) where
+    (b : Written 0 (costIn y one n) (n + w) w one two) (p : Passed two new out (n + w) (n + w + w) w) where
   -- the nearest on-rows are as the first loop wrote them
   near-kept : (x : ℕ) → x < w → getD new (n + x) 0 ≡ getD one (n + x) 0
   near-kept x g = p .beside .behind (n + x) (omega arith) (omega arith) ∙ b .before (n + x) (omega arith)
 
-  pub row-done : RowDone y n w old new
+  pub row-done : RowDone y n w out old new
   row-done =
-      let behind : (i : ℕ) → y * w + w ≤ i → i < n + w + w → getD new i 0 ≡ getD two i 0 = p .beside .behind in
+      let behind : (i : ℕ) → out + w ≤ i → i < n + w + w → getD new i 0 ≡ getD two i 0 = p .beside .behind in
       let kept =
       part-same 0 two new (n + w) (n + w) w (omega arith) (omega arith) (λ i g. behind (n + w + i) (omega arith) (omega arith)) in
       record {
@@ -168,7 +168,7 @@ module _ (mask : List ℕ) (h w : ℕ) where
     pub line-low : (x : ℕ) → x < w → getD old (h * w + x) 0 ≤ noRow
     line-low x g = rw (s .near x g) (above-low y x tall)
 
-    module _ {new : List ℕ} (d : RowDone y (h * w) w old new) where
+    module _ {new : List ℕ} {out : ℕ} (clear : out ≤ y * w) (d : RowDone y (h * w) w out old new) where
       near-done : (x : ℕ) → x < w → getD new (h * w + x) 0 ≡ nearAt mask h w y x
       near-done x g = d .near x g ∙ rw (s .below y x (omega arith) inside g, s .near x g) (sym (near-step y x inside tall))
 
@@ -260,20 +260,20 @@ module _ (mask : List ℕ) (h w : ℕ) where
             let q : rowCode b ≡ near i = ap rowCode (walk-line (rowCost mask w y i) h) ∙ sym (near-done i g) in
             some-row x i (a .0) g (a .1 .here) b refl ∙ rw (q, lt-ltb i w g)
 
-        -- the column that row y holds at x is the best one
-        place-is : (x : ℕ) → x < w → getD new (y * w + x) 0 ≡ placeOf (best costs x)
+        -- the chosen column is the best one
+        place-is : (x : ℕ) → x < w → getD new (out + x) 0 ≡ placeOf (best costs x)
         place-is x g =
             let e = long in
-            sym (part-at new (y * w) w x 0 g) ∙ ap (λ (l : List ℕ). getD l x 0) (d .places) ∙ line-at costs x (omega arith)
+            sym (part-at new out w x 0 g) ∙ ap (λ (l : List ℕ). getD l x 0) (d .places) ∙ line-at costs x (omega arith)
 
         -- and its on-pixel is the nearest
-        pub pixel : (x : ℕ) → x < w → pixelIn new (y * w) (h * w) w x ≡ nearest mask h w y x
+        pub pixel : (x : ℕ) → x < w → pixelIn new out (h * w) w x ≡ nearest mask h w y x
         unfolding best
         pixel x g = ap (pixelAt w near) (place-is x g) ∙ sym (two x ∙ picked x (best costs x) (walk-answers (offer costs x) (length costs)))
 
         module _ (x : ℕ) (g : x < w) where
           abbrev place : ℕ
-          place = getD new (y * w + x) 0
+          place = getD new (out + x) 0
 
           pixel-some : place < w → nearest mask h w y x ≡ some (place, near place)
           unfolding pixelAt
@@ -287,7 +287,7 @@ module _ (mask : List ℕ) (h w : ℕ) where
           chosen-low l = let z = chosen-row l in omega arith
 
           -- its cost gives the distance
-          pub distance-is : distanceIn new (y * w) (h * w + w) w y x ≡ distance mask h w y x
+          pub distance-is : distanceIn new out (h * w + w) w y x ≡ distance mask h w y x
           unfolding distanceAt away squareCost pixelAt
           distance-is =
               ⊎-elim

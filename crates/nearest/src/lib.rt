@@ -118,17 +118,17 @@ fn costs_line(y: u32, work: &mut [u32], near: usize, costs: usize, w: usize)
 }
 
 // Row y of the second sweep and of the second stage: the lines behind the n numbers of the plane go on from the row above to row y,
-// and the row gets the chosen column of each of its pixels.
-fn row_pass(y: usize, n: usize, w: usize, work: &mut [u32])
-    requires { ⌜ RowRoom y n w (now work) ⌝ }
-    ensures { λ _. ⌜ RowDone y n w (now (work .entry)) (now (work .exit)) ⌝ }
+// and the chosen column of each pixel of the row is written from out on.
+fn row_pass(y: usize, n: usize, w: usize, out: usize, work: &mut [u32])
+    requires { ⌜ RowRoom y n w out (now work) ⌝ }
+    ensures { λ _. ⌜ RowDone y n w out (now (work .entry)) (now (work .exit)) ⌝ }
 {
     let row = y * w;
     let costs = n + w;
     let stack = costs + w;
     nearer_line(y as u32, work, row, n, w);
     costs_line(y as u32, work, n, costs, w);
-    line::line(work, row, costs, stack, w);
+    line::line(work, out, costs, stack, w);
 }
 
 // The row of column i; -1 where there is no such column.
@@ -147,16 +147,16 @@ fn column_at(w: u32, i: u32) -> i32
     if i < w { i as i32 } else { 0 }
 }
 
-// The row of the chosen column's on-pixel of each place.
-fn rows_line(work: &[u32], row: usize, near: usize, w: usize, rows: &mut [i32])
-    requires { ⌜ PixelRoom (now work) row near w × (row + w ≤ length (now rows)) ⌝ }
+// The row of the chosen column's on-pixel of each place; the chosen columns stand from places on.
+fn rows_line(work: &[u32], places: usize, near: usize, w: usize, row: usize, rows: &mut [i32])
+    requires { ⌜ PixelRoom (now work) places near w × (row + w ≤ length (now rows)) ⌝ }
     ensures { λ _. ⌜ Written (pos 0)
-        (λ (x : ℕ). rowOf (pixelIn (now (work .entry)) row near w x)) row w (now (rows .entry)) (now (rows .exit)) ⌝ }
+        (λ (x : ℕ). rowOf (pixelIn (now (work .entry)) places near w x)) row w (now (rows .entry)) (now (rows .exit)) ⌝ }
 {
     let end = near + w;
     let mut x = 0usize;
     while x < w {
-        let i = plane::wide(work[row + x]);
+        let i = plane::wide(work[places + x]);
         rows[row + x] = row_at(&work[near..end], i);
         x += 1;
     }
@@ -165,21 +165,21 @@ fn rows_line(work: &[u32], row: usize, near: usize, w: usize, rows: &mut [i32])
 // The chosen column of each place.
 // Rows and columns are written one after the other: to write both in one loop takes twice as long where the planes lie a power of two
 // apart, as those of 4096 by 4096 do, since some processors cannot then keep both in their first cache.
-fn columns_line(work: &[u32], row: usize, w: usize, cols: &mut [i32])
-    requires { ⌜ (w ≤ mostLength) × (row + w ≤ length (now work)) × (row + w ≤ length (now cols)) ⌝ }
+fn columns_line(work: &[u32], places: usize, w: usize, row: usize, cols: &mut [i32])
+    requires { ⌜ (w ≤ mostLength) × (places + w ≤ length (now work)) × (row + w ≤ length (now cols)) ⌝ }
     ensures { λ _. ⌜ ((near : ℕ → ℕ) → Written (pos 0)
-        (λ (x : ℕ). columnOf (pixelAt w near (from (now (work .entry)) row x))) row w (now (cols .entry)) (now (cols .exit))) ⌝ }
+        (λ (x : ℕ). columnOf (pixelAt w near (from (now (work .entry)) places x))) row w (now (cols .entry)) (now (cols .exit))) ⌝ }
 {
     let n = w as u32;
     let mut x = 0usize;
     while x < w {
-        cols[row + x] = column_at(n, work[row + x]);
+        cols[row + x] = column_at(n, work[places + x]);
         x += 1;
     }
 }
 
 // Row and column of the nearest on-pixel of each pixel: the least dy² + dx², among equals the least column and then the least row.
-// With nothing on, row -1 and column 0.
+// With nothing on, row -1 and column 0. The chosen columns of each row stand in the buffer's first row, which is no longer needed.
 pub fn nearest_planes(
     mask: &[u8],
     h: usize,
@@ -195,9 +195,9 @@ pub fn nearest_planes(
     below(mask, h, w, work);
     let mut y = 0usize;
     while y < h {
-        row_pass(y, h * w, w, work);
-        rows_line(work, y * w, h * w, w, rows);
-        columns_line(work, y * w, w, cols);
+        row_pass(y, h * w, w, 0, work);
+        rows_line(work, 0, h * w, w, y * w, rows);
+        columns_line(work, 0, w, y * w, cols);
         y += 1;
     }
 }
@@ -235,7 +235,7 @@ pub fn nearest_indices(mask: &[u8], h: usize, w: usize, work: &mut [u32])
     below(mask, h, w, work);
     let mut y = 0usize;
     while y < h {
-        row_pass(y, h * w, w, work);
+        row_pass(y, h * w, w, y * w, work);
         index_line(work, y * w, h * w, w);
         y += 1;
     }
@@ -254,15 +254,23 @@ fn distance_at(costs: &[u32], y: usize, x: usize, i: usize) -> u32
     (s * s + x * x) as u32
 }
 
-// The squared distance of each place of row y to its chosen column's on-pixel.
-fn distances_line(work: &[u32], row: usize, costs: usize, w: usize, y: usize, out: &mut [u32])
-    requires { ⌜ DistanceLineRoom (now work) row costs w y (length (now out)) ⌝ }
-    ensures { λ _. ⌜ Written 0 (distanceIn (now (work .entry)) row costs w y) row w (now (out .entry)) (now (out .exit)) ⌝ }
+// The squared distance of each place of row y to its chosen column's on-pixel; the chosen columns stand from places on.
+fn distances_line(
+    work: &[u32],
+    places: usize,
+    costs: usize,
+    w: usize,
+    y: usize,
+    row: usize,
+    out: &mut [u32],
+)
+    requires { ⌜ DistanceLineRoom (now work) places costs w y row (length (now out)) ⌝ }
+    ensures { λ _. ⌜ Written 0 (distanceIn (now (work .entry)) places costs w y) row w (now (out .entry)) (now (out .exit)) ⌝ }
 {
     let end = costs + w;
     let mut x = 0usize;
     while x < w {
-        out[row + x] = distance_at(&work[costs..end], y, x, plane::wide(work[row + x]));
+        out[row + x] = distance_at(&work[costs..end], y, x, plane::wide(work[places + x]));
         x += 1;
     }
 }
@@ -275,8 +283,8 @@ pub fn nearest_distances(mask: &[u8], h: usize, w: usize, work: &mut [u32], out:
     below(mask, h, w, work);
     let mut y = 0usize;
     while y < h {
-        row_pass(y, h * w, w, work);
-        distances_line(work, y * w, h * w + w, w, y, out);
+        row_pass(y, h * w, w, 0, work);
+        distances_line(work, 0, h * w + w, w, y, y * w, out);
         y += 1;
     }
 }

@@ -14,11 +14,11 @@ use Rattle.nearest.proofs.columns_line.Statement.{statement}
 use Rattle.nearest.proofs.columns_line.Tie as tie
 
 abbrev Inv-loop : tie.InvT-loop
-Inv-loop work row w cols₀ n x₀ cols x =
-    (near : ℕ → ℕ) → Filling (pos 0) (λ (k : ℕ). columnOf (pixelAt w near (from work row k))) row w cols₀ cols x
+Inv-loop work places w row cols₀ n x₀ cols x =
+    (near : ℕ → ℕ) → Filling (pos 0) (λ (k : ℕ). columnOf (pixelAt w near (from work places k))) row w cols₀ cols x
 
 abbrev μ-loop : tie.MeasureT-loop
-μ-loop work row w cols₀ n x₀ cols x = w - x
+μ-loop work places w row cols₀ n x₀ cols x = w - x
 
 loop-again : tie.Need-loop-again Inv-loop μ-loop
 loop-again c near =

@@ -14,10 +14,10 @@ use Rattle.nearest.proofs.distances_line.Statement.{statement}
 use Rattle.nearest.proofs.distances_line.Tie as tie
 
 abbrev Inv-loop : tie.InvT-loop
-Inv-loop work row costs w y out₀ end x₀ out x = Filling 0 (distanceIn work row costs w y) row w out₀ out x
+Inv-loop work places costs w y row out₀ end x₀ out x = Filling 0 (distanceIn work places costs w y) row w out₀ out x
 
 abbrev μ-loop : tie.MeasureT-loop
-μ-loop work row costs w y out₀ end x₀ out x = w - x
+μ-loop work places costs w y row out₀ end x₀ out x = w - x
 
 abbrev start : tie.In-loop Inv-loop μ-loop → tie.Start Inv-loop μ-loop
 start c = c .before .before .before .before
@@ -37,7 +37,7 @@ module _ (c : tie.After-wide Inv-loop μ-loop) where
   distance l i = distanceAt (length l) (elements l) (start in-loop .args .y) x i
 
   read : (let a = start in-loop .args in
-      (length line ≡ a .w) × (distance line (c .wide .result) ≡ distanceIn (a .work .now) (a .row) (a .costs) (a .w) (a .y) x))
+      (length line ≡ a .w) × (distance line (c .wide .result) ≡ distanceIn (a .work .now) (a .places) (a .costs) (a .w) (a .y) x))
   read =
       let a = start in-loop .args in
       let room = start in-loop .pre .room in
@@ -63,7 +63,7 @@ loop-again : tie.Need-loop-again Inv-loop μ-loop
 loop-again c =
     let b = c .before in
     let i = in-loop b in
-    filling-more (i .before .loop .inv) (i .loop-test .taken) (start i .pre .out-room) (c .distance-at .ensures ∙ read b .1)
+    filling-more (i .before .loop .inv) (i .loop-test .taken) (start i .pre .row-room) (c .distance-at .ensures ∙ read b .1)
 
 pub distances-line-spec : {M : Type 1} → statement M
 distances-line-spec =

@@ -37,7 +37,7 @@ distances-line-requires c κs =
     let s = c .before .before .before .before in
     let i = s .before .before in
     let p = start (i .before) .pre in
-    distance-room (row i) (s .row-pass .kept .1 .1 .1 .0) (s .row-pass .ensures) _
+    distance-room (row i) (omega arith) (s .row-pass .kept .1 .1 .1 .1 .0) (s .row-pass .ensures) _
     (omega (arith, p .out-long, i .before .loop .inv .1 .size)) (p .low)
 
 loop-again : tie.Need-loop-again Inv-loop μ-loop
@@ -45,11 +45,11 @@ loop-again c =
     let t = c .before .before in
     let s = t .before .before .before .before .before in
     let i = s .before .before in
-    let size = s .row-pass .kept .1 .1 .1 .0 in
+    let size = s .row-pass .kept .1 .1 .1 .1 .0 in
     let d = s .row-pass .ensures in
     let v = t .distances-line in (
-      passing-next (row i) size d refl (λ k g. refl),
-      rows-next (i .before .loop .inv .1) (v .kept .1 .1 .1 .1 .1 .0) (v .ensures) (distances (row i) size d),
+      passing-next (row i) (omega arith) size d refl (λ k g. refl),
+      rows-next (i .before .loop .inv .1) (v .kept .1 .1 .1 .1 .1 .1 .0) (v .ensures) (distances (row i) (omega arith) size d),
     )
 
 returns : tie.Need-returns Inv-loop μ-loop
@@ -67,7 +67,7 @@ nearest-distances-spec =
     (λ c κs. search needs)
     (λ c. (passing-none (c .before .before .below .ensures), rows-none))
     (λ c. omega (arith, row c))
-    (λ c κs. row-room (row (c .before)))
+    (λ c κs. row-room (row (c .before)) 0 (omega arith))
     (λ c. omega (arith, row (c .before .before .before .before .before)))
     (λ c. omega (arith, row (c .before .before .before .before .before)))
     (λ c. omega (arith, row (c .before .before .before .before .before)))

@@ -37,19 +37,19 @@ row c =
 index-line-requires : tie.Need-index-line-requires Inv-loop μ-loop
 index-line-requires c κs =
     let s = c .before .before .before in
-    pixel-room (row (s .before .before)) (s .row-pass .kept .1 .1 .1 .0) (s .row-pass .ensures)
+    pixel-room (row (s .before .before)) (omega arith) (s .row-pass .kept .1 .1 .1 .1 .0) (s .row-pass .ensures)
 
 loop-again : tie.Need-loop-again Inv-loop μ-loop
 loop-again c =
     let t = c .before .before in
     let s = t .before .before .before .before in
     let i = s .before .before in
-    let size = s .row-pass .kept .1 .1 .1 .0 in
+    let size = s .row-pass .kept .1 .1 .1 .1 .0 in
     let d = s .row-pass .ensures in
     let v = t .index-line in (
-      passing-next (row i) size d (v .kept .0) (v .ensures .behind),
+      passing-next (row i) (omega arith) size d (v .kept .0) (v .ensures .behind),
       rows-next (rows-kept (i .before .loop .inv .1) size (d .before)) (v .kept .0) (v .ensures)
-          (λ x g. ap (indexOf (start (i .before) .args .w)) (pixels (row i) size d x g)),
+          (λ x g. ap (indexOf (start (i .before) .args .w)) (pixels (row i) (omega arith) size d x g)),
     )
 
 returns : tie.Need-returns Inv-loop μ-loop
@@ -68,7 +68,8 @@ nearest-indices-spec =
     (λ c κs. c .before .before .before .pre)
     (λ c. (passing-none (c .before .before .below .ensures), rows-none))
     (λ c. omega (arith, row c))
-    (λ c κs. row-room (row (c .before)))
+    (λ c. omega (arith, row c))
+    (λ c κs. row-room (row (c .before)) _ (omega arith))
     (λ c. omega (arith, row (c .before .before .before .before .before)))
     (λ c. omega (arith, row (c .before .before .before .before .before)))
     index-line-requires

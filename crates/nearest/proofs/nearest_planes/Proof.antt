@@ -55,7 +55,7 @@ rows-line-requires c κs =
     let s = passed (c .before) in
     let i = inside s in
     let r = row i in (
-      pixel-room r (s .row-pass .kept .1 .1 .1 .0) (s .row-pass .ensures),
+      pixel-room r (omega arith) (s .row-pass .kept .1 .1 .1 .1 .0) (s .row-pass .ensures),
       omega (arith, r .row, start (i .before) .pre .rows-long, i .before .loop .inv .1 .size),
     )
 
@@ -65,7 +65,7 @@ columns-line-requires c κs =
     let i = inside s in
     let r = row i in (
       r .sides .wide,
-      omega (arith, r .row, r .room, s .row-pass .kept .1 .1 .1 .0),
+      omega (arith, r .row, r .room, s .row-pass .kept .1 .1 .1 .1 .0),
       omega (arith, r .row, start (i .before) .pre .cols-long, i .before .loop .inv .2 .size),
     )
 
@@ -76,14 +76,14 @@ loop-again c =
     let s = passed-2 a in
     let i = inside s in
     let l = i .before .loop in
-    let size = s .row-pass .kept .1 .1 .1 .0 in
+    let size = s .row-pass .kept .1 .1 .1 .1 .0 in
     let d = s .row-pass .ensures in
     let v = rowed a .rows-line in
     let u = g .columns-line in
-    let near = from (s .row-pass .last .1 .1 .1 .0) (start (i .before) .args .h * start (i .before) .args .w) in (
-      passing-next (row i) size d refl (λ k q. refl),
-      rows-next (l .inv .1) (v .kept .1 .1 .1 .1 .0) (v .ensures) (λ x q. ap rowOf (pixels (row i) size d x q)),
-      rows-next (l .inv .2) (u .kept .1 .1 .1 .0) (u .ensures near) (λ x q. ap columnOf (pixels (row i) size d x q)),
+    let near = from (s .row-pass .last .1 .1 .1 .1 .0) (start (i .before) .args .h * start (i .before) .args .w) in (
+      passing-next (row i) (omega arith) size d refl (λ k q. refl),
+      rows-next (l .inv .1) (v .kept .1 .1 .1 .1 .1 .0) (v .ensures) (λ x q. ap rowOf (pixels (row i) (omega arith) size d x q)),
+      rows-next (l .inv .2) (u .kept .1 .1 .1 .1 .0) (u .ensures near) (λ x q. ap columnOf (pixels (row i) (omega arith) size d x q)),
     )
 
 returns : tie.Need-returns Inv-loop μ-loop
@@ -103,7 +103,7 @@ nearest-planes-spec =
     (λ c κs. search needs)
     (λ c. (passing-none (c .before .before .below .ensures), rows-none, rows-none))
     (λ c. omega (arith, row c))
-    (λ c κs. row-room (row (c .before)))
+    (λ c κs. row-room (row (c .before)) 0 (omega arith))
     (λ c. omega (arith, row (inside (passed c))))
     (λ c. omega (arith, row (inside (passed c))))
     rows-line-requires

@@ -13,7 +13,7 @@ returns c =
     let m = k .before .before .before .before in
     let o = m .before .before .before in
     let size = k .costs-line .kept .1 .0 ∙ m .nearer-line .kept .1 .0 in
-    row-done (o .args .y) (o .pre .inside) (o .pre .room) size (l .line .kept .0 ∙ size) (m .nearer-line .ensures) (k .costs-line .ensures)
+    row-done (o .args .y) (o .pre .out-inside) (o .pre .room) size (l .line .kept .0 ∙ size) (m .nearer-line .ensures) (k .costs-line .ensures)
     (l .line .ensures)
 
 pub row-pass-spec : {M : Type 1} → statement M

@@ -17,10 +17,11 @@ use Rattle.nearest.proofs.rows_line.Statement.{statement}
 use Rattle.nearest.proofs.rows_line.Tie as tie
 
 abbrev Inv-loop : tie.InvT-loop
-Inv-loop work row near w rows₀ end x₀ rows x = Filling (pos 0) (λ (k : ℕ). rowOf (pixelIn work row near w k)) row w rows₀ rows x
+Inv-loop work places near w row rows₀ end x₀ rows x =
+    Filling (pos 0) (λ (k : ℕ). rowOf (pixelIn work places near w k)) row w rows₀ rows x
 
 abbrev μ-loop : tie.MeasureT-loop
-μ-loop work row near w rows₀ end x₀ rows x = w - x
+μ-loop work places near w row rows₀ end x₀ rows x = w - x
 
 abbrev start : tie.In-loop Inv-loop μ-loop → tie.Start Inv-loop μ-loop
 start c = c .before .before .before

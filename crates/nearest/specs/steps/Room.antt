@@ -49,11 +49,12 @@ pub record CostRoom (work : List ℕ) (y near costs w : ℕ) : Type 0 where
   pub apart : near + w ≤ costs
   pub room : costs + w ≤ length work
 
--- row y of the plane, and three lines behind its n numbers
-pub record RowRoom (y n w : ℕ) (work : List ℕ) : Type 0 where
+-- row y of the plane, a line of it for the chosen columns, and three lines behind its n numbers
+pub record RowRoom (y n w out : ℕ) (work : List ℕ) : Type 0 where
   pub row-in : y < mostLength
   pub short : w ≤ mostLength
   pub inside : y * w + w ≤ n
+  pub out-inside : out + w ≤ n
   pub room : n + 3 * w ≤ length work
   pub row-low : (x : ℕ) → x < w → getD work (y * w + x) 0 ≤ noRow
   pub near-low : (x : ℕ) → x < w → getD work (n + x) 0 ≤ noRow
@@ -64,12 +65,12 @@ pub record ChosenRoom (work : List ℕ) (near w i : ℕ) : Type 0 where
   pub room : near + w ≤ length work
   pub chosen : i < w → getD work (near + i) 0 < mostLength
 
--- the chosen columns of a row have on-rows
-pub record PixelRoom (work : List ℕ) (row near w : ℕ) : Type 0 where
+-- the chosen columns, which stand from places on, have on-rows
+pub record PixelRoom (work : List ℕ) (places near w : ℕ) : Type 0 where
   pub short : w ≤ mostLength
-  pub apart : row + w ≤ near
+  pub apart : places + w ≤ near
   pub room : near + w ≤ length work
-  pub chosen : (x : ℕ) → x < w → getD work (row + x) 0 < w → getD work (near + getD work (row + x) 0) 0 < mostLength
+  pub chosen : (x : ℕ) → x < w → getD work (places + x) 0 < w → getD work (near + getD work (places + x) 0) 0 < mostLength
 
 -- the distance fits 32 bits
 pub record DistanceAtRoom (costs : List ℕ) (y x i : ℕ) : Type 0 where
@@ -79,10 +80,10 @@ pub record DistanceAtRoom (costs : List ℕ) (y x i : ℕ) : Type 0 where
   pub low : distanceAt (length costs) (elements costs) y x i ≤ 4294967295
 
 -- so do those of a row
-pub record DistanceLineRoom (work : List ℕ) (row costs w y long : ℕ) : Type 0 where
+pub record DistanceLineRoom (work : List ℕ) (places costs w y row long : ℕ) : Type 0 where
   pub short : w ≤ mostLength
-  pub apart : row + w ≤ costs
+  pub apart : places + w ≤ costs
   pub room : costs + w ≤ length work
-  pub out-room : row + w ≤ long
+  pub row-room : row + w ≤ long
   pub row-in : y < mostLength
-  pub low : (x : ℕ) → x < w → distanceIn work row costs w y x ≤ 4294967295
+  pub low : (x : ℕ) → x < w → distanceIn work places costs w y x ≤ 4294967295

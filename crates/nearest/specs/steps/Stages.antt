@@ -77,14 +77,14 @@ squareCost y r = cond (ltb r mostLength) (apart y r * apart y r) noCost
 abbrev pub costIn : ℕ → List ℕ → ℕ → ℕ → ℕ
 costIn y work near x = squareCost y (getD work (near + x) 0)
 
--- row y is passed: behind the n numbers of the plane stand the nearest on-rows and their costs, and in row y the chosen columns;
--- the other rows are as they were
-pub record RowDone (y n w : ℕ) (old new : List ℕ) : Type 0 where
+-- row y is passed: behind the n numbers of the plane stand the nearest on-rows and their costs, and from out on the chosen columns;
+-- the other numbers of the plane are as they were
+pub record RowDone (y n w out : ℕ) (old new : List ℕ) : Type 0 where
   pub near : (x : ℕ) → x < w → getD new (n + x) 0 ≡ nearerIn y old (y * w) n x
   pub costs : (x : ℕ) → x < w → getD new (n + w + x) 0 ≡ costIn y new n x
-  pub places : part new (y * w) w ≡ lineOf (part new (n + w) w)
-  pub before : (i : ℕ) → i < y * w → getD new i 0 ≡ getD old i 0
-  pub behind : (i : ℕ) → y * w + w ≤ i → i < n → getD new i 0 ≡ getD old i 0
+  pub places : part new out w ≡ lineOf (part new (n + w) w)
+  pub before : (i : ℕ) → i < out → getD new i 0 ≡ getD old i 0
+  pub behind : (i : ℕ) → out + w ≤ i → i < n → getD new i 0 ≡ getD old i 0
 
 -- ---- the answers of row y
 
@@ -101,11 +101,11 @@ pixelAt w near i = cond (ltb i w) (some (i, near i)) none
 
 -- that of the column chosen at place x
 abbrev pub pixelIn : List ℕ → ℕ → ℕ → ℕ → ℕ → Option (ℕ × ℕ)
-pixelIn work row near w x = pixelAt w (from work near) (from work row x)
+pixelIn work places near w x = pixelAt w (from work near) (from work places x)
 
 -- its squared distance from (y, x), from the column's cost
 unfoldable pub distanceAt : ℕ → (ℕ → ℕ) → ℕ → ℕ → ℕ → ℕ
 distanceAt w costs y x i = cond (ltb i w) (costs i + apart x i * apart x i) (suc y * suc y + x * x)
 
 abbrev pub distanceIn : List ℕ → ℕ → ℕ → ℕ → ℕ → ℕ → ℕ
-distanceIn work row costs w y x = distanceAt w (from work costs) y x (from work row x)
+distanceIn work places costs w y x = distanceAt w (from work costs) y x (from work places x)

@@ -238,14 +238,10 @@ impl Line {
 fn measure(call: Call, plane: &Plane, lents: &mut Lents, how: &How) -> Option<Line> {
     let scale = 1e9 / (plane.side * plane.side) as f64;
     let begin = format!("| {} | {} | {}", call.name(), plane.name, plane.side);
-    if let Some([before, after]) = &how.versions {
-        let how = (how.clock, how.runs);
-        let times = versions::times([before, after], call, how, lents, plane)?;
-        let [before, after] = times.map(|places| {
-            let medians = places.into_iter().map(median);
-            medians.sum::<f64>() / 4.0 * scale
-        });
-        let change = 100.0 * (after / before - 1.0);
+    if let Some(versions) = &how.versions {
+        let it = versions::compare(versions, call, (how.clock, how.runs), lents, plane)?;
+        let (before, after) = (it.before * scale, it.after * scale);
+        let change = 100.0 * (it.change - 1.0);
         println!("{begin} | {before:.2} | {after:.2} | {change:+.1} % |");
         return None;
     }
@@ -377,7 +373,9 @@ fn head(how: &How) {
         how.clock.name()
     );
     if how.versions.is_some() {
-        println!("Before and after: the mean over four places of the code.\n");
+        println!(
+            "The mean over four places of the code; change: of calls that follow each other.\n"
+        );
         println!("| call | on | side | before | after | change |\n|---|---|---:|---:|---:|---:|");
         return;
     }

@@ -2,9 +2,9 @@
 //!
 //! Where a loop lies in memory changes what it takes, by a tenth and more for the shortest ones, and
 //! each link puts it elsewhere. So each version is loaded at four places, a quarter of a line of the
-//! processor's cache apart, and is judged by the mean of what it takes there.
+//! processor's cache apart.
 
-use crate::{settings, Call, Clock, Lents, Plane};
+use crate::{median, settings, Call, Clock, Lents, Plane};
 use stand::raw::{StandCut, StandGround, StandLabels};
 use stand::{Rgb, Settings};
 use std::ffi::{c_char, c_int, c_void, CString};
@@ -108,29 +108,49 @@ fn place(archive: &Path, skipped: usize, shared: &Path) -> Result<Loaded, String
     Ok(unsafe { Loaded::of(library) })
 }
 
-/// The seconds of `runs` calls of each version at each place, in turn; none where a version has no
-/// such export.
-pub fn times(
-    versions: [&Version; 2],
+/// What a call of each version takes, in seconds, and by what factor it changed.
+pub struct Compared {
+    pub before: f64,
+    pub after: f64,
+    pub change: f64,
+}
+
+/// Calls both versions in turn, `runs` times at each place; none where one has no such export.
+///
+/// The factor is taken from calls that follow each other, so that what disturbs the machine for some
+/// time disturbs both: the median at each place, and of the places the geometric mean.
+pub fn compare(
+    versions: &[Version; 2],
     call: Call,
-    how: (Clock, usize),
+    (clock, runs): (Clock, usize),
     lents: &mut Lents,
     plane: &Plane,
-) -> Option<[Vec<Vec<f64>>; 2]> {
-    let (clock, runs) = how;
-    let mut times = versions.map(|version| vec![Vec::new(); version.0.len()]);
-    for run in 0..=runs {
-        for place in 0..4 {
-            for (version, times) in versions.iter().zip(&mut times) {
-                let time = version.0[place].time(call, clock, lents, plane)?;
-                // The first calls only make the memory ready.
-                if run > 0 {
-                    times[place].push(time);
-                }
-            }
-        }
+) -> Option<Compared> {
+    let [before, after] = versions;
+    let mut sums = Compared {
+        before: 0.0,
+        after: 0.0,
+        change: 0.0,
+    };
+    for (before, after) in before.0.iter().zip(&after.0) {
+        let mut pair = || {
+            let first = before.time(call, clock, lents, plane)?;
+            Some((first, after.time(call, clock, lents, plane)?))
+        };
+        // The first calls only make the memory ready.
+        pair()?;
+        let pairs: Vec<(f64, f64)> = (0..runs).map_while(|_| pair()).collect();
+        let of = |number: fn(&(f64, f64)) -> f64| median(pairs.iter().map(number).collect());
+        sums.before += of(|pair| pair.0);
+        sums.after += of(|pair| pair.1);
+        sums.change += of(|pair| pair.1 / pair.0).ln();
     }
-    Some(times)
+    let places = before.0.len() as f64;
+    Some(Compared {
+        before: sums.before / places,
+        after: sums.after / places,
+        change: (sums.change / places).exp(),
+    })
 }
 
 impl Loaded {
