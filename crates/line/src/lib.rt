@@ -27,12 +27,16 @@ fn high(cost: u32, i: usize) -> u64
 }
 
 // The first x at which a site is strictly better than one that lies step places to its left and is lower by rise.
+// The shortest steps, which are the most frequent, take no division.
 fn takeover(rise: usize, step: usize) -> usize
     requires { ⌜ (0 < step) × (step < mostLength) × (rise ≤ 2 * mostCost) ⌝ }
     ensures { λ r. ⌜ r ≡ rise / (2 * step) + 1 ⌝ }
 {
     if step == 1 {
         return rise / 2 + 1;
+    }
+    if step == 2 {
+        return rise / 4 + 1;
     }
     rise / (2 * step) + 1
 }
