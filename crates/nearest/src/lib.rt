@@ -163,8 +163,8 @@ fn rows_line(work: &[u32], places: usize, near: usize, w: usize, row: usize, row
 }
 
 // The chosen column of each place.
-// Rows and columns are written one after the other: to write both in one loop takes twice as long where the planes lie a power of two
-// apart, as those of 4096 by 4096 do, since some processors cannot then keep both in their first cache.
+// Rows and columns are written one after the other: both in one loop took up to twice as long on planes of 4096 by 4096, which lie a
+// power of two apart, and not on those of 4095 or 4000.
 fn columns_line(work: &[u32], places: usize, w: usize, row: usize, cols: &mut [i32])
     requires { ⌜ (w ≤ mostLength) × (places + w ≤ length (now work)) × (row + w ≤ length (now cols)) ⌝ }
     ensures { λ _. ⌜ ((near : ℕ → ℕ) → Written (pos 0)
