@@ -1,26 +1,91 @@
--- The text depends on the first mostInput bytes of the input alone, so a program that reads no more answers for an input of any
--- length.
+-- Which of the first bytes decide the answer, so that a program which reads no more answers for an input of any length; and that what
+-- was accepted before the lines of a header might come in any order still prints the same bytes.
 -- Assumes nothing.
 use mathlib.Core.Path.{_≡_, refl, sym, ap, _∙_}
+use mathlib.Core.Bool.{Bool, true, false, cond}
 use mathlib.Core.List.{List}
 use mathlib.Core.Logic.{⊎-elim}
-use Prim.Native.Nat.{ℕ, _≤_, _<_}
+use Prim.Native.Nat.{ℕ, _+_, _*_, _≤_, _<_}
 use native.Mathlib.Omega.{arith}
-use lib.ListN.{length, take}
+use lib.Dec.{eqb, leb}
+use lib.ListN.{length, getD, take}
 use lib.Seq.{take-all}
-use Rattle.plane.proofs.Search.{which}
-use Rattle.pam.specs.Picture.{mostInput}
+use Rattle.plane.specs.Refusal.{refusalOf}
+use Rattle.plane.specs.Search.{someBelow}
+use Rattle.plane.proofs.Search.{which, either}
+use Rattle.pam.specs.declared.header.Header.{Header}
+use Rattle.pam.specs.Header.{mostHeader, headerOf}
+use Rattle.pam.specs.EarlierHeader.{earlierOf}
+use Rattle.pam.specs.Picture.{mostPixels, mostInput, pixelsOf, alphaOf}
+use Rattle.pam.specs.Settings.{threshold}
 use Rattle.pam.specs.steps.File.{fileRefusal}
-use Rattle.pam.proofs.Files.{long-declined}
-use Rattle.cutfile.specs.Cutcard.{cardText}
+use Rattle.pam.proofs.Files.{header-first, long-declined}
+use Rattle.pam.proofs.EarlierLaws.{earlier-same}
+use Rattle.cutfile.specs.Cutcard.{refusalUnder, textUnder, cardRefusal, cardText}
+use Rattle.cutfile.specs.Earlier.{earlierRefusal, earlierText}
 use Rattle.cutfile.proofs.Texts.{card-declined}
 
+-- ---- the first bytes
+
+-- the text depends on the first mostInput bytes alone
 pub first-bytes : (input : List ℕ) → cardText (take mostInput input) ≡ cardText input
 first-bytes input =
     ⊎-elim {C = cardText (take mostInput input) ≡ cardText input}
     (λ (l : length input < mostInput). ap cardText (take-all mostInput input (omega arith)))
     (λ (l : mostInput ≤ length input).
     let d = long-declined input l in
-    sym (card-declined (take mostInput input) (fileRefusal input) (sym (d .first-same)) (d .declined))
-    ∙ card-declined input (fileRefusal input) refl (d .declined))
+    let first = take mostInput input in
+    let number = fileRefusal (headerOf input) input in
+    sym (card-declined (headerOf first) first number (sym (d .first-same)) (d .declined))
+    ∙ card-declined (headerOf input) input number refl (d .declined))
     (which (length input) mostInput)
+
+-- 8 is the answer to a header that is not accepted, and to nothing else
+eight : (a b c d : Bool) → _≡_ {A = ℕ} (cond a (cond b (cond c (cond d 0 6) 9) 10) 8) 8 → a ≡ false
+eight true true true true e = absurd (let z : _≡_ {A = ℕ} 0 8 = e in omega arith)
+eight true true true false e = absurd (let z : _≡_ {A = ℕ} 6 8 = e in omega arith)
+eight true true false d e = absurd (let z : _≡_ {A = ℕ} 9 8 = e in omega arith)
+eight true false c d e = absurd (let z : _≡_ {A = ℕ} 10 8 = e in omega arith)
+eight false b c d e = refl
+
+module _ (header : Header) (input : List ℕ) where
+  eight-header : refusalUnder header input ≡ 8 → header .ok ≡ false
+  unfolding refusalUnder refusalOf
+  eight-header e =
+      eight (header .ok) (leb (pixelsOf header) mostPixels) (eqb (length input) (header .body + 4 * pixelsOf header))
+      (someBelow (length (alphaOf header input)) (λ (i : ℕ). leb threshold (getD (alphaOf header input) i 0)))
+      e
+
+  header-eight : header .ok ≡ false → refusalUnder header input ≡ 8
+  unfolding refusalUnder refusalOf
+  header-eight e = rw e
+
+-- the first mostHeader bytes decide whether it is 8
+pub first-eight : (a b : List ℕ) → take mostHeader a ≡ take mostHeader b → cardRefusal a ≡ 8 → cardRefusal b ≡ 8
+first-eight a b e n =
+    let same : headerOf a ≡ headerOf b =
+    sym (header-first mostHeader a (omega arith)) ∙ ap headerOf e ∙ header-first mostHeader b (omega arith) in
+    header-eight (headerOf b) b (sym (ap (λ (h : Header). h .ok) same) ∙ eight-header (headerOf a) a n)
+
+-- ---- what was accepted at first
+
+pub record Kept (input : List ℕ) : Type 0 where
+  pub number-kept : cardRefusal input ≡ earlierRefusal input
+  pub text-kept : cardText input ≡ earlierText input
+
+-- every answer but 8 is as it was
+pub earlier-kept : (input : List ℕ) → (earlierRefusal input ≡ 8 → ⊥) → Kept input
+earlier-kept input n =
+    ⊎-elim {C = Kept input}
+    (λ (t : earlierOf input .ok ≡ true).
+    let same = earlier-same input t in
+    record {
+      number-kept = ap (λ (h : Header). refusalUnder h input) same;
+      text-kept = ap (λ (h : Header). textUnder h input) same;
+    })
+    (λ (t : earlierOf input .ok ≡ false). absurd (n (header-eight (earlierOf input) input t)))
+    (either (earlierOf input .ok))
+
+-- so a file that was accepted prints the same bytes
+pub earlier-accepted : (input : List ℕ) → earlierRefusal input ≡ 0 → cardText input ≡ earlierText input
+earlier-accepted input e = earlier-kept input (λ n. let z : _≡_ {A = ℕ} 0 8 = sym e ∙ n in omega arith) .text-kept

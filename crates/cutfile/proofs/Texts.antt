@@ -16,14 +16,15 @@ use Rattle.plane.specs.Search.{someBelow}
 use Rattle.plane.proofs.Search.{either}
 use Rattle.plane.proofs.Refusal.{declined-first, passed-first}
 use Rattle.text.specs.steps.Writing.{Wrote}
-use Rattle.pam.specs.Header.{headerOk, widthOf, heightOf, bodyAt}
+use Rattle.pam.specs.declared.header.Header.{Header}
+use Rattle.pam.specs.Header.{headerOf}
 use Rattle.pam.specs.Settings.{threshold}
 use Rattle.pam.specs.Picture.{mostPixels, pixelsOf, coloursOf, alphaOf, fileTests}
 use Rattle.pam.specs.steps.File.{fileRefusal}
-use Rattle.pam.proofs.Files.{file-ok, sides-of}
+use Rattle.pam.proofs.Files.{Small, header-small, file-ok, sides-of}
 use Rattle.pbm.specs.Text.{refusalText}
 use Rattle.pbm.proofs.Lengths.{mask-long, refusal-short}
-use Rattle.cutfile.specs.Cutcard.{alphaTest, cardRefusal, cutWith, cutText, cardText, mostText, CardCalled}
+use Rattle.cutfile.specs.Cutcard.{alphaTest, refusalUnder, textUnder, cutWith, cutText, cardText, mostText, CardCalled}
 use Rattle.cutfile.specs.steps.Room.{alphaRefusal, pictureText}
 use Rattle.cutfile.proofs.Pictures.{lines-short}
 
@@ -39,60 +40,69 @@ small true true false d = omega arith
 small true false c d = omega arith
 small false b c d = omega arith
 
-module _ (input : List ℕ) where
-  pub card-declined : (n : ℕ) → n ≡ fileRefusal input → (n ≡ 0 → ⊥) → refusalText n ≡ cardText input
-  unfolding cardText cardRefusal fileRefusal
+module _ (header : Header) (input : List ℕ) where
+  pub card-declined : (n : ℕ) → n ≡ fileRefusal header input → (n ≡ 0 → ⊥) → refusalText n ≡ textUnder header input
+  unfolding textUnder refusalUnder fileRefusal
   card-declined n e z =
-      let f = declined-first (fileTests input) (alphaTest (alphaOf input) ∷ []) (λ g. z (e ∙ g)) in
+      let f = declined-first (fileTests header input) (alphaTest (alphaOf header input) ∷ []) (λ g. z (e ∙ g)) in
       rw (f, ← e, ne-eqb n 0 z)
 
-  pub card-picture : fileRefusal input ≡ 0 → pictureText (coloursOf input) (alphaOf input) (heightOf input) (widthOf input) ≡ cardText input
-  unfolding cardText cardRefusal fileRefusal alphaRefusal pictureText
-  card-picture e = rw (passed-first (fileTests input) (alphaTest (alphaOf input) ∷ []) refl e)
+  pub card-picture : fileRefusal header input ≡ 0
+      → pictureText (coloursOf header input) (alphaOf header input) (header .height) (header .width) ≡ textUnder header input
+  unfolding textUnder refusalUnder fileRefusal alphaRefusal pictureText
+  card-picture e = rw (passed-first (fileTests header input) (alphaTest (alphaOf header input) ∷ []) refl e)
 
   -- a file that is declined for nothing has passed the tests of the file
-  accepted-file : cardRefusal input ≡ 0 → fileRefusal input ≡ 0
-  unfolding cardRefusal fileRefusal
+  accepted-file : refusalUnder header input ≡ 0 → fileRefusal header input ≡ 0
+  unfolding refusalUnder fileRefusal
   accepted-file e =
-      let n = fileRefusal input in
+      let n = fileRefusal header input in
       ⊎-elim {C = n ≡ 0}
       (λ (t : eqb n 0 ≡ true). eqb-true n 0 t)
-      (λ (t : eqb n 0 ≡ false). sym (declined-first (fileTests input) (alphaTest (alphaOf input) ∷ []) (eqb-false n 0 t)) ∙ e)
+      (λ (t : eqb n 0 ≡ false).
+      sym (declined-first (fileTests header input) (alphaTest (alphaOf header input) ∷ []) (eqb-false n 0 t)) ∙ e)
       (either (eqb n 0))
 
-  accepted-short : cardRefusal input ≡ 0 → length (cutText (coloursOf input) (alphaOf input) (heightOf input) (widthOf input)) ≤ mostText
-  unfolding cutText pixelsOf
-  accepted-short e =
-      let f = file-ok input (accepted-file e) in
-      let few : heightOf input * widthOf input ≤ mostPixels = f .few in
-      let s = sides-of input (f .header-ok) (f .few) in
-      let c = cutWith (coloursOf input) (alphaOf input) (heightOf input) (widthOf input) in
+  accepted-short : Small header → refusalUnder header input ≡ 0
+      → length (cutText (coloursOf header input) (alphaOf header input) (header .height) (header .width)) ≤ mostText
+  unfolding cutText
+  accepted-short small e =
+      let f = file-ok header input (accepted-file e) in
+      let few : header .height * header .width ≤ mostPixels = f .few in
+      let s = sides-of header small (f .header-ok) (f .few) in
+      let colours = coloursOf header input in
+      let alpha = alphaOf header input in
+      let c = cutWith colours alpha (header .height) (header .width) in
       omega (
         arith,
         few,
-        mask-long (c .mask) (heightOf input) (widthOf input) (c .box) (c .keyed),
-        lines-short (coloursOf input) (alphaOf input) (heightOf input) (widthOf input) (c .keyed) (s .tall) (s .wide),
+        mask-long (c .mask) (header .height) (header .width) (c .box) (c .keyed),
+        lines-short colours alpha (header .height) (header .width) (c .keyed) (s .tall) (s .wide),
       )
 
-  number-small : cardRefusal input < 10000
-  unfolding cardRefusal refusalOf
+  long : Bool
+  long = eqb (length input) (header .body + 4 * pixelsOf header)
+
+  number-small : refusalUnder header input < 10000
+  unfolding refusalUnder refusalOf long
   number-small =
-      small (headerOk input) (leb (pixelsOf input) mostPixels) (eqb (length input) (bodyAt input + 4 * pixelsOf input))
-      (someBelow (length (alphaOf input)) (λ (i : ℕ). leb threshold (getD (alphaOf input) i 0)))
+      small (header .ok) (leb (pixelsOf header) mostPixels) long
+      (someBelow (length (alphaOf header input)) (λ (i : ℕ). leb threshold (getD (alphaOf header input) i 0)))
 
-  pub file-small : fileRefusal input < 10000
-  unfolding fileRefusal refusalOf
-  file-small =
-      small (headerOk input) (leb (pixelsOf input) mostPixels) (eqb (length input) (bodyAt input + 4 * pixelsOf input)) true
+  pub file-small : fileRefusal header input < 10000
+  unfolding fileRefusal refusalOf long
+  file-small = small (header .ok) (leb (pixelsOf header) mostPixels) long true
 
-  -- no text is longer than mostText
-  pub text-short : length (cardText input) ≤ mostText
-  unfolding cardText
-  text-short =
-      ⊎-elim {C = length (cardText input) ≤ mostText}
-      (λ (e : eqb (cardRefusal input) 0 ≡ true). rw e (accepted-short (eqb-true (cardRefusal input) 0 e)))
-      (λ (e : eqb (cardRefusal input) 0 ≡ false). rw e (omega (arith, refusal-short (cardRefusal input) number-small)))
-      (either (eqb (cardRefusal input) 0))
+-- no text is longer than mostText
+pub text-short : (input : List ℕ) → length (cardText input) ≤ mostText
+unfolding textUnder
+text-short input =
+    let header = headerOf input in
+    let n = refusalUnder header input in
+    ⊎-elim {C = length (cardText input) ≤ mostText}
+    (λ (e : eqb n 0 ≡ true). rw e (accepted-short header input (header-small input) (eqb-true n 0 e)))
+    (λ (e : eqb n 0 ≡ false). rw e (omega (arith, refusal-short n (number-small header input))))
+    (either (eqb n 0))
 
 -- a buffer that is long enough, with the text written to its front
 pub whole : (input old new text : List ℕ) (r : ℕ) → mostText ≤ length old → text ≡ cardText input → Wrote text old new 0 r

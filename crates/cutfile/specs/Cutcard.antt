@@ -11,7 +11,8 @@ use Rattle.plane.specs.Refusal.{Test, refusalOf}
 use Rattle.plane.specs.Search.{someBelow}
 use Rattle.outline.specs.Border.{referenceOf}
 use Rattle.outline.specs.Cut.{Cut, cutOf}
-use Rattle.pam.specs.Header.{widthOf, heightOf}
+use Rattle.pam.specs.declared.header.Header.{Header}
+use Rattle.pam.specs.Header.{headerOf}
 use Rattle.pam.specs.Picture.{coloursOf, alphaOf, fileTests}
 use Rattle.pam.specs.Settings.{threshold, settings}
 use Rattle.pbm.specs.Text.{maskText, refusalText}
@@ -20,9 +21,9 @@ use Rattle.pbm.specs.Text.{maskText, refusalText}
 abbrev pub alphaTest : List ℕ → Test
 alphaTest alpha = (6, someBelow (length alpha) (λ (i : ℕ). leb threshold (getD alpha i 0)))
 
--- the number of an input's refusal (R59), 0 where it is accepted
-unfoldable pub cardRefusal : List ℕ → ℕ
-cardRefusal input = refusalOf (fileTests input ++ (alphaTest (alphaOf input) ∷ []))
+-- the number of the refusal of an input whose header says this (R59), 0 where it is accepted
+unfoldable pub refusalUnder : Header → List ℕ → ℕ
+refusalUnder header input = refusalOf (fileTests header input ++ (alphaTest (alphaOf header input) ∷ []))
 
 -- the picture cut with the settings of cutcard (R40)
 abbrev pub cutWith : List Float → List ℕ → ℕ → ℕ → Cut
@@ -32,12 +33,19 @@ cutWith colours alpha h w = cutOf colours alpha h w (referenceOf colours h w) se
 unfoldable pub cutText : List Float → List ℕ → ℕ → ℕ → List ℕ
 cutText colours alpha h w = let c = cutWith colours alpha h w in maskText (c .mask) h w (c .box) (c .keyed)
 
--- what is printed for an input (R41, R42)
-unfoldable pub cardText : List ℕ → List ℕ
-cardText input =
-    cond (eqb (cardRefusal input) 0)
-    (cutText (coloursOf input) (alphaOf input) (heightOf input) (widthOf input))
-    (refusalText (cardRefusal input))
+-- what is printed for an input whose header says this (R41, R42)
+unfoldable pub textUnder : Header → List ℕ → List ℕ
+textUnder header input =
+    cond (eqb (refusalUnder header input) 0)
+    (cutText (coloursOf header input) (alphaOf header input) (header .height) (header .width))
+    (refusalText (refusalUnder header input))
+
+-- the number of an input's refusal, and what is printed for it (R41, R42, R59)
+abbrev pub cardRefusal : List ℕ → ℕ
+cardRefusal input = refusalUnder (headerOf input) input
+
+abbrev pub cardText : List ℕ → List ℕ
+cardText input = textUnder (headerOf input) input
 
 -- no text is longer than this: 48 bytes for the lines before the pixels, and two for each of 2304 pixels (R41)
 abbrev pub mostText : ℕ

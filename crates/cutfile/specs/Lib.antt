@@ -1,2 +1,3 @@
 pub mod Cutcard
+pub mod Earlier
 pub mod steps

@@ -5,7 +5,7 @@ ghost use Prim.Native.Nat.{_≤_, _<_, _*_};
 ghost use lib.ListN.{length};
 ghost use Rattle.colour.specs.Colour.{coloursOk};
 ghost use Rattle.text.specs.steps.Writing.{Wrote};
-ghost use Rattle.pam.specs.Header.{heightOf, widthOf};
+ghost use Rattle.pam.specs.Header.{mostHeader, headerOf};
 ghost use Rattle.pam.specs.Picture.{coloursFrom, alphaFrom, coloursOf, alphaOf};
 ghost use Rattle.pam.specs.steps.File.{fileRefusal};
 ghost use Rattle.cutfile.specs.Cutcard.{mostText, CardCalled};
@@ -13,6 +13,7 @@ ghost use Rattle.cutfile.specs.steps.Room.{Room, pictureText, answerText
 use outline::Outcome;
 use pam::MOST_INPUT;
 use pam::MOST_PIXELS;
+use pam::header::Header;
 
 // How many colours the largest picture has, and how many numbers a work buffer for it holds at least.
 const MOST_COLOURS: usize = 6912;
@@ -86,7 +87,7 @@ fn read_and_cut(
     weights: &mut [f64],
     out: &mut [u8],
 ) -> usize
-    requires { ⌜ body ≤ 73 ⌝ }
+    requires { ⌜ body ≤ mostHeader ⌝ }
     requires { ⌜ Room h w (length (now colours)) (length (now alpha)) (length (now nearest)) (length (now shallow))
         (length (now deep)) (length (now marks)) (length (now mask)) (length (now weights)) (length (now out)) ⌝ }
     ensures { λ r. ⌜ Wrote
@@ -112,16 +113,15 @@ fn read_and_cut(
 }
 
 // The text of a file that is not declined for its header or its length.
-fn write_picture(input: &[u8], out: &mut [u8]) -> usize
-    requires { ⌜ (fileRefusal (now input) ≡ 0) × (mostText ≤ length (now out)) ⌝ }
+fn write_picture(header: Header, input: &[u8], out: &mut [u8]) -> usize
+    requires { ⌜ (header ≡ headerOf (now input)) × (fileRefusal header (now input) ≡ 0) × (mostText ≤ length (now out)) ⌝ }
     ensures { λ r. ⌜ Wrote
-        (pictureText (coloursOf (now (input .entry))) (alphaOf (now (input .entry)))
-        (heightOf (now (input .entry))) (widthOf (now (input .entry))))
+        (pictureText (coloursOf header (now (input .entry))) (alphaOf header (now (input .entry))) (header .height) (header .width))
         (now (out .entry)) (now (out .exit)) 0 r ⌝ }
 {
-    let h = pam::header::height(input);
-    let w = pam::header::width(input);
-    let body = pam::header::body_at(input);
+    let h = header.height;
+    let w = header.width;
+    let body = header.body;
     let n = h * w;
     let m = 3 * n;
     let mut colours = [0.0f64; MOST_COLOURS];
@@ -157,11 +157,12 @@ pub fn cutcard(input: &[u8], out: &mut [u8]) -> usize
     if out.len() < MOST_TEXT {
         return 0;
     }
-    let refusal = pam::file_refusal(input);
+    let header = pam::header::read_header(input);
+    let refusal = pam::file_refusal(header, input);
     if refusal != 0 {
         return pbm::write_refusal(out, refusal);
     }
-    write_picture(input, out)
+    write_picture(header, input, out)
 }
 
 // From standard input, until it ends or MOST_INPUT bytes are read, to standard output: what the programs run. No byte after

@@ -1,100 +1,200 @@
--- What an accepted file is like, and that a file as long as mostInput is declined by its first bytes.
+-- What is known of a file that is not declined, and that a long one is declined.
 -- Assumes nothing.
 use mathlib.Core.Path.{_≡_, refl, sym, ap, _∙_}
-use mathlib.Core.Bool.{Bool, true, false, cond, not, _&&_}
+use mathlib.Core.Bool.{Bool, true, false, cond, _&&_}
 use mathlib.Core.List.{List, [], _∷_}
 use mathlib.Core.Logic.{⊎-elim}
-use Prim.Native.Nat.{ℕ, zero, suc, _+_, _-_, _*_, _^_, _≤_, _<_}
-use native.Mathlib.Nat.{mul-suc, mul-comm, pow-le-pow-right}
+use Prim.Native.Nat.{ℕ, zero, suc, _+_, _*_, _≤_}
+use native.Mathlib.Nat.{mul-suc, mul-comm}
 use native.Mathlib.Omega.{arith}
 use lib.Dec.{eqb, leb}
 use lib.ListN.{length, getD, take, drop, length-take}
-use lib.Seq.{drop-cons, length-take-le, getD-take}
-use borrow.Author.Tests.{ne-eqb, leb-true, eqb-true, eqb-false, not-true}
+use lib.Seq.{length-take-le, take-take}
+use borrow.Author.Tests.{ne-eqb, leb-true, eqb-true}
 use Rattle.plane.specs.Refusal.{refusalOf}
-use Rattle.plane.proofs.Search.{either}
+use Rattle.plane.proofs.Search.{either, not-both}
 use Rattle.plane.proofs.Refusal.{and-true, passed}
-use Rattle.text.specs.Decimal.{isDigit, valueFrom, valueOf, digitsUpto, numberUpto}
-use Rattle.text.proofs.Decimal.{digit-is, digit-inside, digits-most, value-below, stand}
-use Rattle.pam.specs.Header.{widthText, heightText, tailText, startsAt, mostDigits, digitsAt, isNumber}
-use Rattle.pam.specs.Header.{widthAt, middleAt, heightAt, tailAt, bodyAt, widthOf, heightOf, headerOk}
+use Rattle.text.specs.Decimal.{valueOf}
+use Rattle.pam.specs.declared.header.Header.{Header}
+use Rattle.pam.specs.Header.{inFront, linesOf, countOf, startsAt, isText, isNumeral, isSide, isOther}
+use Rattle.pam.specs.Header.{firstText, widthName, heightName, depthText, maxvalText, tupltypeText, endText}
+use Rattle.pam.specs.Header.{fieldLines, fieldsOk, sideFrom, sideIn, bytesOf, linesOk, mostHeader, headerBy, headerOf}
 use Rattle.pam.specs.Picture.{mostPixels, mostInput, pixelsOf, fileTests}
 use Rattle.pam.specs.steps.File.{fileRefusal}
+use Rattle.pam.proofs.Reading.{text-long}
+use Rattle.pam.proofs.Numbers.{numeral, value-some, value-most}
 
--- ---- numbers in the header
+-- ---- the sides
 
--- a value does not fall with more digits
-value-grows : (v : ℕ) (l : List ℕ) → v ≤ valueFrom v l
-unfolding valueFrom
-value-grows v [] = omega arith
-value-grows v (b ∷ l) = omega (arith, value-grows (10 * v + (b - 48)) l)
+module _ (name : List ℕ) where
+  -- the number of a line that gives a side
+  side-number : (line : List ℕ) → isSide name line ≡ true → isNumeral (drop (length name) line) ≡ true
+  unfolding isSide
+  side-number line t = and-true (startsAt line 0 name) (isNumeral (drop (length name) line)) t .1
 
-module _ (input : List ℕ) (at : ℕ) where
-  digit-first : (t : Bool) (n : ℕ) → 1 ≤ cond t (suc n) 0 → t ≡ true
-  digit-first true n l = refl
-  digit-first false n l = absurd (omega arith)
+  -- a side that some line gives is at least 1, and none is above 99999
+  side-some : (lines : List (List ℕ)) (v : ℕ) → 1 ≤ v + countOf (isSide name) lines → 1 ≤ sideIn name v lines
+  unfolding sideIn sideFrom countOf
+  side-some [] v l = omega arith
+  side-some (line ∷ lines) v l =
+      ⊎-elim {C = 1 ≤ sideIn name v (line ∷ lines)}
+      (λ (t : isSide name line ≡ true).
+      let some = value-some (drop (length name) line) (numeral _ (side-number line t)) in
+      rw t (side-some lines (valueOf (drop (length name) line)) (omega arith)))
+      (λ (t : isSide name line ≡ false).
+      let m : 1 ≤ v + (0 + countOf (isSide name) lines) = rw t at l in
+      rw t (side-some lines v (omega arith)))
+      (either (isSide name line))
 
-  -- a number that stands in the input is at least 1
-  pub number-some : isNumber input at ≡ true → 1 ≤ numberUpto mostDigits input at
-  unfolding isNumber numberUpto digitsUpto valueFrom
-  number-some e =
-      let a = and-true (leb 1 (digitsAt input at)) (not (eqb (getD input at 0) 48)) e in
-      let d = digit-first (isDigit (getD input at 0)) _ (leb-true 1 (digitsAt input at) (a .0)) in
-      let r = digit-is (getD input at 0) d in
-      let z = eqb-false (getD input at 0) 48 (not-true (eqb (getD input at 0) 48) (a .1)) in
-      let l = digit-inside input at d in
-      let n = digitsUpto 4 input (suc at) in
-      rw (d, drop-cons input at 0 l) (omega (arith, r .least, value-grows (10 * 0 + (getD input at 0 - 48)) (take n (drop (suc at) input))))
+  side-most : (lines : List (List ℕ)) (v : ℕ) → v ≤ 99999 → sideIn name v lines ≤ 99999
+  unfolding sideIn sideFrom
+  side-most [] v l = l
+  side-most (line ∷ lines) v l =
+      ⊎-elim {C = sideIn name v (line ∷ lines) ≤ 99999}
+      (λ (t : isSide name line ≡ true).
+      rw t (side-most lines _ (value-most (drop (length name) line) (numeral _ (side-number line t)))))
+      (λ (t : isSide name line ≡ false). rw t (side-most lines v l))
+      (either (isSide name line))
 
-  -- and has at most five digits
-  pub number-most : numberUpto mostDigits input at ≤ 99999
-  unfolding numberUpto
-  number-most =
-      let l = take (digitsAt input at) (drop at input) in
-      let k : length l ≤ 5 = rw length-take (omega (arith, digits-most input mostDigits at)) in
-      let b : valueOf l < 10 ^ (0 + length l) = value-below 0 0 l (stand input mostDigits at .all) (omega arith) in
-      let p : 10 ^ (0 + length l) ≤ 100000 = pow-le-pow-right {n = 10} (omega arith) {i = 0 + length l} {j = 5} (omega arith) in
-      omega arith
+-- ---- how long the header is
+
+-- lines with their newlines are part of the text
+bytes-front : (b : ℕ) (lines : List (List ℕ)) → bytesOf (inFront b lines) ≤ suc (bytesOf lines)
+unfolding bytesOf inFront
+bytes-front b [] = omega arith
+bytes-front b (line ∷ lines) = omega arith
+
+bytes-most : (text : List ℕ) → bytesOf (linesOf text) ≤ length text
+unfolding bytesOf linesOf
+bytes-most [] = omega arith
+bytes-most (b ∷ text) =
+    ⊎-elim {C = bytesOf (linesOf (b ∷ text)) ≤ suc (length text)}
+    (λ (t : eqb b 10 ≡ true). rw t (omega (arith, bytes-most text)))
+    (λ (t : eqb b 10 ≡ false). rw t (omega (arith, bytes-most text, bytes-front b (linesOf text))))
+    (either (eqb b 10))
+
+-- ENDHDR is one of the lines that come after the fields
+field-bytes : (lines : List (List ℕ)) → 1 ≤ countOf (isText endText) lines → bytesOf (fieldLines lines) + 7 ≤ bytesOf lines
+unfolding bytesOf fieldLines countOf
+field-bytes [] l = absurd (omega arith)
+field-bytes (line ∷ lines) l =
+    ⊎-elim {C = bytesOf (fieldLines (line ∷ lines)) + 7 ≤ bytesOf (line ∷ lines)}
+    (λ (t : isText endText line ≡ true). rw t (omega (arith, text-long endText line t)))
+    (λ (t : isText endText line ≡ false).
+    let m : 1 ≤ 0 + countOf (isText endText) lines = rw t at l in
+    rw t (omega (arith, field-bytes lines (omega arith))))
+    (either (isText endText line))
+
+-- ---- a header
+
+-- what an accepted header is made of
+pub record LinesOk (lines : List (List ℕ)) : Type 0 where
+  pub first-is : isText firstText (getD lines 0 []) ≡ true
+  pub end-stands : 1 ≤ countOf (isText endText) (drop 1 lines)
+  pub fields-ok : fieldsOk (fieldLines (drop 1 lines)) ≡ true
+
+pub lines-ok : (lines : List (List ℕ)) → linesOk lines ≡ true → LinesOk lines
+unfolding linesOk
+lines-ok lines e =
+    let f = isText firstText (getD lines 0 []) in
+    let g = leb 1 (countOf (isText endText) (drop 1 lines)) in
+    let a = and-true (f && g) (fieldsOk (fieldLines (drop 1 lines))) e in
+    let b = and-true f g (a .0) in
+    record { first-is = b .0; end-stands = leb-true _ _ (b .1); fields-ok = a .1 }
+
+pub record FieldsOk (lines : List (List ℕ)) : Type 0 where
+  pub one-width : countOf (isSide widthName) lines ≡ 1
+  pub one-height : countOf (isSide heightName) lines ≡ 1
+  pub one-depth : countOf (isText depthText) lines ≡ 1
+  pub one-maxval : countOf (isText maxvalText) lines ≡ 1
+  pub one-tupltype : countOf (isText tupltypeText) lines ≡ 1
+  pub no-other : countOf isOther lines ≡ 0
+
+pub fields-are : (lines : List (List ℕ)) → fieldsOk lines ≡ true → FieldsOk lines
+unfolding fieldsOk
+fields-are lines e =
+    let w = eqb (countOf (isSide widthName) lines) 1 in
+    let h = eqb (countOf (isSide heightName) lines) 1 in
+    let d = eqb (countOf (isText depthText) lines) 1 in
+    let m = eqb (countOf (isText maxvalText) lines) 1 in
+    let t = eqb (countOf (isText tupltypeText) lines) 1 in
+    let o5 = and-true (w && h && d && m && t) (eqb (countOf isOther lines) 0) e in
+    let o4 = and-true (w && h && d && m) t (o5 .0) in
+    let o3 = and-true (w && h && d) m (o4 .0) in
+    let o2 = and-true (w && h) d (o3 .0) in
+    let o1 = and-true w h (o2 .0) in
+    record {
+      one-width = eqb-true _ _ (o1 .0);
+      one-height = eqb-true _ _ (o1 .1);
+      one-depth = eqb-true _ _ (o2 .1);
+      one-maxval = eqb-true _ _ (o3 .1);
+      one-tupltype = eqb-true _ _ (o4 .1);
+      no-other = eqb-true _ _ (o5 .1);
+    }
+
+-- what a header says is small, and the sides that an accepted one gives are at least 1
+pub record Small (header : Header) : Type 0 where
+  pub height-most : header .height ≤ 99999
+  pub width-most : header .width ≤ 99999
+  pub body-most : header .body ≤ mostHeader
+  pub height-some : header .ok ≡ true → 1 ≤ header .height
+  pub width-some : header .ok ≡ true → 1 ≤ header .width
+
+small-by : (lines : List (List ℕ)) → bytesOf lines ≤ mostHeader → Small (headerBy lines)
+unfolding headerBy bytesOf isText startsAt
+small-by lines l =
+    ⊎-elim {C = Small (headerBy lines)}
+    (λ (t : linesOk lines ≡ true).
+    let o = lines-ok lines t in
+    let fields = fieldLines (drop 1 lines) in
+    let f = fields-are fields (o .fields-ok) in
+    rw t
+    (record {
+      height-most = side-most heightName fields 0 (omega arith);
+      width-most = side-most widthName fields 0 (omega arith);
+      body-most = omega (arith, l, after-first lines (o .first-is), field-bytes (drop 1 lines) (o .end-stands));
+      height-some = λ _. side-some heightName fields 0 (omega (arith, f .one-height));
+      width-some = λ _. side-some widthName fields 0 (omega (arith, f .one-width));
+    }))
+    (λ (t : linesOk lines ≡ false).
+    rw t
+    (record {
+      height-most = omega arith;
+      width-most = omega arith;
+      body-most = omega arith;
+      height-some = λ e. not-both false e refl;
+      width-some = λ e. not-both false e refl;
+    }))
+    (either (linesOk lines))
+  where
+    after-first : (all : List (List ℕ)) → isText firstText (getD all 0 []) ≡ true → 3 + bytesOf (drop 1 all) ≤ bytesOf all
+    after-first [] e = not-both false e refl
+    after-first (first ∷ rest) e = omega (arith, text-long firstText first e)
+
+pub header-small : (input : List ℕ) → Small (headerOf input)
+unfolding headerOf
+header-small input =
+    let front = take mostHeader input in
+    let long : length front ≤ mostHeader = rw length-take (omega arith) in
+    small-by (linesOf front) (omega (arith, bytes-most front))
 
 -- ---- an accepted file
 
-pub record FileOk (input : List ℕ) : Type 0 where
-  pub header-ok : headerOk input ≡ true
-  pub few : pixelsOf input ≤ mostPixels
-  pub long : length input ≡ bodyAt input + 4 * pixelsOf input
+pub record FileOk (header : Header) (input : List ℕ) : Type 0 where
+  pub header-ok : header .ok ≡ true
+  pub few : pixelsOf header ≤ mostPixels
+  pub long : length input ≡ header .body + 4 * pixelsOf header
 
-pub file-ok : (input : List ℕ) → fileRefusal input ≡ 0 → FileOk input
+pub file-ok : (header : Header) (input : List ℕ) → fileRefusal header input ≡ 0 → FileOk header input
 unfolding fileRefusal
-file-ok input e =
-    let t = passed (fileTests input) refl e in
+file-ok header input e =
+    let t = passed (fileTests header input) refl e in
     record { header-ok = t .0; few = leb-true _ _ (t .1 .0); long = eqb-true _ _ (t .1 .1 .0) }
 
--- the parts of a header
-pub record HeaderParts (input : List ℕ) : Type 0 where
-  pub first-text : startsAt input 0 widthText ≡ true
-  pub width-there : isNumber input widthAt ≡ true
-  pub middle-text : startsAt input (middleAt input) heightText ≡ true
-  pub height-there : isNumber input (heightAt input) ≡ true
-  pub last-text : startsAt input (tailAt input) tailText ≡ true
-
-pub header-parts : (input : List ℕ) → headerOk input ≡ true → HeaderParts input
-unfolding headerOk
-header-parts input e =
-    let s = startsAt input 0 widthText in
-    let w = isNumber input widthAt in
-    let m = startsAt input (middleAt input) heightText in
-    let h = isNumber input (heightAt input) in
-    let t = startsAt input (tailAt input) tailText in
-    let a = and-true (s && w && m && h) t e in
-    let b = and-true (s && w && m) h (a .0) in
-    let c = and-true (s && w) m (b .0) in
-    let d = and-true s w (c .0) in
-    record { first-text = d .0; width-there = d .1; middle-text = c .1; height-there = b .1; last-text = a .1 }
-
 -- a side is at most the product
-side-most : (a b : ℕ) → 1 ≤ b → a ≤ a * b
-side-most a zero l = absurd (omega arith)
-side-most a (suc b) l = rw (mul-suc a b) (omega arith)
+factor-most : (a b : ℕ) → 1 ≤ b → a ≤ a * b
+factor-most a zero l = absurd (omega arith)
+factor-most a (suc b) l = rw (mul-suc a b) (omega arith)
 
 -- the sides of a picture that is small enough
 pub record SidesOk (h w : ℕ) : Type 0 where
@@ -103,124 +203,36 @@ pub record SidesOk (h w : ℕ) : Type 0 where
   pub tall : h ≤ mostPixels
   pub wide : w ≤ mostPixels
 
-pub sides-of : (input : List ℕ) → headerOk input ≡ true → pixelsOf input ≤ mostPixels → SidesOk (heightOf input) (widthOf input)
-unfolding pixelsOf heightOf widthOf
-sides-of input e few =
-    let o = header-parts input e in
-    let w = numberUpto mostDigits input widthAt in
-    let h = numberUpto mostDigits input (heightAt input) in
-    let p : 1 ≤ w = number-some input widthAt (o .width-there) in
-    let q : 1 ≤ h = number-some input (heightAt input) (o .height-there) in
-    let x = side-most h w p in
-    let y : w ≤ h * w = rw (mul-comm h w) (side-most w h q) in
-    record { some-rows = q; some-columns = p; tall = omega arith; wide = omega arith }
-
--- ---- where the parts of the header stand at most
-
-module _ (input : List ℕ) where
-  middle-most : middleAt input ≤ 14
-  unfolding middleAt
-  middle-most = omega (arith, digits-most input mostDigits widthAt)
-
-  height-most : heightAt input ≤ 22
-  unfolding heightAt
-  height-most = omega (arith, middle-most)
-
-  tail-most : tailAt input ≤ 27
-  unfolding tailAt
-  tail-most = omega (arith, height-most, digits-most input mostDigits (heightAt input))
-
-  pub body-most : bodyAt input ≤ 73
-  unfolding bodyAt
-  body-most = omega (arith, tail-most)
-
--- ---- inputs that agree on their first 73 bytes have the same header
-
-module _ (a b : List ℕ) (same : (i : ℕ) → i < 73 → getD a i 0 ≡ getD b i 0) where
-  starts-same : (text : List ℕ) (at : ℕ) → at + length text ≤ 73 → startsAt a at text ≡ startsAt b at text
-  unfolding startsAt
-  starts-same [] at l = refl
-  starts-same (c ∷ text) at l = rw (same at (omega arith), starts-same text (suc at) (omega arith))
-
-  digits-same : (k at : ℕ) → at + k ≤ 73 → digitsUpto k a at ≡ digitsUpto k b at
-  unfolding digitsUpto
-  digits-same zero at l = refl
-  digits-same (suc k) at l = rw (same at (omega arith), digits-same k (suc at) (omega arith))
-
-  there-same : (k at : ℕ) → at + k ≤ 73 → take (digitsUpto k a at) (drop at a) ≡ take (digitsUpto k b at) (drop at b)
-  unfolding digitsUpto
-  there-same zero at l = refl
-  there-same (suc k) at l =
-      ⊎-elim {C = take (digitsUpto (suc k) a at) (drop at a) ≡ take (digitsUpto (suc k) b at) (drop at b)}
-      (λ (d : isDigit (getD a at 0) ≡ true).
-      let s = same at (omega arith) in
-      let e : isDigit (getD b at 0) ≡ true = sym (ap isDigit s) ∙ d in
-      rw (d, e, drop-cons a at 0 (digit-inside a at d), drop-cons b at 0 (digit-inside b at e), s, there-same k (suc at) (omega arith)))
-      (λ (d : isDigit (getD a at 0) ≡ false).
-      let e : isDigit (getD b at 0) ≡ false = sym (ap isDigit (same at (omega arith))) ∙ d in
-      rw (d, e))
-      (either (isDigit (getD a at 0)))
-
-  value-same : (k at : ℕ) → at + k ≤ 73 → numberUpto k a at ≡ numberUpto k b at
-  unfolding numberUpto
-  value-same k at l = ap valueOf (there-same k at l)
-
-  number-same : (at : ℕ) → at + 5 ≤ 73 → isNumber a at ≡ isNumber b at
-  unfolding isNumber
-  number-same at l = rw (digits-same mostDigits at l, same at (omega arith))
-
-  middle-same : middleAt a ≡ middleAt b
-  unfolding middleAt
-  middle-same = rw (digits-same mostDigits widthAt (omega arith))
-
-  height-at-same : heightAt a ≡ heightAt b
-  unfolding heightAt
-  height-at-same = rw middle-same
-
-  tail-same : tailAt a ≡ tailAt b
-  unfolding tailAt
-  tail-same = rw (digits-same mostDigits (heightAt a) (omega (arith, height-most a)), height-at-same)
-
-  pixels-same : pixelsOf a ≡ pixelsOf b
-  unfolding pixelsOf widthOf heightOf
-  pixels-same =
-      let w = value-same mostDigits widthAt (omega arith) in
-      let h = value-same mostDigits (heightAt a) (omega (arith, height-most a)) in
-      rw (w, h, height-at-same)
-
-  header-same : headerOk a ≡ headerOk b
-  unfolding headerOk
-  header-same =
-      rw (
-        starts-same widthText 0 (omega arith),
-        number-same widthAt (omega arith),
-        starts-same heightText (middleAt a) (omega (arith, middle-most a)),
-        number-same (heightAt a) (omega (arith, height-most a)),
-        starts-same tailText (tailAt a) (omega (arith, tail-most a)),
-        middle-same,
-        height-at-same,
-        tail-same,
-      )
+pub sides-of : (header : Header) → Small header → header .ok ≡ true → pixelsOf header ≤ mostPixels
+    → SidesOk (header .height) (header .width)
+sides-of header s e few =
+    let h = header .height in
+    let w = header .width in
+    let x = factor-most h w (s .width-some e) in
+    let y : w ≤ h * w = rw (mul-comm h w) (factor-most w h (s .height-some e)) in
+    record { some-rows = s .height-some e; some-columns = s .width-some e; tall = omega arith; wide = omega arith }
 
 -- ---- a long input is declined, by its header
 
--- the number of a file whose length is not that of its picture
-longRefusal : List ℕ → ℕ
-longRefusal input = refusalOf ((8, headerOk input) ∷ (10, leb (pixelsOf input) mostPixels) ∷ (9, false) ∷ [])
+-- the header depends on the first mostHeader bytes alone, and with it the refusal 8
+pub header-first : (n : ℕ) (input : List ℕ) → mostHeader ≤ n → headerOf (take n input) ≡ headerOf input
+unfolding headerOf
+header-first n input l = ap (λ (front : List ℕ). headerBy (linesOf front)) (take-take mostHeader n input l)
 
-long-number : (input : List ℕ) → mostInput ≤ length input → fileRefusal input ≡ longRefusal input
+-- the number of a file whose length is not that of its picture
+longRefusal : Header → ℕ
+longRefusal header = refusalOf ((8, header .ok) ∷ (10, leb (pixelsOf header) mostPixels) ∷ (9, false) ∷ [])
+
+long-number : (input : List ℕ) → mostInput ≤ length input → fileRefusal (headerOf input) input ≡ longRefusal (headerOf input)
 unfolding fileRefusal longRefusal refusalOf
 long-number input l =
-    ⊎-elim {C = fileRefusal input ≡ longRefusal input}
-    (λ (t : leb (pixelsOf input) mostPixels ≡ true).
-    let few = leb-true (pixelsOf input) mostPixels t in
-    rw (ne-eqb (length input) (bodyAt input + 4 * pixelsOf input) (λ e. omega (arith, e, body-most input))))
-    (λ (t : leb (pixelsOf input) mostPixels ≡ false). rw t)
-    (either (leb (pixelsOf input) mostPixels))
-
-long-same : (a b : List ℕ) → ((i : ℕ) → i < 73 → getD a i 0 ≡ getD b i 0) → longRefusal a ≡ longRefusal b
-unfolding longRefusal
-long-same a b same = rw (header-same a b same, pixels-same a b same)
+    let header = headerOf input in
+    ⊎-elim {C = fileRefusal header input ≡ longRefusal header}
+    (λ (t : leb (pixelsOf header) mostPixels ≡ true).
+    let few = leb-true (pixelsOf header) mostPixels t in
+    rw (ne-eqb (length input) (header .body + 4 * pixelsOf header) (λ e. omega (arith, e, header-small input .body-most))))
+    (λ (t : leb (pixelsOf header) mostPixels ≡ false). rw t)
+    (either (leb (pixelsOf header) mostPixels))
 
 long-some : (a b : Bool) → _≡_ {A = ℕ} (cond a (cond b 9 10) 8) 0 → ⊥
 long-some true true e = let z : _≡_ {A = ℕ} 9 0 = e in omega arith
@@ -229,8 +241,8 @@ long-some false b e = let z : _≡_ {A = ℕ} 8 0 = e in omega arith
 
 -- a file as long as mostInput is declined, and its first mostInput bytes are declined by the same number
 pub record LongDeclined (input : List ℕ) : Type 0 where
-  pub declined : fileRefusal input ≡ 0 → ⊥
-  pub first-same : fileRefusal (take mostInput input) ≡ fileRefusal input
+  pub declined : fileRefusal (headerOf input) input ≡ 0 → ⊥
+  pub first-same : let first = take mostInput input in fileRefusal (headerOf first) first ≡ fileRefusal (headerOf input) input
 
 pub long-declined : (input : List ℕ) → mostInput ≤ length input → LongDeclined input
 unfolding longRefusal refusalOf
@@ -238,9 +250,7 @@ long-declined input l =
     let t = take mostInput input in
     let k : length t ≡ mostInput = length-take-le mostInput input l in
     record {
-      declined = λ e. long-some (headerOk input) (leb (pixelsOf input) mostPixels) (sym (long-number input l) ∙ e);
+      declined = λ e. long-some (headerOf input .ok) (leb (pixelsOf (headerOf input)) mostPixels) (sym (long-number input l) ∙ e);
       first-same =
-          long-number t (omega arith)
-          ∙ long-same t input (λ i g. getD-take mostInput input i 0 (omega arith))
-          ∙ sym (long-number input l);
+          long-number t (omega arith) ∙ ap longRefusal (header-first mostInput input (omega arith)) ∙ sym (long-number input l);
     }

@@ -1,220 +1,322 @@
--- `headerOk` accepts the inputs that start with the header of R38, for any width and height of 1 to 5 digits, and no other.
+-- Accepted are the inputs that start with P7, lines of R38 in any order and ENDHDR, in at most 4096 bytes, and no others; the sides are
+-- the numbers on the lines WIDTH and HEIGHT.
 -- Assumes nothing.
 use mathlib.Core.Path.{_≡_, refl, sym, ap, _∙_}
-use mathlib.Core.Bool.{Bool, true, false, not, _&&_}
+use mathlib.Core.Bool.{Bool, true, false, cond, not}
 use mathlib.Core.List.{List, [], _∷_, _++_, append-assoc}
 use mathlib.Core.Logic.{⊎-elim}
-use Prim.Native.Nat.{ℕ, zero, suc, _+_, _-_, _≤_, _<_}
-use native.Mathlib.Nat.{add-zero}
+use Prim.Native.Nat.{ℕ, _+_, _-_, _≤_}
 use native.Mathlib.Omega.{arith}
-use lib.Dec.{eqb, leb}
-use lib.ListN.{length, getD, take, drop, length-append, take-append-drop, length-drop, List·getD-append, List·getD-eq-default}
-use lib.Seq.{drop-cons, drop-drop, drop-at, take-at, getD-drop, length-take-le}
-use borrow.Author.Tests.{eq-eqb, ne-eqb, le-leb, leb-true, eqb-true, eqb-false, not-true}
-use Rattle.plane.proofs.Search.{which}
+use lib.Dec.{eqb}
+use lib.ListN.{length, take, drop, length-append, length-take, length-drop, take-append-drop}
+use lib.Seq.{drop-at, take-append-add}
+use borrow.Author.Tests.{le-leb, not-true}
+use Rattle.plane.proofs.Search.{either, not-both, and-is}
 use Rattle.plane.proofs.Refusal.{and-true}
-use Rattle.text.specs.Decimal.{isDigit, allDigits, valueOf, digitsUpto, numberUpto}
-use Rattle.text.proofs.Decimal.{digits-most, stand}
-use Rattle.pam.specs.Header.{widthText, heightText, tailText, startsAt, mostDigits, digitsAt, isNumber}
-use Rattle.pam.specs.Header.{widthAt, middleAt, heightAt, tailAt, bodyAt, widthOf, heightOf, headerOk}
-use Rattle.pam.specs.HeaderText.{Numeral, headerText}
-use Rattle.pam.proofs.Files.{header-parts}
+use Rattle.text.specs.Decimal.{valueOf}
+use Rattle.pam.specs.Header.{inFront, linesOf, countOf, startsAt, isText, isNumeral, isSide, isSkipped, isOther}
+use Rattle.pam.specs.Header.{firstText, widthName, heightName, endText}
+use Rattle.pam.specs.Header.{fieldLines, fieldsOk, sideFrom, sideIn, bytesOf, linesOk, mostHeader, headerBy, headerOf}
+use Rattle.pam.specs.HeaderText.{isPlain, allPlain, textOf, headerText, Stands, Lines}
+use Rattle.pam.proofs.Reading.{starts-is, starts-front, text-is}
+use Rattle.pam.proofs.Lines.{first-line, lines-text}
+use Rattle.pam.proofs.Numbers.{numeral}
+use Rattle.pam.proofs.Files.{fields-are, lines-ok}
 
--- ---- what stands at a place
+-- ---- lines and their text
 
-module _ (input : List ℕ) where
-  -- the byte at a place is the first of what stands there
-  byte-first : (at : ℕ) → getD input at 0 ≡ getD (drop at input) 0 0
-  byte-first at = sym (getD-drop at input 0 0 ∙ ap (λ (k : ℕ). getD input k 0) (add-zero at))
+text-append : (a b : List (List ℕ)) → textOf (a ++ b) ≡ textOf a ++ textOf b
+unfolding textOf
+text-append [] b = refl
+text-append (line ∷ a) b =
+    ap (λ (t : List ℕ). line ++ (10 ∷ t)) (text-append a b) ∙ sym (append-assoc line (10 ∷ textOf a) (textOf b))
 
-  drop-more : (at : ℕ) (p q : List ℕ) → drop at input ≡ p ++ q → drop (at + length p) input ≡ q
-  drop-more at p q e = sym (drop-drop (length p) at input) ∙ ap (drop (length p)) e ∙ drop-at p q (length p) refl
+-- lines without newlines are the lines of their text
+line-first : (line rest : List ℕ) → isPlain line ≡ true → linesOf (line ++ (10 ∷ rest)) ≡ line ∷ linesOf rest
+unfolding linesOf inFront isPlain
+line-first [] rest e = refl
+line-first (b ∷ line) rest e =
+    let a = and-true (not (eqb b 10)) (isPlain line) e in
+    rw (not-true (eqb b 10) (a .0), line-first line rest (a .1))
 
-  drop-one : (at b : ℕ) (q : List ℕ) → drop at input ≡ b ∷ q → drop (suc at) input ≡ q
-  drop-one at b q e = ap (λ (k : ℕ). drop k input) (let z : suc at ≡ at + 1 = omega arith in z) ∙ drop-more at (b ∷ []) q e
+text-lines : (lines : List (List ℕ)) (rest : List ℕ) → allPlain lines ≡ true → linesOf (textOf lines ++ rest) ≡ lines ++ linesOf rest
+unfolding textOf allPlain
+text-lines [] rest e = refl
+text-lines (line ∷ lines) rest e =
+    let a = and-true (isPlain line) (allPlain lines) e in
+    ap linesOf (append-assoc line (10 ∷ textOf lines) rest)
+    ∙ line-first line (textOf lines ++ rest) (a .0)
+    ∙ ap (λ (ls : List (List ℕ)). line ∷ ls) (text-lines lines rest (a .1))
 
-  byte-is : (at b : ℕ) (q : List ℕ) → drop at input ≡ b ∷ q → getD input at 0 ≡ b
-  byte-is at b q e = byte-first at ∙ ap (λ (l : List ℕ). getD l 0 0) e
+-- the lines of a text are plain, and so are parts of them
+lines-plain : (text : List ℕ) → allPlain (linesOf text) ≡ true
+unfolding allPlain linesOf inFront isPlain
+lines-plain [] = refl
+lines-plain (b ∷ text) =
+    ⊎-elim {C = allPlain (linesOf (b ∷ text)) ≡ true}
+    (λ (t : eqb b 10 ≡ true). rw t (lines-plain text))
+    (λ (t : eqb b 10 ≡ false). rw t (in-front b (linesOf text) t (lines-plain text)))
+    (either (eqb b 10))
+  where
+    in-front : (b : ℕ) (lines : List (List ℕ)) → eqb b 10 ≡ false → allPlain lines ≡ true → allPlain (inFront b lines) ≡ true
+    in-front b [] t e = refl
+    in-front b (line ∷ lines) t e = rw t e
 
-  -- ---- a text and digits, where they stand
+plain-front : (a b : List (List ℕ)) → allPlain (a ++ b) ≡ true → allPlain a ≡ true
+unfolding allPlain
+plain-front [] b e = refl
+plain-front (line ∷ a) b e =
+    let p = and-true (isPlain line) (allPlain (a ++ b)) e in
+    and-is (isPlain line) (allPlain a) (p .0) (plain-front a b (p .1))
 
-  starts-is : (text rest : List ℕ) (at : ℕ) → drop at input ≡ text ++ rest → startsAt input at text ≡ true
-  unfolding startsAt
-  starts-is [] rest at e = refl
-  starts-is (b ∷ text) rest at e =
-      rw (eq-eqb _ _ (byte-is at b (text ++ rest) e)) (starts-is text rest (suc at) (drop-one at b (text ++ rest) e))
+plain-with : (a b : List (List ℕ)) → allPlain a ≡ true → allPlain b ≡ true → allPlain (a ++ b) ≡ true
+unfolding allPlain
+plain-with [] b e f = f
+plain-with (line ∷ a) b e f =
+    let p = and-true (isPlain line) (allPlain a) e in
+    and-is (isPlain line) (allPlain (a ++ b)) (p .0) (plain-with a b (p .1) f)
 
-  digits-is : (k : ℕ) (l rest : List ℕ) (at : ℕ) → drop at input ≡ l ++ rest → allDigits l ≡ true → length l ≤ k
-      → isDigit (getD rest 0 0) ≡ false → digitsUpto k input at ≡ length l
-  unfolding digitsUpto allDigits
-  digits-is zero [] rest at e d f z = refl
-  digits-is (suc k) [] rest at e d f z = rw (byte-first at ∙ ap (λ (q : List ℕ). getD q 0 0) e, z)
-  digits-is zero (b ∷ l) rest at e d f z = absurd (omega arith)
-  digits-is (suc k) (b ∷ l) rest at e d f z =
-      let a = and-true (isDigit b) (allDigits l) d in
-      rw (byte-is at b (l ++ rest) e, a .0) (ap suc (digits-is k l rest (suc at) (drop-one at b (l ++ rest) e) (a .1) (omega arith) z))
+bytes-text : (lines : List (List ℕ)) → bytesOf lines ≡ length (textOf lines)
+unfolding bytesOf textOf
+bytes-text [] = refl
+bytes-text (line ∷ lines) = rw (length-append line (10 ∷ textOf lines)) (omega (arith, bytes-text lines))
 
-  -- a number of R38 that stands at a place, with no digit after it
-  module _ (l rest : List ℕ) (at : ℕ) (e : drop at input ≡ l ++ rest) (m : Numeral l) (z : isDigit (getD rest 0 0) ≡ false) where
-    count-is : digitsAt input at ≡ length l
-    count-is = digits-is mostDigits l rest at e (m .digits) (m .few) z
+-- ---- the lines up to ENDHDR
 
-    number-is : isNumber input at ≡ true
-    unfolding isNumber
-    number-is =
-        let b : getD input at 0 ≡ getD l 0 0 = byte-first at ∙ ap (λ (q : List ℕ). getD q 0 0) e ∙ List·getD-append l rest 0 0 (m .some) in
-        rw (count-is, b, le-leb 1 (length l) (m .some), ne-eqb (getD l 0 0) 48 (m .first))
+-- ENDHDR itself is no field and is not skipped
+end-other : isOther endText ≡ true
+unfolding isOther isSkipped isSide isText startsAt
+end-other = refl
 
-    number-value : numberUpto mostDigits input at ≡ valueOf l
-    unfolding numberUpto
-    number-value = ap valueOf (ap (take (digitsAt input at)) e ∙ take-at l rest (digitsAt input at) (sym count-is))
+fields-all : (lines more : List (List ℕ)) → countOf isOther lines ≡ 0 → fieldLines (lines ++ (endText ∷ more)) ≡ lines
+unfolding fieldLines countOf isText startsAt
+fields-all [] more e = refl
+fields-all (line ∷ lines) more e =
+    ⊎-elim {C = fieldLines (line ∷ (lines ++ (endText ∷ more))) ≡ line ∷ lines}
+    (λ (t : isText endText line ≡ true).
+    let o : isOther line ≡ true = ap isOther (text-is endText line t) ∙ end-other in
+    let z : 1 + countOf isOther lines ≡ 0 = rw o at e in
+    absurd (omega arith))
+    (λ (t : isText endText line ≡ false).
+    let z : cond (isOther line) 1 0 + countOf isOther lines ≡ 0 = e in
+    rw t (ap (λ (ls : List (List ℕ)). line ∷ ls) (fields-all lines more (omega arith))))
+    (either (isText endText line))
+
+-- some line passes a test
+count-some : (test : List ℕ → Bool) (before : List (List ℕ)) (line : List ℕ) (after : List (List ℕ)) → test line ≡ true
+    → 1 ≤ countOf test (before ++ (line ∷ after))
+unfolding countOf
+count-some test [] line after e = rw e (omega arith)
+count-some test (x ∷ before) line after e = omega (arith, count-some test before line after e)
+
+end-found : (lines : List (List ℕ)) → 1 ≤ countOf (isText endText) lines
+    → (more : List (List ℕ)) × (lines ≡ fieldLines lines ++ (endText ∷ more))
+unfolding fieldLines countOf
+end-found [] l = absurd (omega arith)
+end-found (line ∷ lines) l =
+    ⊎-elim {C = (more : List (List ℕ)) × (line ∷ lines ≡ fieldLines (line ∷ lines) ++ (endText ∷ more))}
+    (λ (t : isText endText line ≡ true). rw t (lines, ap (λ (x : List ℕ). x ∷ lines) (text-is endText line t)))
+    (λ (t : isText endText line ≡ false).
+    let m : 1 ≤ 0 + countOf (isText endText) lines = rw t at l in
+    let r = end-found lines (omega arith) in
+    rw t (r .0, ap (λ (ls : List (List ℕ)). line ∷ ls) (r .1)))
+    (either (isText endText line))
+
+-- ---- the sides
+
+module _ (name : List ℕ) where
+  -- a name and a number give a side
+  pub side-given : (digits : List ℕ) → isNumeral digits ≡ true → isSide name (name ++ digits) ≡ true
+  unfolding isSide
+  side-given digits e =
+      and-is _ _ (starts-is (name ++ digits) name digits 0 refl) (ap isNumeral (drop-at name digits (length name) refl) ∙ e)
+
+  side-none : (lines : List (List ℕ)) (v : ℕ) → countOf (isSide name) lines ≡ 0 → sideIn name v lines ≡ v
+  unfolding sideIn sideFrom countOf
+  side-none [] v e = refl
+  side-none (line ∷ lines) v e =
+      ⊎-elim {C = sideIn name v (line ∷ lines) ≡ v}
+      (λ (t : isSide name line ≡ true). absurd (let z : 1 + countOf (isSide name) lines ≡ 0 = rw t at e in omega arith))
+      (λ (t : isSide name line ≡ false).
+      let z : 0 + countOf (isSide name) lines ≡ 0 = rw t at e in
+      rw t (side-none lines v (omega arith)))
+      (either (isSide name line))
+
+  -- the only line that gives it decides
+  side-is : (before : List (List ℕ)) (digits : List ℕ) (after : List (List ℕ)) (v : ℕ) → isNumeral digits ≡ true
+      → countOf (isSide name) (before ++ ((name ++ digits) ∷ after)) ≡ 1
+      → sideIn name v (before ++ ((name ++ digits) ∷ after)) ≡ valueOf digits
+  unfolding sideIn sideFrom countOf
+  side-is [] digits after v n e =
+      let g = side-given digits n in
+      let z : 1 + countOf (isSide name) after ≡ 1 = rw g at e in
+      let s : sideFrom name v (name ++ digits) ≡ valueOf digits = rw g (ap valueOf (drop-at name digits (length name) refl)) in
+      ap (λ (k : ℕ). sideIn name k after) s ∙ side-none after (valueOf digits) (omega arith)
+  side-is (line ∷ before) digits after v n e =
+      let all = before ++ ((name ++ digits) ∷ after) in
+      ⊎-elim {C = sideIn name v (line ∷ all) ≡ valueOf digits}
+      (λ (t : isSide name line ≡ true).
+      let z : 1 + countOf (isSide name) all ≡ 1 = rw t at e in
+      absurd (omega (arith, count-some (isSide name) before (name ++ digits) after (side-given digits n))))
+      (λ (t : isSide name line ≡ false).
+      let z : 0 + countOf (isSide name) all ≡ 1 = rw t at e in
+      let s : sideFrom name v line ≡ v = rw t in
+      ap (λ (k : ℕ). sideIn name k all) s ∙ side-is before digits after v n (omega arith))
+      (either (isSide name line))
+
+  -- a line that gives it is the name and a number
+  side-line : (line : List ℕ) → isSide name line ≡ true → name ++ drop (length name) line ≡ line
+  unfolding isSide
+  side-line line t =
+      let a = and-true (startsAt line 0 name) (isNumeral (drop (length name) line)) t in
+      let some = numeral (drop (length name) line) (a .1) .some in
+      let l : length name ≤ length line = omega (arith, some, length-drop (length name) line) in
+      ap (λ (x : List ℕ). x ++ drop (length name) line) (sym (starts-front line name (a .0) l))
+      ∙ take-append-drop (length name) line
+
+  side-found : (lines : List (List ℕ)) → 1 ≤ countOf (isSide name) lines → (digits : List ℕ) × Stands name digits lines
+  unfolding countOf isSide
+  side-found [] l = absurd (omega arith)
+  side-found (line ∷ lines) l =
+      ⊎-elim {C = (digits : List ℕ) × Stands name digits (line ∷ lines)}
+      (λ (t : isSide name line ≡ true).
+      let digits = drop (length name) line in (
+        digits,
+        record {
+          before = [];
+          after = lines;
+          lines-are = ap (λ (x : List ℕ). x ∷ lines) (sym (side-line line t));
+          number = and-true (startsAt line 0 name) (isNumeral digits) t .1;
+        },
+      ))
+      (λ (t : isSide name line ≡ false).
+      let m : 1 ≤ 0 + countOf (isSide name) lines = rw t at l in
+      let r = side-found lines (omega arith) in
+      let s = r .1 in (
+        r .0,
+        record {
+          before = line ∷ s .before;
+          after = s .after;
+          lines-are = ap (λ (ls : List (List ℕ)). line ∷ ls) (s .lines-are);
+          number = s .number;
+        },
+      ))
+      (either (isSide name line))
+
+  side-stands : (digits : List ℕ) (lines : List (List ℕ)) → Stands name digits lines → countOf (isSide name) lines ≡ 1
+      → sideIn name 0 lines ≡ valueOf digits
+  side-stands digits lines s e =
+      ap (sideIn name 0) (s .lines-are)
+      ∙ side-is (s .before) digits (s .after) 0 (s .number) (sym (ap (countOf (isSide name)) (s .lines-are)) ∙ e)
 
 -- ---- an input that starts with a header
 
--- such an input is accepted, with this width, this height and the pixels after the header
-pub record HeaderIs (input w h : List ℕ) : Type 0 where
-  pub accepted : headerOk input ≡ true
-  pub width-is : widthOf input ≡ valueOf w
-  pub height-is : heightOf input ≡ valueOf h
-  pub body-is : bodyAt input ≡ length (headerText w h)
+bytes-append : (a b : List (List ℕ)) → bytesOf (a ++ b) ≡ bytesOf a + bytesOf b
+unfolding bytesOf
+bytes-append [] b = omega arith
+bytes-append (line ∷ a) b = omega (arith, bytes-append a b)
 
-split : (w h rest : List ℕ) → headerText w h ++ rest ≡ widthText ++ (w ++ (heightText ++ (h ++ (tailText ++ rest))))
-unfolding headerText
-split w h rest =
-    append-assoc (widthText ++ w ++ heightText ++ h) tailText rest
-    ∙ append-assoc (widthText ++ w ++ heightText) h (tailText ++ rest)
-    ∙ append-assoc (widthText ++ w) heightText (h ++ (tailText ++ rest))
-    ∙ append-assoc widthText w (heightText ++ (h ++ (tailText ++ rest)))
+header-long : (lines : List (List ℕ)) → bytesOf (firstText ∷ []) + bytesOf lines + bytesOf (endText ∷ []) ≡ length (headerText lines)
+unfolding headerText bytesOf
+header-long lines =
+    omega (arith, bytes-text (firstText ∷ (lines ++ (endText ∷ []))), bytes-append lines (endText ∷ []))
 
--- a line's end is no digit
-newline-ends : isDigit 10 ≡ false
-unfolding isDigit
-newline-ends = refl
+-- whatever lines follow ENDHDR
+header-is : (lines more : List (List ℕ)) → fieldsOk lines ≡ true
+    → headerBy (firstText ∷ (lines ++ (endText ∷ more)))
+    ≡ record { ok = true; height = sideIn heightName 0 lines; width = sideIn widthName 0 lines; body = length (headerText lines) }
+unfolding headerBy linesOk isText startsAt
+header-is lines more o =
+    rw (
+      le-leb 1 (countOf (isText endText) (lines ++ (endText ∷ more))) (count-some (isText endText) lines endText more refl),
+      fields-all lines more (fields-are lines o .no-other),
+      o,
+      header-long lines,
+    )
 
-header-long : (w h : List ℕ) → length (headerText w h) ≡ 63 + length w + length h
-unfolding headerText
-header-long w h = simp length-append (omega arith)
-
-pub header-accepted : (w h rest : List ℕ) → Numeral w → Numeral h → HeaderIs (headerText w h ++ rest) w h
-unfolding headerOk middleAt heightAt tailAt bodyAt widthOf heightOf
-header-accepted w h rest m n =
-    let input = headerText w h ++ rest in
-    let r4 = tailText ++ rest in
-    let r3 = h ++ r4 in
-    let r2 = heightText ++ r3 in
-    let e0 : drop 0 input ≡ widthText ++ (w ++ r2) = split w h rest in
-    let e1 : drop widthAt input ≡ w ++ r2 = drop-more input 0 widthText (w ++ r2) e0 in
-    let c1 = count-is input w r2 widthAt e1 m newline-ends in
-    let e2 : drop (middleAt input) input ≡ heightText ++ r3 = rw c1 (drop-more input widthAt w r2 e1) in
-    let e3 : drop (heightAt input) input ≡ h ++ r4 = drop-more input (middleAt input) heightText r3 e2 in
-    let c3 = count-is input h r4 (heightAt input) e3 n newline-ends in
-    let e4 : drop (tailAt input) input ≡ tailText ++ rest = rw c3 (drop-more input (heightAt input) h r4 e3) in
-    record {
-      accepted =
-          rw (
-            starts-is input widthText (w ++ r2) 0 e0,
-            number-is input w r2 widthAt e1 m newline-ends,
-            starts-is input heightText r3 (middleAt input) e2,
-            number-is input h r4 (heightAt input) e3 n newline-ends,
-            starts-is input tailText rest (tailAt input) e4,
-          );
-      width-is = number-value input w r2 widthAt e1 m newline-ends;
-      height-is = number-value input h r4 (heightAt input) e3 n newline-ends;
-      body-is = omega (arith, header-long w h);
-    }
+pub header-accepted : (w h : List ℕ) (lines : List (List ℕ)) (rest : List ℕ) → Lines w h lines
+    → headerOf (headerText lines ++ rest)
+    ≡ record { ok = true; height = valueOf h; width = valueOf w; body = length (headerText lines) }
+unfolding headerOf headerText allPlain isPlain
+header-accepted w h lines rest m =
+    let text = headerText lines in
+    let k = mostHeader - length text in
+    let all = firstText ∷ (lines ++ (endText ∷ [])) in
+    let more = linesOf (take k rest) in
+    let n : mostHeader ≡ length text + k = omega (arith, m .short) in
+    let front : take mostHeader (text ++ rest) ≡ text ++ take k rest =
+    ap (λ (j : ℕ). take j (text ++ rest)) n ∙ take-append-add text rest k in
+    let whole : linesOf (text ++ take k rest) ≡ firstText ∷ (lines ++ (endText ∷ more)) =
+    text-lines all (take k rest) (plain-with lines (endText ∷ []) (m .plain) refl)
+    ∙ ap (λ (ls : List (List ℕ)). firstText ∷ ls) (append-assoc lines (endText ∷ []) more) in
+    let one = fields-are lines (m .fields) in
+    ap (λ (t : List ℕ). headerBy (linesOf t)) front
+    ∙ ap headerBy whole
+    ∙ header-is lines more (m .fields)
+    ∙ rw (
+      side-stands widthName w lines (m .width-stands) (one .one-width),
+      side-stands heightName h lines (m .height-stands) (one .one-height),
+    )
 
 -- ---- an input that is accepted starts with a header
 
-noZero : List ℕ → Bool
-noZero [] = true
-noZero (b ∷ l) = not (eqb b 0) && noZero l
+header-lines : (input : List ℕ) → headerOf input .ok ≡ true → linesOk (linesOf (take mostHeader input)) ≡ true
+unfolding headerOf headerBy
+header-lines input o =
+    let lines = linesOf (take mostHeader input) in
+    ⊎-elim {C = linesOk lines ≡ true}
+    (λ (t : linesOk lines ≡ true). t)
+    (λ (t : linesOk lines ≡ false). let z : false ≡ true = rw t at o in not-both false z refl)
+    (either (linesOk lines))
 
-module _ (input : List ℕ) where
-  -- past the end there is no byte but 0
-  inside : (at b : ℕ) → getD input at 0 ≡ b → (b ≡ 0 → ⊥) → at < length input
-  inside at b e z =
-      ⊎-elim {C = at < length input}
-      (λ (l : at < length input). l)
-      (λ (l : length input ≤ at). absurd (z (sym e ∙ List·getD-eq-default input 0 l)))
-      (which at (length input))
-
-  starts-split : (text : List ℕ) (at : ℕ) → noZero text ≡ true → startsAt input at text ≡ true
-      → drop at input ≡ text ++ drop (at + length text) input
-  unfolding noZero startsAt
-  starts-split [] at t e = ap (λ (k : ℕ). drop k input) (sym (add-zero at))
-  starts-split (b ∷ text) at t e =
-      let z = and-true (not (eqb b 0)) (noZero text) t in
-      let a = and-true (eqb (getD input at 0) b) (startsAt input (suc at) text) e in
-      let i = eqb-true (getD input at 0) b (a .0) in
-      let s : suc at + length text ≡ at + suc (length text) = omega arith in
-      drop-cons input at 0 (inside at b i (eqb-false b 0 (not-true (eqb b 0) (z .0))))
-      ∙ ap (λ (q : List ℕ). getD input at 0 ∷ q) (starts-split text (suc at) (z .1) (a .1))
-      ∙ ap (λ (c : ℕ). c ∷ (text ++ drop (suc at + length text) input)) i
-      ∙ ap (λ (k : ℕ). b ∷ (text ++ drop k input)) s
-
-  -- the digits that stand at a place, and what follows them
-  there : ℕ → List ℕ
-  there at = take (digitsAt input at) (drop at input)
-
-  there-split : (at : ℕ) → drop at input ≡ there at ++ drop (at + digitsAt input at) input
-  unfolding there
-  there-split at =
-      let n = digitsAt input at in
-      sym (take-append-drop n (drop at input)) ∙ ap (λ (q : List ℕ). there at ++ q) (drop-drop n at input)
-
-  there-long : (at : ℕ) → 1 ≤ digitsAt input at → length (there at) ≡ digitsAt input at
-  unfolding there
-  there-long at l = length-take-le (digitsAt input at) (drop at input) (rw length-drop (omega (arith, stand input mostDigits at .inside l)))
-
-  numeral : (at : ℕ) → isNumber input at ≡ true → Numeral (there at)
-  unfolding isNumber there
-  numeral at e =
-      let a = and-true (leb 1 (digitsAt input at)) (not (eqb (getD input at 0) 48)) e in
-      let n = leb-true 1 (digitsAt input at) (a .0) in
-      let m = there-long at n in
-      let l : 1 ≤ length (there at) = rw m n in
-      let first = ap (λ (q : List ℕ). getD q 0 0) (there-split at) ∙ List·getD-append (there at) _ 0 0 l in
-      let b : getD input at 0 ≡ getD (there at) 0 0 = byte-first input at ∙ first in
-      record {
-        digits = stand input mostDigits at .all;
-        some = l;
-        few = omega (arith, m, digits-most input mostDigits at);
-        first = λ z. eqb-false (getD input at 0) 48 (not-true (eqb (getD input at 0) 48) (a .1)) (b ∙ z);
-      }
-
--- the input starts with the header of R38, for some width and height
+-- the input starts with P7, these lines and ENDHDR
 pub record HasHeader (input : List ℕ) : Type 0 where
   pub width : List ℕ
   pub height : List ℕ
+  pub lines : List (List ℕ)
   pub rest : List ℕ
-  pub width-numeral : Numeral width
-  pub height-numeral : Numeral height
-  pub input-is : input ≡ headerText width height ++ rest
+  pub lines-ok : Lines width height lines
+  pub input-is : input ≡ headerText lines ++ rest
 
-texts-some : (noZero widthText ≡ true) × (noZero heightText ≡ true) × (noZero tailText ≡ true)
-unfolding noZero
-texts-some = (refl, refl, refl)
-
-pub header-means : (input : List ℕ) → headerOk input ≡ true → HasHeader input
-unfolding middleAt heightAt tailAt
+pub header-means : (input : List ℕ) → headerOf input .ok ≡ true → HasHeader input
+unfolding headerText allPlain
 header-means input o =
-    let p = header-parts input o in
-    let w = there input widthAt in
-    let h = there input (heightAt input) in
-    let rest = drop (tailAt input + 46) input in
-    let e4 : drop (tailAt input) input ≡ tailText ++ rest = starts-split input tailText (tailAt input) (texts-some .2) (p .last-text) in
-    let e3 : drop (heightAt input) input ≡ h ++ (tailText ++ rest) =
-    there-split input (heightAt input) ∙ ap (λ (q : List ℕ). h ++ q) e4 in
-    let e2 : drop (middleAt input) input ≡ heightText ++ (h ++ (tailText ++ rest)) =
-    starts-split input heightText (middleAt input) (texts-some .1) (p .middle-text) ∙ ap (λ (q : List ℕ). heightText ++ q) e3 in
-    let e1 : drop widthAt input ≡ w ++ (heightText ++ (h ++ (tailText ++ rest))) =
-    there-split input widthAt ∙ ap (λ (q : List ℕ). w ++ q) e2 in
-    let e0 = starts-split input widthText 0 (texts-some .0) (p .first-text) ∙ ap (λ (q : List ℕ). widthText ++ q) e1 in
+    let front = take mostHeader input in
+    let all = linesOf front in
+    let ok = lines-ok all (header-lines input o) in
+    let found = end-found (drop 1 all) (ok .end-stands) in
+    let lines = fieldLines (drop 1 all) in
+    let more = found .0 in
+    let are : all ≡ firstText ∷ ((lines ++ (endText ∷ [])) ++ more) =
+    first-line all (ok .first-is)
+    ∙ ap (λ (ls : List (List ℕ)). firstText ∷ ls) (found .1 ∙ sym (append-assoc lines (endText ∷ []) more)) in
+    let last = lines-text front in
+    let after = textOf more ++ last .0 in
+    let front-is : front ≡ headerText lines ++ after =
+    last .1
+    ∙ ap (λ (ls : List (List ℕ)). textOf ls ++ last .0) are
+    ∙ ap (λ (t : List ℕ). t ++ last .0) (text-append (firstText ∷ (lines ++ (endText ∷ []))) more)
+    ∙ append-assoc (headerText lines) (textOf more) (last .0) in
+    let one = fields-are lines (ok .fields-ok) in
+    let w = side-found widthName lines (omega (arith, one .one-width)) in
+    let h = side-found heightName lines (omega (arith, one .one-height)) in
+    let plain : allPlain (firstText ∷ ((lines ++ (endText ∷ [])) ++ more)) ≡ true = sym (ap allPlain are) ∙ lines-plain front in
+    let long : length front ≤ mostHeader = rw length-take (omega arith) in
     record {
-      width = w;
-      height = h;
-      rest = rest;
-      width-numeral = numeral input widthAt (p .width-there);
-      height-numeral = numeral input (heightAt input) (p .height-there);
-      input-is = e0 ∙ sym (split w h rest);
+      width = w .0;
+      height = h .0;
+      lines = lines;
+      rest = after ++ drop mostHeader input;
+      lines-ok =
+          record {
+            plain = plain-front lines (endText ∷ []) (plain-front (lines ++ (endText ∷ [])) more (and-true (isPlain firstText) _ plain .1));
+            fields = ok .fields-ok;
+            short = omega (arith, long, ap length front-is ∙ length-append (headerText lines) after);
+            width-stands = w .1;
+            height-stands = h .1;
+          };
+      input-is =
+          sym (take-append-drop mostHeader input)
+          ∙ ap (λ (t : List ℕ). t ++ drop mostHeader input) front-is
+          ∙ append-assoc (headerText lines) after (drop mostHeader input);
     }

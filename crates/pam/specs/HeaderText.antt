@@ -1,20 +1,42 @@
--- The header as R38 has it, for the law that `headerOk` accepts just this. No contract cites it.
+-- The header as a text, for the law that just these texts are accepted. No contract cites it.
 -- Assumes nothing.
 use Prim.Native.Nat.{ℕ, _≤_}
 use mathlib.Core.Path.{_≡_}
-use mathlib.Core.Bool.{true}
-use mathlib.Core.List.{List, _++_}
-use lib.ListN.{length, getD}
-use Rattle.text.specs.Decimal.{allDigits}
-use Rattle.pam.specs.Header.{mostDigits, widthText, heightText, tailText}
+use mathlib.Core.Bool.{Bool, true, not, _&&_}
+use mathlib.Core.List.{List, [], _∷_, _++_}
+use lib.Dec.{eqb}
+use lib.ListN.{length}
+use Rattle.pam.specs.Header.{isNumeral, firstText, widthName, heightName, endText, fieldsOk, mostHeader}
 
--- a number of R38: 1 to 5 digits, the first not '0'
-pub record Numeral (l : List ℕ) : Type 0 where
-  pub digits : allDigits l ≡ true
-  pub some : 1 ≤ length l
-  pub few : length l ≤ mostDigits
-  pub first : getD l 0 0 ≡ 48 → ⊥
+-- no byte of a line, or of several, is a newline (R38)
+unfoldable pub isPlain : List ℕ → Bool
+isPlain [] = true
+isPlain (b ∷ line) = not (eqb b 10) && isPlain line
 
--- the header with these digits of width and height (R38)
-unfoldable pub headerText : List ℕ → List ℕ → List ℕ
-headerText w h = widthText ++ w ++ heightText ++ h ++ tailText
+unfoldable pub allPlain : List (List ℕ) → Bool
+allPlain [] = true
+allPlain (line ∷ lines) = isPlain line && allPlain lines
+
+-- lines as a text, a newline after each (R38)
+unfoldable pub textOf : List (List ℕ) → List ℕ
+textOf [] = []
+textOf (line ∷ lines) = line ++ (10 ∷ textOf lines)
+
+-- the header with these lines between P7 and ENDHDR (R38)
+unfoldable pub headerText : List (List ℕ) → List ℕ
+headerText lines = textOf (firstText ∷ (lines ++ (endText ∷ [])))
+
+-- a number stands after a name on one of the lines (R38)
+pub record Stands (name digits : List ℕ) (lines : List (List ℕ)) : Type 0 where
+  pub before : List (List ℕ)
+  pub after : List (List ℕ)
+  pub lines-are : lines ≡ before ++ ((name ++ digits) ∷ after)
+  pub number : isNumeral digits ≡ true
+
+-- lines that make a header with these digits of width and height (R38)
+pub record Lines (w h : List ℕ) (lines : List (List ℕ)) : Type 0 where
+  pub plain : allPlain lines ≡ true
+  pub fields : fieldsOk lines ≡ true
+  pub short : length (headerText lines) ≤ mostHeader
+  pub width-stands : Stands widthName w lines
+  pub height-stands : Stands heightName h lines

@@ -1,4 +1,5 @@
 pub mod Header
+pub mod EarlierHeader
 pub mod Picture
 pub mod Settings
 pub mod HeaderText

@@ -8,19 +8,20 @@ use lib.Ieee.{Float}
 use Rattle.plane.specs.Plane.{table}
 use Rattle.plane.specs.Refusal.{Test}
 use Rattle.colour.specs.Weight.{weightOf}
-use Rattle.pam.specs.Header.{headerOk, widthOf, heightOf, bodyAt}
+use Rattle.pam.specs.declared.header.Header.{Header}
+use Rattle.pam.specs.Header.{mostHeader}
 
 -- the most pixels of a picture (R39)
 abbrev pub mostPixels : ℕ
 mostPixels = 2304
 
--- one byte more than any accepted file has: at most 73 of header, and four for each pixel (R38, R39)
+-- one byte more than any accepted file has: at most 4096 of header, and four for each pixel (R38, R39)
 abbrev pub mostInput : ℕ
-mostInput = 73 + 4 * mostPixels + 1
+mostInput = mostHeader + 4 * mostPixels + 1
 
--- the number of pixels (R39)
-unfoldable pub pixelsOf : List ℕ → ℕ
-pixelsOf input = heightOf input * widthOf input
+-- the number of pixels under a header (R39)
+abbrev pub pixelsOf : Header → ℕ
+pixelsOf header = header .height * header .width
 
 -- byte k of the pixels, which stand from body on: red, green, blue and alpha of pixel i are bytes 4 * i to 4 * i + 3 (R39)
 unfoldable pub sampleAt : List ℕ → ℕ → ℕ → ℕ
@@ -33,17 +34,17 @@ coloursFrom input body n = table (λ (k : ℕ). weightOf (sampleAt input body (4
 unfoldable pub alphaFrom : List ℕ → ℕ → ℕ → List ℕ
 alphaFrom input body n = table (λ (i : ℕ). sampleAt input body (4 * i + 3)) 0 n
 
-unfoldable pub coloursOf : List ℕ → List Float
-coloursOf input = coloursFrom input (bodyAt input) (pixelsOf input)
+abbrev pub coloursOf : Header → List ℕ → List Float
+coloursOf header input = coloursFrom input (header .body) (pixelsOf header)
 
-unfoldable pub alphaOf : List ℕ → List ℕ
-alphaOf input = alphaFrom input (bodyAt input) (pixelsOf input)
+abbrev pub alphaOf : Header → List ℕ → List ℕ
+alphaOf header input = alphaFrom input (header .body) (pixelsOf header)
 
 -- the tests of a file, in order (R51 to R53): the header is as it should be, there are not too many pixels, and no byte is missing or left
 -- over
-abbrev pub fileTests : List ℕ → List Test
-fileTests input =
-    (8, headerOk input)
-    ∷ (10, leb (pixelsOf input) mostPixels)
-    ∷ (9, eqb (length input) (bodyAt input + 4 * pixelsOf input))
+abbrev pub fileTests : Header → List ℕ → List Test
+fileTests header input =
+    (8, header .ok)
+    ∷ (10, leb (pixelsOf header) mostPixels)
+    ∷ (9, eqb (length input) (header .body + 4 * pixelsOf header))
     ∷ []

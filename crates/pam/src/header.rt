@@ -1,25 +1,48 @@
-// Reading the header of a PAM file. Past the end of the input every byte is 0.
+// Reading the header of a PAM file, line by line.
 ghost use mathlib.Core.Path.{_≡_};
 ghost use mathlib.Core.Bool.{true};
-ghost use Prim.Native.Nat.{_+_, _≤_};
-ghost use lib.ListN.{length};
-ghost use Rattle.pam.specs.Header.{startsAt, digitsAt, isNumber, middleAt, heightAt, tailAt, bodyAt, widthOf, heightOf, headerOk};
+ghost use Prim.Native.Nat.{_+_, _≤_, _<_};
+ghost use lib.ListN.{length, drop};
+ghost use Rattle.pam.specs.Header.{startsAt, isText, isNumeral, isSide, sideFrom, isSkipped};
+ghost use Rattle.pam.specs.Header.{linesOf, mostHeader, declined, headerBy, headerOf};
+ghost use Rattle.pam.specs.steps.Reading.{lineLong, more, withLine, Few, noFields, headerFrom, readFrom};
+
+// The most bytes of a header, up to and with the newline of ENDHDR.
+const MOST_HEADER: usize = 4096;
 
 // The most digits of a number.
 const MOST_DIGITS: usize = 5;
 
-// Where the width stands.
-const WIDTH_AT: usize = 9;
+// What a header says: whether it is accepted, and if so the sides and where the pixels stand.
+pub struct Header {
+    pub ok: bool,
+    pub height: usize,
+    pub width: usize,
+    pub body: usize,
+}
 
-// Whether some bytes stand at a place.
-fn starts(input: &[u8], at: usize, bytes: &[u8]) -> bool
-    requires { ⌜ (at ≤ 64) × (length (now bytes) ≤ 64) ⌝ }
-    ensures { λ r. ⌜ r ≡ startsAt (now (input .entry)) at (now (bytes .entry)) ⌝ }
+// What the lines so far gave: on how many of them each field stands, how many have no place in a header, and the sides.
+struct Fields {
+    widths: usize,
+    heights: usize,
+    depths: usize,
+    maxvals: usize,
+    tupltypes: usize,
+    others: usize,
+    width: usize,
+    height: usize,
+}
+
+// ---- what a line is
+
+// Whether a line begins with a text.
+fn starts(line: &[u8], text: &[u8]) -> bool
+    ensures { λ r. ⌜ r ≡ startsAt (now (line .entry)) 0 (now (text .entry)) ⌝ }
 {
     let mut i = 0usize;
-    while i < bytes.len() {
-        let b = text::byte_at(input, at + i);
-        if b != bytes[i] {
+    while i < text.len() {
+        let b = text::byte_at(line, i);
+        if b != text[i] {
             return false;
         }
         i += 1;
@@ -27,82 +50,178 @@ fn starts(input: &[u8], at: usize, bytes: &[u8]) -> bool
     true
 }
 
-// Whether a number stands at a place: at least one digit, the first not '0'.
-fn is_number(input: &[u8], at: usize) -> bool
-    ensures { λ r. ⌜ r ≡ isNumber (now (input .entry)) at ⌝ }
+// Whether a line is a text and nothing more.
+fn is_text(line: &[u8], text: &[u8]) -> bool
+    ensures { λ r. ⌜ r ≡ isText (now (text .entry)) (now (line .entry)) ⌝ }
 {
-    (1 <= text::digits(input, at, MOST_DIGITS)) & !(text::byte_at(input, at) == b'0')
+    starts(line, text) & (line.len() == text.len())
 }
 
-// The place after the digits that stand at a place.
-fn after_digits(input: &[u8], at: usize) -> usize
-    requires { ⌜ at ≤ 64 ⌝ }
-    ensures { λ r. ⌜ r ≡ at + digitsAt (now (input .entry)) at ⌝ }
-    ensures { λ r. ⌜ r ≤ at + 5 ⌝ }
+// Whether these are 1 to 5 digits, the first not '0'.
+fn is_numeral(digits: &[u8]) -> bool
+    ensures { λ r. ⌜ r ≡ isNumeral (now (digits .entry)) ⌝ }
 {
-    at + text::digits(input, at, MOST_DIGITS)
+    let n = digits.len();
+    (text::digits(digits, 0, MOST_DIGITS) == n) & (1 <= n) & !(text::byte_at(digits, 0) == b'0')
 }
 
-// Where the text between width and height stands.
-fn middle_at(input: &[u8]) -> usize
-    ensures { λ r. ⌜ r ≡ middleAt (now (input .entry)) ⌝ }
-    ensures { λ r. ⌜ r ≤ 14 ⌝ }
+// Whether a line is a name, with its space, and a number.
+fn is_side(line: &[u8], name: &[u8]) -> bool
+    ensures { λ r. ⌜ r ≡ isSide (now (name .entry)) (now (line .entry)) ⌝ }
 {
-    after_digits(input, WIDTH_AT)
+    let at = name.len();
+    if line.len() < at {
+        return false;
+    }
+    starts(line, name) & is_numeral(&line[at..])
 }
 
-// Where the height stands.
-fn height_at(input: &[u8]) -> usize
-    ensures { λ r. ⌜ r ≡ heightAt (now (input .entry)) ⌝ }
-    ensures { λ r. ⌜ r ≤ 22 ⌝ }
+// The number on such a line; for any other line the old one.
+fn side(line: &[u8], name: &[u8], old: usize) -> usize
+    ensures { λ r. ⌜ r ≡ sideFrom (now (name .entry)) old (now (line .entry)) ⌝ }
 {
-    middle_at(input) + 8
+    if !is_side(line, name) {
+        return old;
+    }
+    text::read_number(line, name.len(), MOST_DIGITS) as usize
 }
 
-// Where the rest of the header stands.
-fn tail_at(input: &[u8]) -> usize
-    ensures { λ r. ⌜ r ≡ tailAt (now (input .entry)) ⌝ }
-    ensures { λ r. ⌜ r ≤ 27 ⌝ }
+// Whether a line is empty or begins with '#'.
+fn is_skipped(line: &[u8]) -> bool
+    ensures { λ r. ⌜ r ≡ isSkipped (now (line .entry)) ⌝ }
 {
-    after_digits(input, height_at(input))
+    (line.len() == 0) | (text::byte_at(line, 0) == b'#')
 }
 
-// Where the pixels stand.
-pub fn body_at(input: &[u8]) -> usize
-    ensures { λ r. ⌜ r ≡ bodyAt (now (input .entry)) ⌝ }
-    ensures { λ r. ⌜ r ≤ 73 ⌝ }
+// ---- one line after the other
+
+// A count with one more line, where that counts.
+fn counted(n: usize, t: bool) -> usize
+    requires { ⌜ n < mostHeader ⌝ }
+    ensures { λ r. ⌜ r ≡ more n t ⌝ }
 {
-    tail_at(input) + 46
+    if t { n + 1 } else { n }
 }
 
-pub fn width(input: &[u8]) -> usize
-    ensures { λ r. ⌜ r ≡ widthOf (now (input .entry)) ⌝ }
-    ensures { λ r. ⌜ r ≤ 99999 ⌝ }
+// What the lines gave, with one more.
+fn with_line(seen: Fields, line: &[u8]) -> Fields
+    requires { ⌜ Few seen 4095 ⌝ }
+    ensures { λ r. ⌜ r ≡ withLine seen (now (line .entry)) ⌝ }
 {
-    text::read_number(input, WIDTH_AT, MOST_DIGITS) as usize
+    let is_width = is_side(line, b"WIDTH ");
+    let is_height = is_side(line, b"HEIGHT ");
+    let is_depth = is_text(line, b"DEPTH 4");
+    let is_maxval = is_text(line, b"MAXVAL 255");
+    let is_tupltype = is_text(line, b"TUPLTYPE RGB_ALPHA");
+    let is_other = !(is_skipped(line) | is_width | is_height | is_depth | is_maxval | is_tupltype);
+    Fields {
+        widths: counted(seen.widths, is_width),
+        heights: counted(seen.heights, is_height),
+        depths: counted(seen.depths, is_depth),
+        maxvals: counted(seen.maxvals, is_maxval),
+        tupltypes: counted(seen.tupltypes, is_tupltype),
+        others: counted(seen.others, is_other),
+        width: side(line, b"WIDTH ", seen.width),
+        height: side(line, b"HEIGHT ", seen.height),
+    }
 }
 
-pub fn height(input: &[u8]) -> usize
-    ensures { λ r. ⌜ r ≡ heightOf (now (input .entry)) ⌝ }
-    ensures { λ r. ⌜ r ≤ 99999 ⌝ }
+// No header.
+fn declined_header() -> Header
+    ensures { λ r. ⌜ r ≡ declined ⌝ }
 {
-    text::read_number(input, height_at(input), MOST_DIGITS) as usize
+    Header {
+        ok: false,
+        height: 0,
+        width: 0,
+        body: 0,
+    }
 }
 
-// Whether the header is that of R38.
-pub fn header_ok(input: &[u8]) -> bool
-    ensures { λ r. ⌜ r ≡ headerOk (now (input .entry)) ⌝ }
+// The header whose lines gave this, with the pixels at a place.
+fn header_from(seen: Fields, at: usize) -> Header
+    ensures { λ r. ⌜ r ≡ headerFrom seen at ⌝ }
 {
-    let middle = middle_at(input);
-    let height = height_at(input);
-    let tail = tail_at(input);
-    starts(input, 0, b"P7\nWIDTH ")
-        & is_number(input, WIDTH_AT)
-        & starts(input, middle, b"\nHEIGHT ")
-        & is_number(input, height)
-        & starts(
-            input,
-            tail,
-            b"\nDEPTH 4\nMAXVAL 255\nTUPLTYPE RGB_ALPHA\nENDHDR\n",
-        )
+    let ok = (seen.widths == 1)
+        & (seen.heights == 1)
+        & (seen.depths == 1)
+        & (seen.maxvals == 1)
+        & (seen.tupltypes == 1)
+        & (seen.others == 0);
+    if !ok {
+        return declined_header();
+    }
+    Header {
+        ok: true,
+        height: seen.height,
+        width: seen.width,
+        body: at,
+    }
+}
+
+// Where the line ends that a place is in: at its newline, or at the end of the text.
+fn line_end(text: &[u8], at: usize) -> usize
+    requires { ⌜ at ≤ length (now text) ⌝ }
+    ensures { λ r. ⌜ r ≡ at + lineLong (drop at (now (text .entry))) ⌝ }
+{
+    let mut i = at;
+    while i < text.len() {
+        if text[i] == b'\n' {
+            return i;
+        }
+        i += 1;
+    }
+    i
+}
+
+// The header whose lines after P7 stand from a place on.
+fn read_lines(front: &[u8], start: usize) -> Header
+    requires { ⌜ (start ≤ length (now front)) × (length (now front) ≤ mostHeader) ⌝ }
+    ensures { λ r. ⌜ r ≡ readFrom noFields start (linesOf (drop start (now (front .entry)))) ⌝ }
+{
+    let mut at = start;
+    let mut seen = Fields {
+        widths: 0,
+        heights: 0,
+        depths: 0,
+        maxvals: 0,
+        tupltypes: 0,
+        others: 0,
+        width: 0,
+        height: 0,
+    };
+    while at < front.len() {
+        let end = line_end(front, at);
+        if end == front.len() {
+            return declined_header();
+        }
+        let line = &front[at..end];
+        if is_text(line, b"ENDHDR") {
+            return header_from(seen, end + 1);
+        }
+        seen = with_line(seen, line);
+        at = end + 1;
+    }
+    declined_header()
+}
+
+// The header that stands in the first bytes of an input.
+fn header_in(front: &[u8]) -> Header
+    requires { ⌜ length (now front) ≤ mostHeader ⌝ }
+    ensures { λ r. ⌜ r ≡ headerBy (linesOf (now (front .entry))) ⌝ }
+{
+    if !starts(front, b"P7\n") {
+        return declined_header();
+    }
+    read_lines(front, 3)
+}
+
+// The header of an input.
+pub fn read_header(input: &[u8]) -> Header
+    ensures { λ r. ⌜ r ≡ headerOf (now (input .entry)) ⌝ }
+{
+    if input.len() < MOST_HEADER {
+        return header_in(input);
+    }
+    header_in(&input[..MOST_HEADER])
 }

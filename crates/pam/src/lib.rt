@@ -7,15 +7,17 @@ ghost use Prim.Native.Nat.{_*_, _≤_};
 ghost use lib.ListN.{length};
 ghost use Rattle.colour.specs.Colour.{coloursOk};
 ghost use Rattle.pam.specs.Settings.{settings};
+ghost use Rattle.pam.specs.Header.{mostHeader, headerOf};
 ghost use Rattle.pam.specs.Picture.{mostPixels, mostInput, coloursFrom, alphaFrom};
 ghost use Rattle.pam.specs.steps.File.{fileRefusal};
 use colour::Settings;
+use header::Header;
 
 // The most pixels of a picture.
 pub const MOST_PIXELS: usize = 2304;
 
 // No accepted file is as long, so no byte after these matters (`long-declined` in proofs/Files.antt).
-pub const MOST_INPUT: usize = 9290;
+pub const MOST_INPUT: usize = 13313;
 
 // MOST_INPUT is the number of the definitions.
 pub fn most_input() -> usize
@@ -24,18 +26,19 @@ pub fn most_input() -> usize
     MOST_INPUT
 }
 
-// 8, 10 or 9 where the file is declined, else 0.
-pub fn file_refusal(input: &[u8]) -> u32
-    ensures { λ r. ⌜ r ≡ fileRefusal (now (input .entry)) ⌝ }
+// 8, 10 or 9 where the file with this header is declined, else 0.
+pub fn file_refusal(header: Header, input: &[u8]) -> u32
+    requires { ⌜ header ≡ headerOf (now input) ⌝ }
+    ensures { λ r. ⌜ r ≡ fileRefusal header (now (input .entry)) ⌝ }
 {
-    if !header::header_ok(input) {
+    if !header.ok {
         return 8;
     }
-    let n = header::height(input) * header::width(input);
+    let n = header.height * header.width;
     if MOST_PIXELS < n {
         return 10;
     }
-    let end = header::body_at(input) + 4 * n;
+    let end = header.body + 4 * n;
     if input.len() != end {
         return 9;
     }
@@ -44,7 +47,7 @@ pub fn file_refusal(input: &[u8]) -> u32
 
 // The colours of n pixels that stand from a place on.
 pub fn colours(input: &[u8], body: usize, n: usize, out: &mut [f64])
-    requires { ⌜ (body ≤ 73) × (n ≤ mostPixels) × (length (now out) ≡ 3 * n) ⌝ }
+    requires { ⌜ (body ≤ mostHeader) × (n ≤ mostPixels) × (length (now out) ≡ 3 * n) ⌝ }
     ensures { λ _. ⌜ now (out .exit) ≡ coloursFrom (now (input .entry)) body n ⌝ }
     ensures { λ _. ⌜ coloursOk (now (out .exit)) ≡ true ⌝ }
 {
@@ -58,7 +61,7 @@ pub fn colours(input: &[u8], body: usize, n: usize, out: &mut [f64])
 
 // Their alpha.
 pub fn alpha(input: &[u8], body: usize, n: usize, out: &mut [u8])
-    requires { ⌜ (body ≤ 73) × (n ≤ mostPixels) × (length (now out) ≡ n) ⌝ }
+    requires { ⌜ (body ≤ mostHeader) × (n ≤ mostPixels) × (length (now out) ≡ n) ⌝ }
     ensures { λ _. ⌜ now (out .exit) ≡ alphaFrom (now (input .entry)) body n ⌝ }
 {
     let mut i = 0usize;

@@ -1,94 +1,84 @@
 -- `cutfile::write_picture` meets its contract.
 -- Assumes nothing.
-use mathlib.Core.Path.{_≡_}
 use Prim.Native.Nat.{_*_, _≤_}
 use native.Mathlib.Omega.{arith}
 use mir.Facts.{fits-le, fits-lit}
-use Rattle.pam.specs.Header.{heightOf, widthOf}
-use Rattle.pam.specs.Picture.{mostPixels, pixelsOf, coloursFrom, alphaFrom, coloursOf, alphaOf}
-use Rattle.cutfile.specs.steps.Room.{pictureText}
-use Rattle.text.proofs.Written.{wrote-as}
+use Rattle.pam.specs.declared.header.Header.{Header}
+use Rattle.pam.specs.Picture.{mostPixels}
 use Rattle.cutfile.proofs.Pictures.{room-most}
-use Rattle.pam.proofs.Files.{SidesOk, file-ok, sides-of}
+use Rattle.pam.proofs.Files.{Small, header-small, FileOk, file-ok, SidesOk, sides-of}
 use Rattle.cutfile.proofs.Texts.{part-long}
 use borrow.Author.Needs.{needs}
 use Rattle.cutfile.proofs.write_picture.Statement.{statement}
 use Rattle.cutfile.proofs.write_picture.Tie as tie
 
--- the picture has few pixels, and accepted sides
-small : (c : tie.After-body-at) → c .before .before .height .result * c .before .width .result ≤ mostPixels
-unfolding pixelsOf
-small c =
-    let o = c .before .before .before .before .before in
-    rw (c .before .before .height .ensures .0, c .before .width .ensures .0) (file-ok (o .args .input .now) (o .pre .0) .few)
+-- the header, from where the call began: its pixels are few, and its sides accepted
+module _ (c : tie.Start) where
+  abbrev header : Header
+  header = c .args .header
 
-sides : (c : tie.After-body-at) → SidesOk (c .before .before .height .result) (c .before .width .result)
-sides c =
-    let o = c .before .before .before .before .before in
-    let k = file-ok (o .args .input .now) (o .pre .0) in
-    rw (c .before .before .height .ensures .0, c .before .width .ensures .0) (sides-of (o .args .input .now) (k .header-ok) (k .few))
+  known : Small header
+  known = rw (c .pre .0) (header-small (c .args .input .now))
 
--- the text of what is read is the text of the input
-texts : (c : tie.After-body-at)
-    → let i = c .before .before .before .before .before .args .input .now in
-    let h = c .before .before .height .result in
-    let w = c .before .width .result in
-    let at = c .body-at .result in
-    pictureText (coloursFrom i at (h * w)) (alphaFrom i at (h * w)) h w
-    ≡ pictureText (coloursOf i) (alphaOf i) (heightOf i) (widthOf i)
-unfolding coloursOf alphaOf pixelsOf
-texts c = rw (c .body-at .ensures .0, c .before .before .height .ensures .0, c .before .width .ensures .0)
+  passed : FileOk header (c .args .input .now)
+  passed = file-ok header (c .args .input .now) (c .pre .1)
+
+  few : header .height * header .width ≤ mostPixels
+  few = passed .few
+
+  sides : SidesOk (header .height) (header .width)
+  sides = sides-of header known (passed .header-ok) (passed .few)
+
+-- where the call began, from where the parts of the buffers are taken
+begun : tie.After-alpha → tie.Start
+begun c = c .before .before .before .before
 
 part-mask-end : tie.Need-part-mask-end
-part-mask-end c = omega (arith, small (c .before .before .before .before .before .before))
+unfolding begun
+part-mask-end c = omega (arith, few (begun (c .before .before .before .before)))
 
 part-weights-end : tie.Need-part-weights-end
-part-weights-end c = omega (arith, small (c .before .before .before .before .before .before .before))
+unfolding begun
+part-weights-end c = omega (arith, few (begun (c .before .before .before .before .before)))
 
 read-and-cut-requires : tie.Need-read-and-cut-requires
+unfolding begun
 read-and-cut-requires c κs =
-    let b = c .before .before .before .before .before .before .before .before .before in
+    let b = begun (c .before .before .before .before .before .before .before) in
     let r = sides b in
-    let room = room-most (b .before .before .height .result) (b .before .width .result) (r .some-rows) (r .some-columns) (small b) in (
-      b .body-at .ensures .1,
+    let n = few b in
+    let room = room-most (header b .height) (header b .width) (r .some-rows) (r .some-columns) n in (
+      known b .body-most,
       record {
         some-rows = r .some-rows;
         some-columns = r .some-columns;
         tall = r .tall;
         wide = r .wide;
-        few = small b;
-        colours-long = part-long _ _ (omega (arith, small b));
-        alpha-long = part-long _ _ (small b);
+        few = n;
+        colours-long = part-long _ _ (omega (arith, n));
+        alpha-long = part-long _ _ n;
         nearest-long = room;
         shallow-long = room;
         deep-long = room;
         marks-long = room;
-        mask-long = part-long _ _ (small b);
-        weights-long = part-long _ _ (small b);
-        out-long = b .before .before .before .before .before .pre .1;
+        mask-long = part-long _ _ n;
+        weights-long = part-long _ _ n;
+        out-long = b .pre .2;
       },
     )
-
-returns : tie.Need-returns
-returns c =
-    let cut = c .before .before .before .before .before .before .before .before .before .before in
-    wrote-as (texts (cut .before .before .before .before .before .before .before .before .before .before)) (cut .read-and-cut .ensures)
 
 pub write-picture-spec : {M : Type 1} → statement M
 write-picture-spec =
     tie.close
     (tie.spec
-    (λ c κs. search needs)
-    (λ c κs. search needs)
-    (λ c κs. search needs)
-    (λ c. fits-le (small c) (fits-lit tt))
-    (λ c. omega (arith, small c))
+    (λ c. fits-le (few (c .before .before)) (fits-lit tt))
+    (λ c. omega (arith, few (c .before .before)))
     (λ c. search needs)
     (λ c. search needs)
-    (λ c. omega (arith, small c))
+    (λ c. omega (arith, few (c .before .before)))
     (λ c. search needs)
     (λ c. search needs)
-    (λ c. omega (arith, small (c .before)))
+    (λ c. omega (arith, few (c .before .before .before)))
     (λ c. search needs)
     (λ c. search needs)
     (λ c. search needs)
@@ -101,4 +91,4 @@ write-picture-spec =
     part-weights-end
     read-and-cut-requires
     (λ c. search needs)
-    returns)
+    (λ c. c .before .before .before .before .before .before .before .before .before .before .read-and-cut .ensures))

@@ -3,7 +3,8 @@
 use Prim.Native.Nat.{ℕ}
 use mathlib.Core.List.{List}
 use Rattle.plane.specs.Refusal.{refusalOf}
+use Rattle.pam.specs.declared.header.Header.{Header}
 use Rattle.pam.specs.Picture.{fileTests}
 
-unfoldable pub fileRefusal : List ℕ → ℕ
-fileRefusal input = refusalOf (fileTests input)
+unfoldable pub fileRefusal : Header → List ℕ → ℕ
+fileRefusal header input = refusalOf (fileTests header input)

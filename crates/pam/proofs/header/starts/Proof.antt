@@ -1,8 +1,7 @@
 -- `pam::header::starts` meets its contract.
 -- Assumes nothing.
-use mathlib.Core.Path.{_≡_, sym, _∙_}
-use Prim.Native.Nat.{_+_, _-_, _≤_}
-use native.Mathlib.Nat.{add-zero}
+use mathlib.Core.Path.{_≡_, refl, sym, _∙_}
+use Prim.Native.Nat.{_-_, _≤_}
 use native.Mathlib.Omega.{arith}
 use lib.ListN.{length, drop}
 use Rattle.pam.specs.Header.{startsAt}
@@ -12,28 +11,25 @@ use Rattle.pam.proofs.header.starts.Statement.{statement}
 use Rattle.pam.proofs.header.starts.Tie as tie
 
 abbrev Inv-loop : tie.InvT-loop
-Inv-loop input at bytes i₀ i = (i ≤ length bytes) × (startsAt input at bytes ≡ startsAt input (at + i) (drop i bytes))
+Inv-loop line text i₀ i = (i ≤ length text) × (startsAt line 0 text ≡ startsAt line i (drop i text))
 
 abbrev μ-loop : tie.MeasureT-loop
-μ-loop input at bytes i₀ i = length bytes - i
-
-loop-holds : tie.Need-loop-holds Inv-loop μ-loop
-loop-holds c = (omega arith, rw add-zero)
+μ-loop line text i₀ i = length text - i
 
 returns : tie.Need-returns Inv-loop μ-loop
 returns c =
     let read = c .before .before in
     let l = read .before .before .loop in
-    sym (l .inv .1 ∙ starts-not _ _ _ (l .i) (omega arith) (λ e. c .if1 .taken (read .byte-at .ensures ∙ e)))
+    sym (l .inv .1 ∙ starts-not _ _ (l .i) (omega arith) (λ e. c .if1 .taken (read .byte-at .ensures ∙ e)))
 
 loop-again : tie.Need-loop-again Inv-loop μ-loop
 loop-again c =
     let read = c .before .before in
     let l = read .before .before .loop in
-    (omega arith, l .inv .1 ∙ starts-more _ _ _ (l .i) (omega arith) (sym (read .byte-at .ensures) ∙ c .if1 .left))
+    (omega arith, l .inv .1 ∙ starts-more _ _ (l .i) (omega arith) (sym (read .byte-at .ensures) ∙ c .if1 .left))
 
 returns-2 : tie.Need-returns-2 Inv-loop μ-loop
-returns-2 c = let l = c .before .loop in sym (l .inv .1 ∙ starts-end _ _ _ (l .i) (omega arith))
+returns-2 c = let l = c .before .loop in sym (l .inv .1 ∙ starts-end _ _ (l .i) (omega arith))
 
 pub starts-spec : {M : Type 1} → statement M
 starts-spec =
@@ -41,8 +37,7 @@ starts-spec =
     (tie.spec
     Inv-loop
     μ-loop
-    loop-holds
-    (λ c. omega arith)
+    (λ c. (omega arith, refl))
     (λ c κs. search needs)
     (λ c. omega arith)
     returns
