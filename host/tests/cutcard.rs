@@ -1,225 +1,28 @@
 //! The program cutcard as a process, on some thousand good, damaged and random inputs of fixed seeds.
-//! What it writes is compared, byte by byte, with the rules as they are read here (R38 to R43): the header by its
-//! lines, the cut by mask.rs where that is at hand and else by `stand::cut`, the text by `format!`.
-//! And the pipe with Netpbm, where that is installed.
+//! What it writes is compared, byte by byte, with the rules as `support/cutcard.rs` reads them (R38 to R43): the
+//! header by its lines, the cut by mask.rs where that is at hand and else by `stand::cut`, the text by `format!`.
+//! And the pipe with Netpbm, where that is installed. The headers have a test of their own, `headers.rs`.
 //!
 //! The program is `target/bin/cutcard` of the repository, which `rt check cutcard` proves and builds.
 //! Where it is not there, the tests say so and are left out.
 
 include!(concat!(env!("OUT_DIR"), "/the_rust.rs"));
 
+#[path = "../support/cutcard.rs"]
+mod cutcard;
 #[path = "../support/masks.rs"]
 mod masks;
 
+use cutcard::*;
 use masks::Random;
 use std::io::{ErrorKind, Read, Write};
 use std::os::unix::process::ExitStatusExt;
-use std::path::{Path, PathBuf};
+use std::path::Path;
 use std::process::{Child, Command, Output, Stdio};
 use std::thread;
 use std::time::Duration;
 
-fn say(line: String) {
-    std::io::stderr().write_all(line.as_bytes()).unwrap();
-}
-
-/// The program, or `None` with a line that says so.
-fn program() -> Option<PathBuf> {
-    let path = Path::new(env!("CARGO_MANIFEST_DIR")).join("../target/bin/cutcard");
-    if !path.is_file() {
-        say("skipped: there is no target/bin/cutcard; `rt check cutcard` builds it\n".to_string());
-        return None;
-    }
-    Some(path.canonicalize().expect("the program's path"))
-}
-
-/// Runs a command with this on its standard input, handed over in pieces. A command need not read all.
-fn feed(command: &mut Command, pieces: &[&[u8]], pause: Duration) -> std::io::Result<Output> {
-    let mut child = command
-        .stdin(Stdio::piped())
-        .stdout(Stdio::piped())
-        .stderr(Stdio::piped())
-        .spawn()?;
-    let mut stdin = child.stdin.take().expect("its standard input");
-    thread::scope(|scope| {
-        scope.spawn(move || {
-            for piece in pieces {
-                match stdin.write_all(piece) {
-                    Err(e) if e.kind() == ErrorKind::BrokenPipe => return,
-                    other => other.expect("a write to the pipe"),
-                }
-                thread::sleep(pause);
-            }
-        });
-        child.wait_with_output()
-    })
-}
-
-fn run(program: &Path, input: &[u8]) -> Vec<u8> {
-    let out = feed(&mut Command::new(program), &[input], Duration::ZERO).expect("cutcard");
-    assert!(out.status.success(), "{:?}", out.status);
-    assert!(out.stderr.is_empty());
-    out.stdout
-}
-
-// ---- the rules, read anew
-
-const TAIL: [&[u8]; 4] = [b"DEPTH 4", b"MAXVAL 255", b"TUPLTYPE RGB_ALPHA", b"ENDHDR"];
-
-/// A number of 1 to 5 digits after a word and one space, the first digit not 0.
-fn number(line: &[u8], word: &str) -> Option<u64> {
-    let digits = line.strip_prefix(word.as_bytes())?.strip_prefix(b" ")?;
-    let fine = (1..=5).contains(&digits.len()) && digits.iter().all(u8::is_ascii_digit);
-    if !fine || digits[0] == b'0' {
-        return None;
-    }
-    std::str::from_utf8(digits).ok()?.parse().ok()
-}
-
-/// Width, height and the bytes after the header; `None` where the header is not R38's.
-fn header(input: &[u8]) -> Option<(u64, u64, &[u8])> {
-    let mut rest = input;
-    let mut line = || {
-        let end = rest.iter().position(|&b| b == b'\n')?;
-        let (line, after) = rest.split_at(end);
-        rest = &after[1..];
-        Some(line)
-    };
-    if line()? != b"P7" {
-        return None;
-    }
-    let w = number(line()?, "WIDTH")?;
-    let h = number(line()?, "HEIGHT")?;
-    for fixed in TAIL {
-        if line()? != fixed {
-            return None;
-        }
-    }
-    Some((w, h, rest))
-}
-
-/// Mask, keyed flag and crop box with the settings 128, yes, 1, 0.03125, yes; `None` where no alpha
-/// reaches the threshold.
-type Cut = Option<(Vec<bool>, bool, [usize; 4])>;
-
-#[cfg(mask_rs)]
-fn cut(colours: &[f64], alpha: &[u8], h: usize, w: usize) -> Cut {
-    let config = config::Config {
-        alpha_threshold: 128,
-        key_bg: true,
-        key_bg_fringe: 1,
-        key_bg_tolerance: 0.03125,
-        crop_to_alpha: true,
-    };
-    let cut = mask::subject(colours, alpha, h, w, &config).ok()?;
-    let (y0, y1, x0, x1) = cut.crop;
-    Some((cut.mask, cut.background_keyed, [y0, y1, x0, x1]))
-}
-
-#[cfg(not(mask_rs))]
-fn cut(colours: &[f64], alpha: &[u8], h: usize, w: usize) -> Cut {
-    let picture = stand::Picture {
-        colours,
-        alpha,
-        h,
-        w,
-    };
-    let settings = stand::Settings {
-        alpha_threshold: 128,
-        key_bg: true,
-        key_bg_fringe: 1,
-        key_bg_tolerance: 0.03125,
-        crop_to_alpha: true,
-    };
-    let cut = stand::cut(&picture, &settings).ok()?;
-    let (rows, cols) = (cut.crop.rows, cut.crop.cols);
-    let mask = cut.mask.iter().map(|&m| m != 0).collect();
-    Some((
-        mask,
-        cut.keyed,
-        [rows.start, rows.end, cols.start, cols.end],
-    ))
-}
-
-/// The text, or the number of the refusal.
-fn answer(input: &[u8]) -> Result<String, u32> {
-    let (w, h, body) = header(input).ok_or(8u32)?;
-    if h * w > 2304 {
-        return Err(10);
-    }
-    if body.len() as u64 != 4 * h * w {
-        return Err(9);
-    }
-    let (h, w) = (h as usize, w as usize);
-    let pixels = body.chunks_exact(4);
-    let colours: Vec<f64> = pixels
-        .clone()
-        .flat_map(|p| [p[0], p[1], p[2]])
-        .map(|v| f64::from(v) / 255.0)
-        .collect();
-    let alpha: Vec<u8> = pixels.map(|p| p[3]).collect();
-    let (mask, keyed, [y0, y1, x0, x1]) = cut(&colours, &alpha, h, w).ok_or(6u32)?;
-    let keyed = u8::from(keyed);
-    let mut text = format!("P1\n# crop {y0} {y1} {x0} {x1} keyed {keyed}\n{w} {h}\n");
-    for row in mask.chunks(w) {
-        for line in row.chunks(70) {
-            text.extend(line.iter().map(|&m| if m { '1' } else { '0' }));
-            text.push('\n');
-        }
-    }
-    Ok(text)
-}
-
 // ---- inputs
-
-fn header_of(w: &str, h: &str) -> Vec<u8> {
-    format!("P7\nWIDTH {w}\nHEIGHT {h}\nDEPTH 4\nMAXVAL 255\nTUPLTYPE RGB_ALPHA\nENDHDR\n")
-        .into_bytes()
-}
-
-/// The bytes of a picture: an object on card whose colour varies a little, noise, or any bytes; opaque,
-/// with holes at the threshold, or transparent.
-fn pixels(random: &mut Random, h: usize, w: usize) -> Vec<u8> {
-    let kind = random.below(6);
-    let clear = random.below(12);
-    let object = masks::object(h, w);
-    let (card, ink) = (random.next().to_le_bytes(), random.next().to_le_bytes());
-    let mut body = Vec::with_capacity(4 * h * w);
-    for (i, &on) in object.iter().enumerate() {
-        for c in 0..3 {
-            let plain = if on == 0 { card[c] } else { ink[c] };
-            body.push(match kind {
-                0 => random.below(256) as u8,
-                1 => plain.saturating_add(random.below(9) as u8),
-                2 if i % 5 == 0 => card[c] / 2 + ink[c] / 2,
-                _ => plain,
-            });
-        }
-        body.push(match clear {
-            0 => random.below(256) as u8,
-            1 => 127 + random.below(2) as u8,
-            2 => 128,
-            3 => random.below(128) as u8,
-            _ => 255,
-        });
-    }
-    body
-}
-
-fn good(random: &mut Random, h: usize, w: usize) -> Vec<u8> {
-    let mut file = header_of(&w.to_string(), &h.to_string());
-    file.extend(pixels(random, h, w));
-    file
-}
-
-/// The example of R43: 5 by 5 white with (2, 2) black.
-fn badge() -> Vec<u8> {
-    let mut file = header_of("5", "5");
-    let mut body = vec![255; 100];
-    body[48..51].fill(0);
-    file.extend(body);
-    file
-}
 
 fn sizes(random: &mut Random) -> Vec<(usize, usize)> {
     let mut sizes = vec![(48, 48), (1, 1), (2304, 1), (1, 2304), (2, 1152), (36, 64)];
@@ -236,36 +39,6 @@ fn sizes(random: &mut Random) -> Vec<(usize, usize)> {
     sizes
 }
 
-/// A file with its header damaged at every place: a byte changed, left out, put in.
-fn damaged(random: &mut Random, file: &[u8], head: usize) -> Vec<Vec<u8>> {
-    let mut files = Vec::new();
-    for at in 0..head {
-        for b in [
-            0,
-            b' ',
-            b'\n',
-            b'\r',
-            b'0',
-            b'9',
-            file[at] ^ 32,
-            random.below(256) as u8,
-        ] {
-            let mut changed = file.to_vec();
-            changed[at] = b;
-            files.push(changed);
-        }
-        let mut without = file.to_vec();
-        without.remove(at);
-        files.push(without);
-        for b in [b' ', b'\n', b'0', file[at]] {
-            let mut with = file.to_vec();
-            with.insert(at, b);
-            files.push(with);
-        }
-    }
-    files
-}
-
 fn inputs(random: &mut Random) -> Vec<Vec<u8>> {
     let mut files = vec![Vec::new(), badge()];
     for (h, w) in sizes(random) {
@@ -277,33 +50,8 @@ fn inputs(random: &mut Random) -> Vec<Vec<u8>> {
         files.extend(damaged(random, &file, file.len() - 4 * h * w));
     }
     // Numbers that are none, or too large.
-    let words = [
-        "",
-        "0",
-        "1",
-        "5",
-        "05",
-        "00005",
-        "5 ",
-        " 5",
-        "+5",
-        "-5",
-        "5.0",
-        "0x5",
-        "2304",
-        "2305",
-        "9999",
-        "10000",
-        "65537",
-        "99999",
-        "100000",
-        "000001",
-        "123456",
-        "4294967296",
-        "５",
-    ];
-    for w in words {
-        for h in words {
+    for w in SIDES {
+        for h in SIDES {
             let mut file = header_of(w, h);
             file.extend([255; 100]);
             files.push(file);
@@ -313,14 +61,14 @@ fn inputs(random: &mut Random) -> Vec<Vec<u8>> {
     let (small, large) = (badge(), good(random, 48, 48));
     files.extend((0..small.len()).map(|n| small[..n].to_vec()));
     for file in [small, large] {
-        for more in [1, 2, 3, 4, 100, 9290, 70000, 300000] {
+        for more in [1, 2, 3, 4, 100, 9290, MOST_READ, 70000, 300000] {
             let mut long = file.clone();
             long.resize(file.len() + more, random.below(256) as u8);
             files.push(long);
         }
         files.push(file[..file.len() - 1].to_vec());
     }
-    for total in 9285..9295 {
+    for total in (9285..9295).chain(MOST_READ - 5..MOST_READ + 5) {
         let mut file = header_of("00048", "48");
         file.resize(total, 255);
         files.push(file);
@@ -361,58 +109,9 @@ fn the_example() {
 fn every_kind_of_input() {
     let Some(program) = program() else { return };
     let files = inputs(&mut Random(20261116));
-    let workers = 2;
-    let counts = thread::scope(|scope| {
-        let handles: Vec<_> = (0..workers)
-            .map(|worker| {
-                let (program, files) = (&program, &files);
-                scope.spawn(move || {
-                    // Accepted and keyed, accepted and not, refused with 6, 8, 9, 10.
-                    let mut counts = [0usize; 6];
-                    for (index, file) in files.iter().enumerate().skip(worker).step_by(workers) {
-                        let answer = answer(file);
-                        let kind = match &answer {
-                            Ok(text) if text.contains("keyed 1") => 0,
-                            Ok(_) => 1,
-                            Err(number) => {
-                                [6, 8, 9, 10].iter().position(|n| n == number).unwrap() + 2
-                            }
-                        };
-                        counts[kind] += 1;
-                        let text = answer.unwrap_or_else(|number| format!("refused {number}\n"));
-                        let written = run(program, file);
-                        assert_eq!(
-                            String::from_utf8_lossy(&written),
-                            text,
-                            "input {index}, of {} bytes: {:?}",
-                            file.len(),
-                            String::from_utf8_lossy(&file[..file.len().min(90)])
-                        );
-                    }
-                    counts
-                })
-            })
-            .collect();
-        let mut sum = [0usize; 6];
-        for handle in handles {
-            for (all, own) in sum.iter_mut().zip(handle.join().expect("a worker")) {
-                *all += own;
-            }
-        }
-        sum
-    });
-    say(format!(
-        "cutcard: {} inputs; keyed {}, not keyed {}, refused 6: {}, 8: {}, 9: {}, 10: {}\n",
-        files.len(),
-        counts[0],
-        counts[1],
-        counts[2],
-        counts[3],
-        counts[4],
-        counts[5]
-    ));
-    let least = [100, 100, 30, 500, 100, 30];
-    assert!(counts.iter().zip(least).all(|(n, least)| *n >= least));
+    let counts = compared(&program, &files, "input");
+    say(counts.line("cutcard"));
+    assert!(counts.reach([100, 100, 30, 500, 100, 30]));
 }
 
 #[test]
@@ -438,12 +137,7 @@ fn in_little_stack() {
     for (h, w) in [(48, 48), (1, 2304), (2304, 1), (24, 96), (5, 5)] {
         for _ in 0..4 {
             let file = good(&mut random, h, w);
-            let text = answer(&file).unwrap_or_else(|number| format!("refused {number}\n"));
-            let mut command = Command::new("sh");
-            command.args(["-c", "ulimit -s 256 && exec \"$0\""]);
-            let out = feed(command.arg(&program), &[&file], Duration::ZERO).expect("sh");
-            assert!(out.status.success(), "{h} × {w}: {:?}", out.status);
-            assert_eq!(String::from_utf8_lossy(&out.stdout), text, "{h} × {w}");
+            run_in_little_stack(&program, &file, &format!("{h} × {w}"));
         }
     }
 }
@@ -561,29 +255,6 @@ fn a_slow_pipe() {
     let out = child.wait_with_output().unwrap();
     assert!(out.status.success() && out.stderr.is_empty());
     assert_eq!(String::from_utf8_lossy(&wrote[65000..]), text);
-}
-
-/// Runs one of Netpbm's programs; `None`, with a line that says so, where it is not installed.
-fn netpbm(words: &[&str], input: &[u8]) -> Option<Vec<u8>> {
-    match feed(
-        Command::new(words[0]).args(&words[1..]),
-        &[input],
-        Duration::ZERO,
-    ) {
-        Err(e) if e.kind() == ErrorKind::NotFound => {
-            say(format!(
-                "skipped: `{}` of Netpbm is not installed\n",
-                words[0]
-            ));
-            None
-        }
-        other => {
-            let out = other.expect(words[0]);
-            let said = String::from_utf8_lossy(&out.stderr);
-            assert!(out.status.success(), "{words:?}: {said}");
-            Some(out.stdout)
-        }
-    }
 }
 
 /// `pngtopam -alphapam picture.png | cutcard | pnmtopng > mask.png`, on PNGs that Netpbm makes.
