@@ -14,7 +14,7 @@ use std::path::{Path, PathBuf};
 const CALLS: [&str; 4] = ["geometry", "keying", "stand", "cutfile"];
 
 /// Theorems, by crate and name; and every public statement of these files.
-const THEOREMS: [(&str, &str); 9] = [
+const THEOREMS: [(&str, &str); 13] = [
     ("nearest", "nearest-some"),
     ("nearest", "nearest-none"),
     ("nearest", "nearest-is"),
@@ -23,7 +23,11 @@ const THEOREMS: [(&str, &str); 9] = [
     ("outline", "cases-hold"),
     ("pam", "header-accepted"),
     ("pam", "header-means"),
+    ("pam", "earlier-same"),
     ("cutfile", "first-bytes"),
+    ("cutfile", "first-eight"),
+    ("cutfile", "earlier-kept"),
+    ("cutfile", "earlier-accepted"),
 ];
 const THEOREM_FILE: &str = "TwoPictures.antt";
 

@@ -19,7 +19,7 @@ use Rattle.pam.specs.Header.{widthName, heightName, depthText, maxvalTex
 use Rattle.pam.specs.HeaderText.{isPlain, allPlain, textOf, headerText, Lines}
 use Rattle.pam.specs.EarlierHeader.{widthText, heightText, tailText, digitsAt, isNumber}
 use Rattle.pam.specs.EarlierHeader.{widthAt, middleAt, heightAt, tailAt, bodyAt, widthOf, heightOf, earlierOk, earlierOf}
-use Rattle.pam.proofs.Reading.{byte-first, noZero, starts-split}
+use Rattle.pam.proofs.Comparing.{byte-first, noZero, starts-split}
 use Rattle.pam.proofs.Numbers.{numeral}
 use Rattle.pam.proofs.HeaderLaws.{side-given, header-accepted}
 

@@ -21,7 +21,7 @@ use Rattle.pam.specs.Header.{firstText, widthName, heightName, depthText
 use Rattle.pam.specs.Header.{fieldLines, fieldsOk, sideFrom, sideIn, bytesOf, linesOk, mostHeader, headerBy, headerOf}
 use Rattle.pam.specs.Picture.{mostPixels, mostInput, pixelsOf, fileTests}
 use Rattle.pam.specs.steps.File.{fileRefusal}
-use Rattle.pam.proofs.Reading.{text-long}
+use Rattle.pam.proofs.Comparing.{text-long}
 use Rattle.pam.proofs.Numbers.{numeral, value-some, value-most}
 
 -- ---- the sides

@@ -18,7 +18,7 @@ use Rattle.pam.specs.Header.{inFront, linesOf, countOf, startsAt, isText
 use Rattle.pam.specs.Header.{firstText, widthName, heightName, endText}
 use Rattle.pam.specs.Header.{fieldLines, fieldsOk, sideFrom, sideIn, bytesOf, linesOk, mostHeader, headerBy, headerOf}
 use Rattle.pam.specs.HeaderText.{isPlain, allPlain, textOf, headerText, Stands, Lines}
-use Rattle.pam.proofs.Reading.{starts-is, starts-front, text-is}
+use Rattle.pam.proofs.Comparing.{starts-is, starts-front, text-is}
 use Rattle.pam.proofs.Lines.{first-line, lines-text}
 use Rattle.pam.proofs.Numbers.{numeral}
 use Rattle.pam.proofs.Files.{fields-are, lines-ok}

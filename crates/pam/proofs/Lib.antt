@@ -1,4 +1,4 @@
-mod Reading
+mod Comparing
 mod Lines
 mod Numbers
 pub mod Range

@@ -20,7 +20,7 @@ use Rattle.pam.specs.Header.{firstText, widthName, heightName, depthText
 use Rattle.pam.specs.Header.{fieldLines, fieldsOk, sideIn, bytesOf, linesOk, declined, headerBy}
 use Rattle.pam.specs.steps.Reading.{lineLong, noFields, more, withLine, Few, seenOk, headerFrom, readFrom}
 use Rattle.pam.specs.HeaderText.{textOf}
-use Rattle.pam.proofs.Reading.{noZero, starts-is, starts-split, text-long, text-is}
+use Rattle.pam.proofs.Comparing.{noZero, starts-is, starts-split, text-long, text-is}
 
 -- ---- the first line of a text
 

@@ -16,7 +16,7 @@ use Rattle.plane.proofs.Refusal.{and-true}
 use Rattle.text.specs.Decimal.{isDigit, allDigits, valueFrom, valueOf, digitsUpto, numberUpto}
 use Rattle.text.proofs.Decimal.{digit-is, digits-most, value-below, stand}
 use Rattle.pam.specs.Header.{mostDigits, isNumeral}
-use Rattle.pam.proofs.Reading.{byte-first, byte-is, drop-one}
+use Rattle.pam.proofs.Comparing.{byte-first, byte-is, drop-one}
 
 -- ---- digits that stand at a place
 

@@ -10,7 +10,7 @@ use Rattle.pam.specs.declared.header.Header.{Header}
 
 -- ---- lines
 
--- a byte put in front of the first of some lines
+-- a byte put in front of the first of some lines; where there is none, no newline ends what the byte begins (R38)
 unfoldable pub inFront : ℕ → List (List ℕ) → List (List ℕ)
 inFront b [] = []
 inFront b (line ∷ lines) = (b ∷ line) ∷ lines
@@ -20,7 +20,7 @@ unfoldable pub linesOf : List ℕ → List (List ℕ)
 linesOf [] = []
 linesOf (b ∷ text) = cond (eqb b 10) ([] ∷ linesOf text) (inFront b (linesOf text))
 
--- on how many lines a test holds
+-- on how many lines a test holds (R38)
 unfoldable pub countOf : (List ℕ → Bool) → List (List ℕ) → ℕ
 countOf test [] = 0
 countOf test (line ∷ lines) = cond (test line) 1 0 + countOf test lines

@@ -5,7 +5,7 @@ use Prim.Native.Nat.{_-_, _≤_}
 use native.Mathlib.Omega.{arith}
 use lib.ListN.{length, drop}
 use Rattle.pam.specs.Header.{startsAt}
-use Rattle.pam.proofs.Reading.{starts-more, starts-not, starts-end}
+use Rattle.pam.proofs.Comparing.{starts-more, starts-not, starts-end}
 use borrow.Author.Needs.{needs}
 use Rattle.pam.proofs.header.starts.Statement.{statement}
 use Rattle.pam.proofs.header.starts.Tie as tie
