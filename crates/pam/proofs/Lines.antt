@@ -119,40 +119,20 @@ given s (line ∷ lines) =
 pub few-more : (s : Fields) (line : List ℕ) (n : ℕ) → Few s n → Few (withLine s line) (n + 1)
 unfolding withLine
 few-more s line n f =
-    record {
-      few-widths = one (isSide widthName line) (f .few-widths);
-      few-heights = one (isSide heightName line) (f .few-heights);
-      few-depths = one (isText depthText line) (f .few-depths);
-      few-maxvals = one (isText maxvalText line) (f .few-maxvals);
-      few-tupltypes = one (isText tupltypeText line) (f .few-tupltypes);
-      few-others = one (isOther line) (f .few-others);
-    }
+    omega (
+      arith,
+      f,
+      one (isSide widthName line),
+      one (isSide heightName line),
+      one (isText depthText line),
+      one (isText maxvalText line),
+      one (isText tupltypeText line),
+      one (isOther line),
+    )
   where
-    one : (t : Bool) {k : ℕ} → k ≤ n → more k t ≤ n + 1
-    one true l = omega arith
-    one false l = omega arith
-
-pub few-zero : (n : ℕ) → Few noFields n
-few-zero n =
-    record {
-      few-widths = omega arith;
-      few-heights = omega arith;
-      few-depths = omega arith;
-      few-maxvals = omega arith;
-      few-tupltypes = omega arith;
-      few-others = omega arith;
-    }
-
-pub few-le : {s : Fields} {n m : ℕ} → n ≤ m → Few s n → Few s m
-few-le l f =
-    record {
-      few-widths = omega (arith, f .few-widths);
-      few-heights = omega (arith, f .few-heights);
-      few-depths = omega (arith, f .few-depths);
-      few-maxvals = omega (arith, f .few-maxvals);
-      few-tupltypes = omega (arith, f .few-tupltypes);
-      few-others = omega (arith, f .few-others);
-    }
+    one : (t : Bool) → cond t 1 0 ≤ 1
+    one true = omega arith
+    one false = omega arith
 
 -- ---- a line that stands in a text from a place to its end
 

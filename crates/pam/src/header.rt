@@ -1,7 +1,7 @@
 // Reading the header of a PAM file, line by line.
 ghost use mathlib.Core.Path.{_≡_};
 ghost use mathlib.Core.Bool.{true};
-ghost use Prim.Native.Nat.{_+_, _≤_, _<_};
+ghost use Prim.Native.Nat.{_+_, _*_, _≤_, _<_};
 ghost use lib.ListN.{length, drop};
 ghost use Rattle.pam.specs.Header.{startsAt, isText, isNumeral, isSide, sideFrom, isSkipped};
 ghost use Rattle.pam.specs.Header.{linesOf, mostHeader, declined, headerBy, headerOf};
@@ -97,7 +97,7 @@ fn is_skipped(line: &[u8]) -> bool
 
 // A count with one more line, where that counts.
 fn counted(n: usize, t: bool) -> usize
-    requires { ⌜ n < mostHeader ⌝ }
+    requires { ⌜ n < 6 * mostHeader ⌝ }
     ensures { λ r. ⌜ r ≡ more n t ⌝ }
 {
     if t { n + 1 } else { n }

@@ -1,6 +1,6 @@
 -- The header read line by line.
 -- Assumes nothing.
-use Prim.Native.Nat.{ℕ, suc, _+_, _≤_}
+use Prim.Native.Nat.{ℕ, suc, _+_, _*_, _≤_}
 use mathlib.Core.Bool.{Bool, true, cond, _&&_}
 use mathlib.Core.List.{List, [], _∷_}
 use lib.Dec.{eqb}
@@ -47,14 +47,9 @@ withLine s line =
       height = sideFrom heightName (s .height) line;
     }
 
--- no count is above n
-pub record Few (s : Fields) (n : ℕ) : Type 0 where
-  pub few-widths : s .widths ≤ n
-  pub few-heights : s .heights ≤ n
-  pub few-depths : s .depths ≤ n
-  pub few-maxvals : s .maxvals ≤ n
-  pub few-tupltypes : s .tupltypes ≤ n
-  pub few-others : s .others ≤ n
+-- the counts are those of at most n lines, six counts a line
+abbrev pub Few : Fields → ℕ → Type 0
+Few s n = s .widths + s .heights + s .depths + s .maxvals + s .tupltypes + s .others ≤ 6 * n
 
 -- whether the lines were as they should be
 unfoldable pub seenOk : Fields → Bool

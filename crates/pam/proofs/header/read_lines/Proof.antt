@@ -8,7 +8,7 @@ use lib.ListN.{length, take, drop}
 use borrow.Author.Needs.{needs}
 use Rattle.pam.specs.Header.{linesOf}
 use Rattle.pam.specs.steps.Reading.{Few, noFields, withLine, readFrom}
-use Rattle.pam.proofs.Lines.{few-zero, few-more, few-le, end-most, read-past, read-none, read-end, read-next}
+use Rattle.pam.proofs.Lines.{few-more, end-most, read-past, read-none, read-end, read-next}
 use Rattle.pam.proofs.header.read_lines.Statement.{statement}
 use Rattle.pam.proofs.header.read_lines.Tie as tie
 
@@ -22,7 +22,7 @@ abbrev μ-loop : tie.MeasureT-loop
 μ-loop front start at₀ seen₀ t at seen = length front - at
 
 loop-holds : tie.Need-loop-holds Inv-loop μ-loop
-loop-holds c = (omega arith, few-zero _, refl)
+loop-holds c = (omega arith, omega arith, refl)
 
 -- where the end of a line is known
 module _ (c : tie.After-line-end Inv-loop μ-loop) where
@@ -61,7 +61,7 @@ returns-2 c =
 with-line-requires : tie.Need-with-line-requires Inv-loop μ-loop
 with-line-requires c κs =
     let l = here (c .before .before .before .before .before) in
-    few-le {n = l .loop .at} {m = 4095} (omega (arith, l .before .before .pre .1)) (l .loop .inv .1)
+    omega (arith, l .loop .inv .1, l .before .before .pre .1)
 
 loop-again : tie.Need-loop-again Inv-loop μ-loop
 loop-again c =
@@ -72,7 +72,7 @@ loop-again c =
     let line = take (e .line-end .result - l .at) (drop (l .at) (text e)) in
     let one : Few (withLine (l .seen) line) (l .at + 1) = few-more (l .seen) line (l .at) (l .inv .1) in (
       omega (arith, short t),
-      rw (c .with-line .ensures) (few-le (omega (arith, later e)) one),
+      rw (c .with-line .ensures) (omega (arith, one, later e)),
       rw (c .with-line .ensures) (read-next (text e) (l .seen) (l .at) _ (e .line-end .ensures) (l .inv .0) (short t) no) ∙ l .inv .2,
     )
 
