@@ -13,14 +13,15 @@ use lib.Seq.{take-all}
 use Rattle.plane.specs.Refusal.{refusalOf}
 use Rattle.plane.specs.Search.{someBelow}
 use Rattle.plane.proofs.Search.{which, either}
-use Rattle.pam.specs.declared.header.Header.{Header}
-use Rattle.pam.specs.Header.{mostHeader, headerOf}
-use Rattle.pam.specs.EarlierHeader.{earlierOf}
+use Rattle.pam_header.specs.declared.Header.{Header}
+use Rattle.pam_header.specs.Header.{mostHeader, headerOf}
+use Rattle.pam_header.specs.EarlierHeader.{earlierOf}
 use Rattle.pam.specs.Picture.{mostPixels, mostInput, pixelsOf, alphaOf}
 use Rattle.pam.specs.Settings.{threshold}
 use Rattle.pam.specs.steps.File.{fileRefusal}
-use Rattle.pam.proofs.Files.{header-first, long-declined}
-use Rattle.pam.proofs.EarlierLaws.{earlier-same}
+use Rattle.pam_header.proofs.Sizes.{header-first}
+use Rattle.pam.proofs.Files.{long-declined}
+use Rattle.pam_header.proofs.EarlierLaws.{earlier-same}
 use Rattle.cutfile.specs.Cutcard.{refusalUnder, textUnder, cardRefusal, cardText}
 use Rattle.cutfile.specs.Earlier.{earlierRefusal, earlierText}
 use Rattle.cutfile.proofs.Texts.{card-declined}

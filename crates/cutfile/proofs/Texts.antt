@@ -16,12 +16,13 @@ use Rattle.plane.specs.Search.{someBelow}
 use Rattle.plane.proofs.Search.{either}
 use Rattle.plane.proofs.Refusal.{declined-first, passed-first}
 use Rattle.text.specs.steps.Writing.{Wrote}
-use Rattle.pam.specs.declared.header.Header.{Header}
-use Rattle.pam.specs.Header.{headerOf}
+use Rattle.pam_header.specs.declared.Header.{Header}
+use Rattle.pam_header.specs.Header.{headerOf}
 use Rattle.pam.specs.Settings.{threshold}
 use Rattle.pam.specs.Picture.{mostPixels, pixelsOf, coloursOf, alphaOf, fileTests}
 use Rattle.pam.specs.steps.File.{fileRefusal}
-use Rattle.pam.proofs.Files.{Small, header-small, file-ok, sides-of}
+use Rattle.pam_header.proofs.Sizes.{Small, header-small}
+use Rattle.pam.proofs.Files.{file-ok, sides-of}
 use Rattle.pbm.specs.Text.{refusalText}
 use Rattle.pbm.proofs.Lengths.{mask-long, refusal-short}
 use Rattle.cutfile.specs.Cutcard.{alphaTest, refusalUnder, textUnder, cutWith, cutText, cardText, mostText, CardCalled}

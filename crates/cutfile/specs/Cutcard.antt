@@ -11,8 +11,8 @@ use Rattle.plane.specs.Refusal.{Test, refusalOf}
 use Rattle.plane.specs.Search.{someBelow}
 use Rattle.outline.specs.Border.{referenceOf}
 use Rattle.outline.specs.Cut.{Cut, cutOf}
-use Rattle.pam.specs.declared.header.Header.{Header}
-use Rattle.pam.specs.Header.{headerOf}
+use Rattle.pam_header.specs.declared.Header.{Header}
+use Rattle.pam_header.specs.Header.{headerOf}
 use Rattle.pam.specs.Picture.{coloursOf, alphaOf, fileTests}
 use Rattle.pam.specs.Settings.{threshold, settings}
 use Rattle.pbm.specs.Text.{maskText, refusalText}

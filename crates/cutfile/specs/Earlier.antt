@@ -3,7 +3,7 @@
 -- Assumes nothing.
 use Prim.Native.Nat.{ℕ}
 use mathlib.Core.List.{List}
-use Rattle.pam.specs.EarlierHeader.{earlierOf}
+use Rattle.pam_header.specs.EarlierHeader.{earlierOf}
 use Rattle.cutfile.specs.Cutcard.{refusalUnder, textUnder}
 
 -- the number of an input's refusal, and what was printed for it (R80)

@@ -5,7 +5,7 @@ ghost use Prim.Native.Nat.{_≤_, _<_, _*_};
 ghost use lib.ListN.{length};
 ghost use Rattle.colour.specs.Colour.{coloursOk};
 ghost use Rattle.text.specs.steps.Writing.{Wrote};
-ghost use Rattle.pam.specs.Header.{mostHeader, headerOf};
+ghost use Rattle.pam_header.specs.Header.{mostHeader, headerOf};
 ghost use Rattle.pam.specs.Picture.{coloursFrom, alphaFrom, coloursOf, alphaOf};
 ghost use Rattle.pam.specs.steps.File.{fileRefusal};
 ghost use Rattle.cutfile.specs.Cutcard.{mostText, CardCalled};
@@ -13,7 +13,7 @@ ghost use Rattle.cutfile.specs.steps.Room.{Room, pictureText, answerText
 use outline::Outcome;
 use pam::MOST_INPUT;
 use pam::MOST_PIXELS;
-use pam::header::Header;
+use pam_header::Header;
 
 // How many colours the largest picture has, and how many numbers a work buffer for it holds at least.
 const MOST_COLOURS: usize = 6912;
@@ -157,7 +157,7 @@ pub fn cutcard(input: &[u8], out: &mut [u8]) -> usize
     if out.len() < MOST_TEXT {
         return 0;
     }
-    let header = pam::header::read_header(input);
+    let header = pam_header::read_header(input);
     let refusal = pam::file_refusal(header, input);
     if refusal != 0 {
         return pbm::write_refusal(out, refusal);

@@ -8,8 +8,8 @@ use lib.Ieee.{Float}
 use Rattle.plane.specs.Plane.{table}
 use Rattle.plane.specs.Refusal.{Test}
 use Rattle.colour.specs.Weight.{weightOf}
-use Rattle.pam.specs.declared.header.Header.{Header}
-use Rattle.pam.specs.Header.{mostHeader}
+use Rattle.pam_header.specs.declared.Header.{Header}
+use Rattle.pam_header.specs.Header.{mostHeader}
 
 -- the most pixels of a picture (R39)
 abbrev pub mostPixels : ℕ

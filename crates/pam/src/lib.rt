@@ -1,17 +1,15 @@
 // What cutcard is given: a picture in a PAM file, of at most 2304 pixels, and its settings.
-pub mod header;
-
 ghost use mathlib.Core.Path.{_≡_};
 ghost use mathlib.Core.Bool.{true};
 ghost use Prim.Native.Nat.{_*_, _≤_};
 ghost use lib.ListN.{length};
 ghost use Rattle.colour.specs.Colour.{coloursOk};
 ghost use Rattle.pam.specs.Settings.{settings};
-ghost use Rattle.pam.specs.Header.{mostHeader, headerOf};
+ghost use Rattle.pam_header.specs.Header.{mostHeader, headerOf};
 ghost use Rattle.pam.specs.Picture.{mostPixels, mostInput, coloursFrom, alphaFrom};
 ghost use Rattle.pam.specs.steps.File.{fileRefusal};
 use colour::Settings;
-use header::Header;
+use pam_header::Header;
 
 // The most pixels of a picture.
 pub const MOST_PIXELS: usize = 2304;

@@ -2,7 +2,7 @@
 -- Assumes nothing.
 use mathlib.Core.Path.{sym, ap, _∙_}
 use borrow.Author.Tests.{lt-leb}
-use Rattle.pam.specs.declared.header.Header.{Header}
+use Rattle.pam_header.specs.declared.Header.{Header}
 use Rattle.cutfile.specs.Cutcard.{mostText, textUnder}
 use Rattle.cutfile.proofs.Texts.{card-declined, card-picture, file-small, whole}
 use native.Mathlib.Omega.{arith}

@@ -3,10 +3,11 @@
 use Prim.Native.Nat.{_*_, _≤_}
 use native.Mathlib.Omega.{arith}
 use mir.Facts.{fits-le, fits-lit}
-use Rattle.pam.specs.declared.header.Header.{Header}
+use Rattle.pam_header.specs.declared.Header.{Header}
 use Rattle.pam.specs.Picture.{mostPixels}
 use Rattle.cutfile.proofs.Pictures.{room-most}
-use Rattle.pam.proofs.Files.{Small, header-small, FileOk, file-ok, SidesOk, sides-of}
+use Rattle.pam_header.proofs.Sizes.{Small, header-small}
+use Rattle.pam.proofs.Files.{FileOk, file-ok, SidesOk, sides-of}
 use Rattle.cutfile.proofs.Texts.{part-long}
 use borrow.Author.Needs.{needs}
 use Rattle.cutfile.proofs.write_picture.Statement.{statement}

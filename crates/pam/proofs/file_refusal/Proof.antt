@@ -9,7 +9,7 @@ use borrow.Author.Tests.{not-true, not-false, eq-eqb, ne-eqb, le-leb, lt-leb}
 use borrow.Author.Needs.{needs}
 use Rattle.plane.specs.Refusal.{refusalOf}
 use Rattle.pam.specs.steps.File.{fileRefusal}
-use Rattle.pam.proofs.Files.{Small, header-small}
+use Rattle.pam_header.proofs.Sizes.{Small, header-small}
 use Rattle.pam.proofs.file_refusal.Statement.{statement}
 use Rattle.pam.proofs.file_refusal.Tie as tie
 

@@ -3,7 +3,7 @@
 use Prim.Native.Nat.{ℕ}
 use mathlib.Core.List.{List}
 use Rattle.plane.specs.Refusal.{refusalOf}
-use Rattle.pam.specs.declared.header.Header.{Header}
+use Rattle.pam_header.specs.declared.Header.{Header}
 use Rattle.pam.specs.Picture.{fileTests}
 
 unfoldable pub fileRefusal : Header → List ℕ → ℕ

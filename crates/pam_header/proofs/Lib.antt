@@ -1,0 +1,7 @@
+mod Comparing
+mod Lines
+mod Numbers
+pub mod Sizes
+pub mod HeaderLaws
+pub mod EarlierLaws
+mod Cases

@@ -1,0 +1,4 @@
+pub mod Header
+pub mod HeaderText
+pub mod EarlierHeader
+pub mod steps
