@@ -16,7 +16,7 @@ use Rattle.text.specs.Decimal.{isDigit, allDigits, valueOf, numberUpto}
 use Rattle.text.proofs.Decimal.{digit-is, digits-most, stand}
 use Rattle.pam_header.specs.Header.{countOf, startsAt, mostDigits, isText, isNumeral, isSide, isSkipped, isOther}
 use Rattle.pam_header.specs.Header.{widthName, heightName, depthText, maxvalText, tupltypeText, fieldsOk, headerOf}
-use Rattle.pam_header.specs.HeaderText.{isPlain, allPlain, textOf, headerText, Lines}
+use Rattle.pam_header.specs.HeaderText.{isPlain, allPlain, textOf, headerText, Lines, saidBy}
 use Rattle.pam_header.specs.EarlierHeader.{widthText, heightText, tailText, digitsAt, isNumber}
 use Rattle.pam_header.specs.EarlierHeader.{widthAt, middleAt, heightAt, tailAt, bodyAt, widthOf, heightOf, earlierOk, earlierOf}
 use Rattle.pam_header.proofs.Comparing.{byte-first, noZero, starts-split}
@@ -199,7 +199,7 @@ module _ (w h : List ℕ) (m : isNumeral w ≡ true) (n : isNumeral h ≡ true) 
 -- ---- what an earlier header said is said still
 
 pub earlier-same : (input : List ℕ) → earlierOf input .ok ≡ true → headerOf input ≡ earlierOf input
-unfolding earlierOf
+unfolding earlierOf saidBy
 earlier-same input o =
     ⊎-elim {C = headerOf input ≡ earlierOf input}
     (λ (t : earlierOk input ≡ true).

@@ -17,7 +17,7 @@ use Rattle.text.specs.Decimal.{valueOf}
 use Rattle.pam_header.specs.Header.{inFront, linesOf, countOf, startsAt, isText, isNumeral, isSide, isSkipped, isOther}
 use Rattle.pam_header.specs.Header.{firstText, widthName, heightName, endText}
 use Rattle.pam_header.specs.Header.{fieldLines, fieldsOk, sideFrom, sideIn, bytesOf, linesOk, mostHeader, headerBy, headerOf}
-use Rattle.pam_header.specs.HeaderText.{isPlain, allPlain, textOf, headerText, Stands, Lines}
+use Rattle.pam_header.specs.HeaderText.{isPlain, allPlain, textOf, headerText, Stands, Lines, saidBy, HasHeader}
 use Rattle.pam_header.proofs.Comparing.{starts-is, starts-front, text-is}
 use Rattle.pam_header.proofs.Lines.{first-line, lines-text}
 use Rattle.pam_header.proofs.Numbers.{numeral}
@@ -235,9 +235,8 @@ header-is lines more o =
     )
 
 pub header-accepted : (w h : List ℕ) (lines : List (List ℕ)) (rest : List ℕ) → Lines w h lines
-    → headerOf (headerText lines ++ rest)
-    ≡ record { ok = true; height = valueOf h; width = valueOf w; body = length (headerText lines) }
-unfolding headerOf headerText allPlain isPlain
+    → headerOf (headerText lines ++ rest) ≡ saidBy w h lines
+unfolding headerOf headerText allPlain isPlain saidBy
 header-accepted w h lines rest m =
     let text = headerText lines in
     let k = mostHeader - length text in
@@ -269,15 +268,6 @@ header-lines input o =
     (λ (t : linesOk lines ≡ false). let z : false ≡ true = rw t at o in not-both false z refl)
     (either (linesOk lines))
 
--- the input starts with P7, these lines and ENDHDR
-pub record HasHeader (input : List ℕ) : Type 0 where
-  pub width : List ℕ
-  pub height : List ℕ
-  pub lines : List (List ℕ)
-  pub rest : List ℕ
-  pub lines-ok : Lines width height lines
-  pub input-is : input ≡ headerText lines ++ rest
-
 pub header-means : (input : List ℕ) → headerOf input .ok ≡ true → HasHeader input
 unfolding headerText allPlain
 header-means input o =
@@ -302,21 +292,25 @@ header-means input o =
     let h = side-found heightName lines (omega (arith, one .one-height)) in
     let plain : allPlain (firstText ∷ ((lines ++ (endText ∷ [])) ++ more)) ≡ true = sym (ap allPlain are) ∙ lines-plain front in
     let long : length front ≤ mostHeader = rw length-take (omega arith) in
+    let made : Lines (w .0) (h .0) lines =
+    record {
+      plain = plain-front lines (endText ∷ []) (plain-front (lines ++ (endText ∷ [])) more (and-true (isPlain firstText) _ plain .1));
+      fields = ok .fields-ok;
+      short = omega (arith, long, ap length front-is ∙ length-append (headerText lines) after);
+      width-stands = w .1;
+      height-stands = h .1;
+    } in
+    let rest = after ++ drop mostHeader input in
+    let input-is : input ≡ headerText lines ++ rest =
+    sym (take-append-drop mostHeader input)
+    ∙ ap (λ (t : List ℕ). t ++ drop mostHeader input) front-is
+    ∙ append-assoc (headerText lines) after (drop mostHeader input) in
     record {
       width = w .0;
       height = h .0;
       lines = lines;
-      rest = after ++ drop mostHeader input;
-      lines-ok =
-          record {
-            plain = plain-front lines (endText ∷ []) (plain-front (lines ++ (endText ∷ [])) more (and-true (isPlain firstText) _ plain .1));
-            fields = ok .fields-ok;
-            short = omega (arith, long, ap length front-is ∙ length-append (headerText lines) after);
-            width-stands = w .1;
-            height-stands = h .1;
-          };
-      input-is =
-          sym (take-append-drop mostHeader input)
-          ∙ ap (λ (t : List ℕ). t ++ drop mostHeader input) front-is
-          ∙ append-assoc (headerText lines) after (drop mostHeader input);
+      rest = rest;
+      lines-ok = made;
+      input-is = input-is;
+      header-is = ap headerOf input-is ∙ header-accepted (w .0) (h .0) lines rest made;
     }

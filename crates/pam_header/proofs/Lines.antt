@@ -225,7 +225,7 @@ header-read first rest e =
     (simp zero-add)
 
 -- others do not
-header-not : (lines : List (List ℕ)) → isText firstText (getD lines 0 []) ≡ false → declined ≡ headerBy lines
+pub header-not : (lines : List (List ℕ)) → isText firstText (getD lines 0 []) ≡ false → declined ≡ headerBy lines
 unfolding headerBy linesOk
 header-not lines e = rw e
 
@@ -273,13 +273,23 @@ first-not front e =
     (λ (t : isText firstText (getD lines 0 []) ≡ false). t)
     (either (isText firstText (getD lines 0 [])))
 
-pub first-long : (front : List ℕ) → startsAt front 0 p7 ≡ true → 3 ≤ length front
-unfolding noZero
-first-long front e = omega (arith, ap length (starts-split front p7 0 refl e))
-
-pub header-is : (front : List ℕ) → startsAt front 0 p7 ≡ true → readFrom noFields 3 (linesOf (drop 3 front)) ≡ headerBy (linesOf front)
+begins : (front : List ℕ) → startsAt front 0 p7 ≡ isText firstText (getD (linesOf front) 0 [])
 unfolding isText startsAt
-header-is front e = header-read firstText (linesOf (drop 3 front)) refl ∙ ap headerBy (sym (first-is front e))
+begins front =
+    ⊎-elim {C = startsAt front 0 p7 ≡ isText firstText (getD (linesOf front) 0 [])}
+    (λ (t : startsAt front 0 p7 ≡ true).
+    t ∙ sym (ap (λ (ls : List (List ℕ)). isText firstText (getD ls 0 [])) (first-is front t)))
+    (λ (t : startsAt front 0 p7 ≡ false). t ∙ sym (first-not front t))
+    (either (startsAt front 0 p7))
 
-pub header-none : (front : List ℕ) → startsAt front 0 p7 ≡ false → declined ≡ headerBy (linesOf front)
-header-none front e = header-not (linesOf front) (first-not front e)
+pub first-found : (r : Bool) (front : List ℕ) → r ≡ startsAt front 0 p7 → r ≡ isText firstText (getD (linesOf front) 0 [])
+first-found r front e = e ∙ begins front
+
+module _ (front : List ℕ) (e : isText firstText (getD (linesOf front) 0 []) ≡ true) where
+  pub first-long : 3 ≤ length front
+  unfolding noZero
+  first-long = omega (arith, ap length (starts-split front p7 0 refl (begins front ∙ e)))
+
+  pub header-is : readFrom noFields 3 (linesOf (drop 3 front)) ≡ headerBy (linesOf front)
+  unfolding isText startsAt
+  header-is = header-read firstText (linesOf (drop 3 front)) refl ∙ ap headerBy (sym (first-is front (begins front ∙ e)))

@@ -6,7 +6,9 @@ use mathlib.Core.Bool.{Bool, true, not, _&&_}
 use mathlib.Core.List.{List, [], _∷_, _++_}
 use lib.Dec.{eqb}
 use lib.ListN.{length}
-use Rattle.pam_header.specs.Header.{isNumeral, firstText, widthName, heightName, endText, fieldsOk, mostHeader}
+use Rattle.text.specs.Decimal.{valueOf}
+use Rattle.pam_header.specs.declared.Header.{Header}
+use Rattle.pam_header.specs.Header.{isNumeral, firstText, widthName, heightName, endText, fieldsOk, mostHeader, headerOf}
 
 -- no byte of a line, or of several, is a newline (R38)
 unfoldable pub isPlain : List ℕ → Bool
@@ -40,3 +42,17 @@ pub record Lines (w h : List ℕ) (lines : List (List ℕ)) : Type 0 where
   pub short : length (headerText lines) ≤ mostHeader
   pub width-stands : Stands widthName w lines
   pub height-stands : Stands heightName h lines
+
+-- what the header with these lines says: its digits as sides, and that the pixels stand right after it (R38)
+unfoldable pub saidBy : List ℕ → List ℕ → List (List ℕ) → Header
+saidBy w h lines = record { ok = true; height = valueOf h; width = valueOf w; body = length (headerText lines) }
+
+-- an input starts with such a header, and is read so (R38)
+pub record HasHeader (input : List ℕ) : Type 0 where
+  pub width : List ℕ
+  pub height : List ℕ
+  pub lines : List (List ℕ)
+  pub rest : List ℕ
+  pub lines-ok : Lines width height lines
+  pub input-is : input ≡ headerText lines ++ rest
+  pub header-is : headerOf input ≡ saidBy width height lines

@@ -2,9 +2,10 @@
 ghost use mathlib.Core.Path.{_≡_};
 ghost use mathlib.Core.Bool.{true};
 ghost use Prim.Native.Nat.{_+_, _*_, _≤_, _<_};
-ghost use lib.ListN.{length, drop};
+ghost use mathlib.Core.List.{[]};
+ghost use lib.ListN.{length, getD, drop};
 ghost use Rattle.pam_header.specs.Header.{startsAt, isText, isNumeral, isSide, sideFrom, isSkipped};
-ghost use Rattle.pam_header.specs.Header.{linesOf, mostHeader, declined, headerBy, headerOf};
+ghost use Rattle.pam_header.specs.Header.{linesOf, firstText, mostHeader, declined, headerBy, headerOf};
 ghost use Rattle.pam_header.specs.steps.Reading.{lineLong, more, withLine, Few, noFields, headerFrom, readFrom};
 
 // The most bytes of a header, up to and with the newline of ENDHDR.
@@ -205,12 +206,19 @@ fn read_lines(front: &[u8], start: usize) -> Header
     declined_header()
 }
 
+// Whether the first line is P7.
+fn is_pam(front: &[u8]) -> bool
+    ensures { λ r. ⌜ r ≡ isText firstText (getD (linesOf (now (front .entry))) 0 []) ⌝ }
+{
+    starts(front, b"P7\n")
+}
+
 // The header that stands in the first bytes of an input.
 fn header_in(front: &[u8]) -> Header
     requires { ⌜ length (now front) ≤ mostHeader ⌝ }
     ensures { λ r. ⌜ r ≡ headerBy (linesOf (now (front .entry))) ⌝ }
 {
-    if !starts(front, b"P7\n") {
+    if !is_pam(front) {
         return declined_header();
     }
     read_lines(front, 3)
