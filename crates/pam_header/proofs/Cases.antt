@@ -13,22 +13,22 @@ use Rattle.pam_header.specs.Header.{fieldLines, fieldsOk, sideFrom, side
 use Rattle.pam_header.specs.EarlierHeader.{isNumber, middleAt, heightAt, tailAt, bodyAt, widthOf, heightOf, earlierOk, earlierOf}
 use Rattle.pam_header.specs.HeaderText.{textOf, headerText}
 
-all : List Bool → Bool
+unfoldable pub all : List Bool → Bool
 all [] = true
 all (t ∷ l) = t && all l
 
 -- n bytes 255
-white : ℕ → List ℕ
+unfoldable pub white : ℕ → List ℕ
 white n = replicate n 255
 
 -- "WIDTH 5", "HEIGHT 12", and the other three fields
-wide : List ℕ
+unfoldable pub wide : List ℕ
 wide = widthName ++ (53 ∷ [])
 
-tall : List ℕ
+unfoldable pub tall : List ℕ
 tall = heightName ++ (49 ∷ 50 ∷ [])
 
-others : List (List ℕ)
+unfoldable pub others : List (List ℕ)
 others = depthText ∷ maxvalText ∷ tupltypeText ∷ []
 
 -- a comment of n bytes, and one that holds ENDHDR, a carriage return, 0 and 255

@@ -4,4 +4,4 @@ mod Numbers
 pub mod Sizes
 pub mod HeaderLaws
 pub mod EarlierLaws
-mod Cases
+pub mod Cases
