@@ -14,7 +14,7 @@ use std::path::{Path, PathBuf};
 const CALLS: [&str; 4] = ["geometry", "keying", "stand", "cutfile"];
 
 /// Theorems, by crate and name; and every public statement of these files.
-const THEOREMS: [(&str, &str); 13] = [
+const THEOREMS: [(&str, &str); 15] = [
     ("nearest", "nearest-some"),
     ("nearest", "nearest-none"),
     ("nearest", "nearest-is"),
@@ -26,6 +26,8 @@ const THEOREMS: [(&str, &str); 13] = [
     ("pam_header", "earlier-same"),
     ("cutfile", "first-bytes"),
     ("cutfile", "first-eight"),
+    ("cutfile", "header-not-eight"),
+    ("cutfile", "not-eight-header"),
     ("cutfile", "earlier-kept"),
     ("cutfile", "earlier-accepted"),
 ];

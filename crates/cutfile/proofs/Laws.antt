@@ -1,5 +1,5 @@
--- Which of the first bytes decide the answer, so that a program which reads no more answers for an input of any length; and that what
--- was accepted before the lines of a header might come in any order still prints the same bytes.
+-- Which of the first bytes decide the answer, so that a program which reads no more answers for an input of any length; what 8 means;
+-- and that what was accepted before the lines of a header might come in any order still prints the same bytes.
 -- Assumes nothing.
 use mathlib.Core.Path.{_≡_, refl, sym, ap, _∙_}
 use mathlib.Core.Bool.{Bool, true, false, cond}
@@ -12,14 +12,16 @@ use lib.ListN.{length, getD, take}
 use lib.Seq.{take-all}
 use Rattle.plane.specs.Refusal.{refusalOf}
 use Rattle.plane.specs.Search.{someBelow}
-use Rattle.plane.proofs.Search.{which, either}
+use Rattle.plane.proofs.Search.{which, either, not-both}
 use Rattle.pam_header.specs.declared.Header.{Header}
 use Rattle.pam_header.specs.Header.{mostHeader, headerOf}
+use Rattle.pam_header.specs.HeaderText.{saidBy, HasHeader}
 use Rattle.pam_header.specs.EarlierHeader.{earlierOf}
 use Rattle.pam.specs.Picture.{mostPixels, mostInput, pixelsOf, alphaOf}
 use Rattle.pam.specs.Settings.{threshold}
 use Rattle.pam.specs.steps.File.{fileRefusal}
 use Rattle.pam_header.proofs.Sizes.{header-first}
+use Rattle.pam_header.proofs.HeaderLaws.{header-means}
 use Rattle.pam.proofs.Files.{long-declined}
 use Rattle.pam_header.proofs.EarlierLaws.{earlier-same}
 use Rattle.cutfile.specs.Cutcard.{refusalUnder, textUnder, cardRefusal, cardText}
@@ -67,6 +69,20 @@ first-eight a b e n =
     let same : headerOf a ≡ headerOf b =
     sym (header-first mostHeader a (omega arith)) ∙ ap headerOf e ∙ header-first mostHeader b (omega arith) in
     header-eight (headerOf b) b (sym (ap (λ (h : Header). h .ok) same) ∙ eight-header (headerOf a) a n)
+
+-- ---- what 8 means: just the inputs that start with a header of R38 get another answer
+
+pub header-not-eight : (input : List ℕ) → HasHeader input → cardRefusal input ≡ 8 → ⊥
+unfolding saidBy
+header-not-eight input has e =
+    not-both (headerOf input .ok) (ap (λ (h : Header). h .ok) (has .header-is)) (eight-header (headerOf input) input e)
+
+pub not-eight-header : (input : List ℕ) → (cardRefusal input ≡ 8 → ⊥) → HasHeader input
+not-eight-header input n =
+    ⊎-elim {C = HasHeader input}
+    (λ (t : headerOf input .ok ≡ true). header-means input t)
+    (λ (t : headerOf input .ok ≡ false). absurd (n (header-eight (headerOf input) input t)))
+    (either (headerOf input .ok))
 
 -- ---- what was accepted at first
 

@@ -1,8 +1,8 @@
 // Reading the header of a PAM file, line by line.
 ghost use mathlib.Core.Path.{_≡_};
 ghost use mathlib.Core.Bool.{true};
-ghost use Prim.Native.Nat.{_+_, _*_, _≤_, _<_};
 ghost use mathlib.Core.List.{[]};
+ghost use Prim.Native.Nat.{_+_, _*_, _≤_, _<_};
 ghost use lib.ListN.{length, getD, drop};
 ghost use Rattle.pam_header.specs.Header.{startsAt, isText, isNumeral, isSide, sideFrom, isSkipped};
 ghost use Rattle.pam_header.specs.Header.{linesOf, firstText, mostHeader, declined, headerBy, headerOf};
