@@ -22,12 +22,13 @@ use Rattle.colour.specs.declared.Settings.{Settings}
 use Rattle.colour.specs.Colour.{coloursOk}
 use Rattle.colour.specs.Settings.{onOf}
 use Rattle.outline.specs.Cut.{Cut, alphaMask, cutOf, cropOf, margin}
-use Rattle.outline.specs.Refusal.{workTests, cutLengths, pictureTests, cutRefusal}
+use Rattle.card.specs.declared.Card.the-variants.{Border}
+use Rattle.outline.specs.Refusal.{workTests, cutLengths, pictureTests, cutContents, cutRefusal}
 use Rattle.outline.specs.declared.Outcome.{Outcome}
 use Rattle.outline.specs.declared.Outcome.the-variants as outcome
 use Rattle.outline.specs.Answer.{outcomeFor}
-use Rattle.outline.specs.Calls.{Buffers, refusalIn}
-use Rattle.keying.specs.Calls.{cutIn, Called}
+use Rattle.outline.specs.Calls.{Buffers, refusalIn, cutIn}
+use Rattle.keying.specs.Calls.{Called}
 use Rattle.pam.specs.Picture.{mostPixels}
 use Rattle.pam.specs.Settings.{threshold, settings}
 use Rattle.pbm.specs.Text.{maskText, cropLines, sizeLine, refusalText}
@@ -57,8 +58,8 @@ alpha-same alpha n =
 -- the cut declines such a picture for its alpha alone
 number-is : (colours : List Float) (alpha : List ℕ) (h w nearest shallow deep marks mask weights out : ℕ)
     → Room h w (length colours) (length alpha) nearest shallow deep marks mask weights out → coloursOk colours ≡ true
-    → cutRefusal colours alpha h w settings mask weights nearest shallow deep marks ≡ alphaRefusal alpha
-unfolding cutRefusal cutLengths workTests pictureTests refusalOf alphaRefusal
+    → cutRefusal colours alpha h w Border settings mask weights nearest shallow deep marks ≡ alphaRefusal alpha
+unfolding cutRefusal cutLengths workTests pictureTests cutContents refusalOf alphaRefusal
 number-is colours alpha h w nearest shallow deep marks mask weights out r e =
     rw (
       sides-accepted h w (r .some-rows) (omega (arith, r .tall)) (r .some-columns) (omega (arith, r .wide)),
@@ -155,15 +156,15 @@ answer-short h w n c most l m = by (eqb n 0)
 module _ (colours : List Float) (alpha : List ℕ) (h w : ℕ) (s : Settings) (b b′ : Buffers) (out : ℕ) (r : Outcome)
     (room : Room h w (length colours) (length alpha) (length (b .nearest)) (length (b .shallow)) (length (b .deep)) (length (b .marks))
     (length (b .mask)) (length (b .weights)) out)
-    (ok : coloursOk colours ≡ true) (given : s ≡ settings) (call : Called colours alpha h w s b r b′) where
-  number : refusalIn colours alpha h w s b ≡ alphaRefusal alpha
+    (ok : coloursOk colours ≡ true) (given : s ≡ settings) (call : Called colours alpha h w Border s b r b′) where
+  number : refusalIn colours alpha h w Border s b ≡ alphaRefusal alpha
   number = rw given (number-is colours alpha h w _ _ _ _ _ _ out room ok)
 
   pub text-is : answerText (b′ .mask) h w r ≡ pictureText colours alpha h w
   unfolding pictureText cutText
   text-is =
       ap (answerText (b′ .mask) h w) (call .answer)
-      ∙ answer-text h w _ (cutIn colours alpha h w s) (b′ .mask) (λ z. call .mask-is ∙ written _ _ _ z)
+      ∙ answer-text h w _ (cutIn colours alpha h w Border s) (b′ .mask) (λ z. call .mask-is ∙ written _ _ _ z)
       ∙ rw (number, given)
 
   pub text-fits : answerLength h w r ≤ out
@@ -171,7 +172,7 @@ module _ (colours : List Float) (alpha : List ℕ) (h w : ℕ) (s : Settings) (b
       rw (call .answer, given)
       (answer-short h w _ (cutWith colours alpha h w) out
       (omega (arith, lines-short colours alpha h w (cutWith colours alpha h w .keyed) (room .tall) (room .wide), room .few, room .out-long))
-      (omega (arith, refusal-short (refusalIn colours alpha h w settings b) (rw given at small), room .out-long)))
+      (omega (arith, refusal-short (refusalIn colours alpha h w Border settings b) (rw given at small), room .out-long)))
     where
-      small : refusalIn colours alpha h w s b < 10000
+      small : refusalIn colours alpha h w Border s b < 10000
       small = rw number (alpha-small alpha)

@@ -1,12 +1,15 @@
 // The cut of an accepted picture: its mask, whether it was keyed, and its crop box.
 ghost use mathlib.Core.Path.{_≡_};
+ghost use mathlib.Core.Bool.{true};
 ghost use Prim.Native.Nat.{ℕ, _*_};
 ghost use lib.ListN.{length};
 ghost use Rattle.plane.specs.steps.Sides.{Sides};
-ghost use Rattle.outline.specs.Border.{referenceOf};
+ghost use Rattle.card.specs.steps.Range.{cardOk};
+ghost use Rattle.outline.specs.Border.{referenceOn};
 ghost use Rattle.outline.specs.Ground.{isFound};
 ghost use Rattle.outline.specs.Cut.{isKeyed, cutMask, margin, cropOf};
 ghost use Rattle.cutting.specs.steps.Key.{keyedPlane, KeyRoom, Reference};
+use card::Card;
 use colour::Rgb;
 use colour::Settings;
 use outline::Ground;
@@ -61,6 +64,7 @@ pub fn cut_mask(
     alpha: &[u8],
     h: usize,
     w: usize,
+    card: Card,
     s: Settings,
     nearest: &mut [u32],
     shallow: &mut [u8],
@@ -70,16 +74,17 @@ pub fn cut_mask(
 ) -> bool
     requires { ⌜ KeyRoom (now colours) h w (now nearest) (now shallow) (now deep) (now marks) (now mask) ⌝ }
     requires { ⌜ length (now alpha) ≡ h * w ⌝ }
-    ensures { λ r. ⌜ r ≡ isKeyed (now (colours .entry)) (now (alpha .entry)) h w (referenceOf (now (colours .entry)) h w) s ⌝ }
+    requires { ⌜ cardOk card ≡ true ⌝ }
+    ensures { λ r. ⌜ r ≡ isKeyed (now (colours .entry)) (now (alpha .entry)) h w (referenceOn card (now (colours .entry)) h w) s ⌝ }
     ensures { λ r. ⌜ now (mask .exit) ≡ cutMask (now (colours .entry)) (now (alpha .entry)) h w
-        (referenceOf (now (colours .entry)) h w) s ⌝ }
+        (referenceOn card (now (colours .entry)) h w) s ⌝ }
 {
     weights::reach(alpha, s.alpha_threshold, mask);
     let sought = s.key_bg & !plane::some_off(mask);
     if sought {
         let tolerance = s.key_bg_tolerance;
         let passes = colour::passes(s);
-        let reference = ground::reference(colours, h, w, nearest);
+        let reference = ground::reference_on(colours, h, w, card, nearest);
         return key(
             colours,
             h,

@@ -1,4 +1,4 @@
-// The ground of a picture without growth: the reference of its border, the close pixels, and those of them that the
+// The ground of a picture without growth: the reference of its border or of its card, the close pixels, and those of them that the
 // border reaches.
 ghost use mathlib.Core.Path.{_≡_};
 ghost use mathlib.Core.Bool.{true};
@@ -8,11 +8,13 @@ ghost use lib.ListN.{length};
 ghost use Rattle.plane.specs.Plane.{table};
 ghost use Rattle.plane.specs.Mask.{maskOf};
 ghost use Rattle.colour.specs.Colour.{colourOk, rgbOk};
-ghost use Rattle.outline.specs.Border.{borderList, referenceChannel, referenceOf};
+ghost use Rattle.card.specs.steps.Range.{cardOk};
+ghost use Rattle.outline.specs.Border.{borderList, referenceChannel, referenceOf, referenceOn};
 ghost use Rattle.outline.specs.Ground.{isClose, countOn, groundPlane};
 ghost use Rattle.outline.specs.Answer.{groundFor};
 ghost use Rattle.flood.specs.steps.Flood.{Closed};
 ghost use Rattle.ground.specs.steps.Picture.{Picture, Given, Closes};
+use card::Card;
 use colour::Rgb;
 use outline::Ground;
 
@@ -41,6 +43,19 @@ pub fn reference(colours: &[f64], h: usize, w: usize, work: &mut [u32]) -> Rgb
     let g = channel(colours, h, w, 1, work);
     let b = channel(colours, h, w, 2, work);
     Rgb { r, g, b }
+}
+
+// The reference on a card: the colour that is given, or else that of the border.
+pub fn reference_on(colours: &[f64], h: usize, w: usize, card: Card, work: &mut [u32]) -> Rgb
+    requires { ⌜ Picture (now colours) h w (now work) ⌝ }
+    requires { ⌜ cardOk card ≡ true ⌝ }
+    ensures { λ r. ⌜ r ≡ referenceOn card (now (colours .entry)) h w ⌝ }
+    ensures { λ r. ⌜ rgbOk r ≡ true ⌝ }
+{
+    let Card::Given(given) = card else {
+        return reference(colours, h, w, work);
+    };
+    given
 }
 
 // 1 where a pixel is close to the reference, else 0.
@@ -109,19 +124,21 @@ pub fn ground_from(
     Ground::Found(reference)
 }
 
-// The same for the reference colour of the border.
+// The same for the reference on a card.
 pub fn flat_ground(
     colours: &[f64],
     h: usize,
     w: usize,
+    card: Card,
     tolerance: f64,
     work: &mut [u32],
     out: &mut [u8],
 ) -> Ground
     requires { ⌜ Given (now colours) h w (now work) (now out) ⌝ }
-    ensures { λ r. ⌜ r ≡ groundFor 0 (now (colours .entry)) h w (referenceOf (now (colours .entry)) h w) tolerance ⌝ }
-    ensures { λ r. ⌜ now (out .exit) ≡ groundPlane (now (colours .entry)) h w (referenceOf (now (colours .entry)) h w) tolerance ⌝ }
+    requires { ⌜ cardOk card ≡ true ⌝ }
+    ensures { λ r. ⌜ r ≡ groundFor 0 (now (colours .entry)) h w (referenceOn card (now (colours .entry)) h w) tolerance ⌝ }
+    ensures { λ r. ⌜ now (out .exit) ≡ groundPlane (now (colours .entry)) h w (referenceOn card (now (colours .entry)) h w) tolerance ⌝ }
 {
-    let border = reference(colours, h, w, work);
-    ground_from(colours, h, w, border, tolerance, work, out)
+    let card_colour = reference_on(colours, h, w, card, work);
+    ground_from(colours, h, w, card_colour, tolerance, work, out)
 }

@@ -1,4 +1,4 @@
--- The theorem about two pictures, for any two calls of the cut.
+-- The theorem about two pictures, for any two calls of the cut, without a colour given or with one.
 -- Assumes nothing.
 use Prim.Native.Nat.{ℕ}
 use mathlib.Core.Path.{_≡_, sym, ap, _∙_}
@@ -12,30 +12,32 @@ use Rattle.plane.specs.Refusal.{after}
 use Rattle.plane.proofs.Search.{either}
 use Rattle.plane.proofs.Refusal.{written}
 use Rattle.colour.specs.declared.Settings.{Settings}
+use Rattle.card.specs.declared.Card.{Card}
 use Rattle.outline.specs.Cut.{Cut}
 use Rattle.outline.specs.Answer.{outcomeFor, refusalOfOutcome}
-use Rattle.outline.specs.Calls.{Buffers, refusalIn}
+use Rattle.outline.specs.Calls.{Buffers, refusalIn, cutIn}
 use Rattle.outline.specs.Premises.{TwoCalls}
 use Rattle.outline.specs.declared.Outcome.{Outcome}
 use Rattle.outline.proofs.TwoPictures.{two-pictures}
-use Rattle.keying.specs.Calls.{cutIn, Called, OneOutline}
+use Rattle.keying.specs.Calls.{Called, OneOutline}
 use Rattle.keying.proofs.Accepted.{cut-declined, refusal-of-outcome}
 
-module _ (one two : List Float) (alpha : List ℕ) (h w : ℕ) (s t : Settings) (b c b′ c′ : Buffers) (r q : Outcome)
-    (calls : TwoCalls one two alpha h w s t b c) (first : Called one alpha h w s b r b′) (second : Called two alpha h w t c q c′) where
-  refusals : refusalIn one alpha h w s b ≡ refusalIn two alpha h w t c
-  refusals = two-pictures one two alpha h w s t b c calls .refusals-alike
+module _ (one two : List Float) (alpha : List ℕ) (h w : ℕ) (card card′ : Card) (s t : Settings) (b c b′ c′ : Buffers) (r q : Outcome)
+    (calls : TwoCalls one two alpha h w card card′ s t b c) (first : Called one alpha h w card s b r b′)
+    (second : Called two alpha h w card′ t c q c′) where
+  refusals : refusalIn one alpha h w card s b ≡ refusalIn two alpha h w card′ t c
+  refusals = two-pictures one two alpha h w card card′ s t b c calls .refusals-alike
 
-  cuts : refusalIn one alpha h w s b ≡ 0 → cutIn one alpha h w s ≡ cutIn two alpha h w t
-  cuts z = two-pictures one two alpha h w s t b c calls .cuts-alike z (first .held) (second .held)
+  cuts : refusalIn one alpha h w card s b ≡ 0 → cutIn one alpha h w card s ≡ cutIn two alpha h w card′ t
+  cuts z = two-pictures one two alpha h w card card′ s t b c calls .cuts-alike z (first .held) (second .held)
 
   answers : r ≡ q
   answers =
-      let n = refusalIn one alpha h w s b in
-      let x = cutIn one alpha h w s in
-      let y = cutIn two alpha h w t in
+      let n = refusalIn one alpha h w card s b in
+      let x = cutIn one alpha h w card s in
+      let y = cutIn two alpha h w card′ t in
       first .answer
-      ∙ ⊎-elim {C = outcomeFor n x ≡ outcomeFor (refusalIn two alpha h w t c) y}
+      ∙ ⊎-elim {C = outcomeFor n x ≡ outcomeFor (refusalIn two alpha h w card′ t c) y}
       (λ (e : eqb n 0 ≡ true). (let z = eqb-true _ 0 e in rw (cuts z, refusals)))
       (λ (e : eqb n 0 ≡ false).
       let bad = eqb-false _ 0 e in
@@ -60,10 +62,10 @@ module _ (one two : List Float) (alpha : List ℕ) (h w : ℕ) (s t : Settings) 
       }
     where
       -- two outputs of accepted calls are equal where what is written to them is
-      kept-alike : {A : Type 0} {new₁ new₂ out₁ out₂ : A} (old₁ old₂ : A) → refusalIn one alpha h w s b ≡ 0
-          → out₁ ≡ after (refusalIn one alpha h w s b) new₁ old₁ → out₂ ≡ after (refusalIn two alpha h w t c) new₂ old₂
+      kept-alike : {A : Type 0} {new₁ new₂ out₁ out₂ : A} (old₁ old₂ : A) → refusalIn one alpha h w card s b ≡ 0
+          → out₁ ≡ after (refusalIn one alpha h w card s b) new₁ old₁ → out₂ ≡ after (refusalIn two alpha h w card′ t c) new₂ old₂
           → new₁ ≡ new₂ → out₁ ≡ out₂
       kept-alike _ _ z p q e = p ∙ written _ _ _ z ∙ e ∙ sym (q ∙ written _ _ _ (sym refusals ∙ z))
 
-      accepted : refusalOfOutcome r ≡ 0 → refusalIn one alpha h w s b ≡ 0
-      accepted e = sym (ap refusalOfOutcome (first .answer) ∙ refusal-of-outcome _ (cutIn one alpha h w s)) ∙ e
+      accepted : refusalOfOutcome r ≡ 0 → refusalIn one alpha h w card s b ≡ 0
+      accepted e = sym (ap refusalOfOutcome (first .answer) ∙ refusal-of-outcome _ (cutIn one alpha h w card s)) ∙ e

@@ -13,29 +13,29 @@ use Rattle.geometry.specs.Answer.{answerFor}
 use Rattle.colour.specs.declared.Rgb.{Rgb}
 use Rattle.colour.specs.declared.Settings.{Settings}
 use Rattle.colour.specs.Settings.{atLeastZero}
-use Rattle.outline.specs.Border.{referenceOf}
+use Rattle.card.specs.declared.Card.{Card}
+use Rattle.outline.specs.Border.{referenceOn}
 use Rattle.outline.specs.Ground.{groundPlane}
 use Rattle.outline.specs.Growth.{growthOf}
-use Rattle.outline.specs.Cut.{Cut, cutOf}
 use Rattle.outline.specs.Refusal.{groundRefusal, growthRefusal}
 use Rattle.outline.specs.Answer.{groundFor, outcomeFor, refusalOfOutcome}
-use Rattle.outline.specs.Calls.{Buffers, refusalIn, HeldIn}
+use Rattle.outline.specs.Calls.{Buffers, refusalIn, cutIn, HeldIn}
 use Rattle.outline.specs.declared.Ground.{Ground}
 use Rattle.outline.specs.declared.Outcome.{Outcome}
 
--- ---- flat_background
+-- ---- flat_background, flat_background_with_colour
 
--- the refusal of a call with these buffers, 0 where it is accepted (R55)
-abbrev pub groundRefusalIn : List Float → ℕ → ℕ → Float → List ℕ → List ℕ → ℕ
-groundRefusalIn colours h w tolerance work out = groundRefusal colours h w tolerance (length out) (length work)
+-- the refusal of a call with these buffers, 0 where it is accepted (R55, R82)
+abbrev pub groundRefusalIn : List Float → ℕ → ℕ → Card → Float → List ℕ → List ℕ → ℕ
+groundRefusalIn colours h w card tolerance work out = groundRefusal colours h w card tolerance (length out) (length work)
 
--- the ground of a picture, by the reference of its border (R22)
-pub record GroundCalled (colours : List Float) (h w : ℕ) (tolerance : Float) (work out : List ℕ)
+-- the ground of a picture on a card, by the reference of that card (R22, R83)
+pub record GroundCalled (colours : List Float) (h w : ℕ) (card : Card) (tolerance : Float) (work out : List ℕ)
     (r : Ground) (work′ out′ : List ℕ) : Type 0 where
-  pub answer : r ≡ groundFor (groundRefusalIn colours h w tolerance work out) colours h w (referenceOf colours h w) tolerance
-  pub out-is : out′ ≡ after (groundRefusalIn colours h w tolerance work out)
-      (groundPlane colours h w (referenceOf colours h w) tolerance) out
-  pub kept : (groundRefusalIn colours h w tolerance work out ≡ 0 → ⊥) → work′ ≡ work
+  pub answer : r ≡ groundFor (groundRefusalIn colours h w card tolerance work out) colours h w (referenceOn card colours h w) tolerance
+  pub out-is : out′ ≡ after (groundRefusalIn colours h w card tolerance work out)
+      (groundPlane colours h w (referenceOn card colours h w) tolerance) out
+  pub kept : (groundRefusalIn colours h w card tolerance work out ≡ 0 → ⊥) → work′ ≡ work
 
 -- ---- unmix_fringe
 
@@ -61,18 +61,15 @@ pub record GrowthCalled (colours : List Float) (background : List ℕ) (h w : �
       (growthOf colours reference h w (atLeastZero p) background) (b .out)
   pub kept : (growthRefusalIn colours background h w reference b ≡ 0 → ⊥) → b′ ≡ b
 
--- ---- subject
+-- ---- subject, subject_with_colour
 
--- the cut of a picture, by the reference of its border (R30 to R36)
-abbrev pub cutIn : List Float → List ℕ → ℕ → ℕ → Settings → Cut
-cutIn colours alpha h w s = cutOf colours alpha h w (referenceOf colours h w) s
-
--- a call of the cut with these buffers has answered r and left these (R63)
-pub record Called (colours : List Float) (alpha : List ℕ) (h w : ℕ) (s : Settings) (b : Buffers) (r : Outcome) (b′ : Buffers) : Type 0 where
-  pub answer : r ≡ outcomeFor (refusalIn colours alpha h w s b) (cutIn colours alpha h w s)
-  pub mask-is : b′ .mask ≡ after (refusalIn colours alpha h w s b) (cutIn colours alpha h w s .mask) (b .mask)
-  pub weights-is : b′ .weights ≡ after (refusalIn colours alpha h w s b) (cutIn colours alpha h w s .weights) (b .weights)
-  pub kept : (refusalIn colours alpha h w s b ≡ 0 → ⊥) → b′ ≡ b
+-- a call of the cut on a card, with these buffers, has answered r and left these (R63)
+pub record Called (colours : List Float) (alpha : List ℕ) (h w : ℕ) (card : Card) (s : Settings) (b : Buffers)
+    (r : Outcome) (b′ : Buffers) : Type 0 where
+  pub answer : r ≡ outcomeFor (refusalIn colours alpha h w card s b) (cutIn colours alpha h w card s)
+  pub mask-is : b′ .mask ≡ after (refusalIn colours alpha h w card s b) (cutIn colours alpha h w card s .mask) (b .mask)
+  pub weights-is : b′ .weights ≡ after (refusalIn colours alpha h w card s b) (cutIn colours alpha h w card s .weights) (b .weights)
+  pub kept : (refusalIn colours alpha h w card s b ≡ 0 → ⊥) → b′ ≡ b
   -- what is lent are binary64 numbers, as every f64 in memory is
   pub held : HeldIn colours s
 

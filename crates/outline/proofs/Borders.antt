@@ -19,8 +19,10 @@ use Rattle.colour.proofs.Zero.{Alike}
 use Rattle.colour.proofs.Same.{SameColour}
 use Rattle.median.specs.Median.{medianOf}
 use Rattle.median.proofs.Laws.{median-alike}
+use Rattle.card.specs.declared.Card.{Card}
+use Rattle.card.specs.declared.Card.the-variants as card
 use Rattle.outline.specs.Border.{rowPixels, innerColumn, borderList, listed, onBorder}
-use Rattle.outline.specs.Border.{channelAt, colourAt, referenceChannel, referenceOf}
+use Rattle.outline.specs.Border.{channelAt, colourAt, referenceChannel, referenceOf, referenceOn}
 use Rattle.outline.specs.Ground.{countOn}
 
 -- ---- lists of pixels
@@ -111,3 +113,10 @@ reference-same one two h w e =
       median-same (channelAt one 1) (channelAt two 1) (borderList h w) (λ i l. e i l .g),
       median-same (channelAt one 2) (channelAt two 2) (borderList h w) (λ i l. e i l .b),
     )
+
+-- so they have one reference on any card: a colour that is given is the same for both
+pub reference-on-same : (on : Card) (one two : List Float) (h w : ℕ)
+    → ((i : ℕ) → onBorder h w i ≡ true → SameColour (colourAt one i) (colourAt two i)) → referenceOn on one h w ≡ referenceOn on two h w
+reference-on-same (card.Given colour) one two h w e = refl
+reference-on-same card.Border one two h w e = reference-same one two h w e
+reference-on-same card.Unreadable one two h w e = reference-same one two h w e

@@ -1,4 +1,4 @@
--- The proved cases (R73 to R79): one list, line by line, with one check that the prover computes from the definitions.
+-- The proved cases (R73 to R79, R86): one list, line by line, with one check that the prover computes from the definitions.
 -- Assumes nothing.
 use mathlib.Core.Bool.{Bool, true, false, cond, not, _&&_}
 use mathlib.Core.List.{List, [], _∷_, _++_}
@@ -21,6 +21,11 @@ use Rattle.colour.specs.Number.{zero64, one64, absOf, plusZero, halfOf}
 use Rattle.colour.specs.Colour.{differenceOf, closeTo}
 use Rattle.colour.specs.Join.{joinsOf}
 use Rattle.colour.specs.Settings.{passesOf, onOf}
+use Rattle.colour.specs.Weight.{weightOf}
+use Rattle.card.specs.declared.Card.{Card}
+use Rattle.card.specs.declared.Card.the-variants.{Border}
+use Rattle.card.specs.Hex.{hexOf, allHex}
+use Rattle.card.specs.Card.{isColourText, textChannel, textColour, cardOf}
 use Rattle.median.specs.Median.{insert, sorted, placed, lowerMiddle, upperMiddle, medianOf}
 use Rattle.outline.specs.Border.{rowPixels, innerColumn, borderList, listed, onBorder, channelAt, colourAt, referenceChannel}
 use Rattle.outline.specs.Border.{referenceOf}
@@ -28,6 +33,7 @@ use Rattle.outline.specs.Ground.{isClose, closePlane, isGround, groundFr
 use Rattle.outline.specs.Growth.{nearGround, isEdge, isShallow, isDeep, isReach, bodyFrom, joinsFrom, isJoining, passOf, growthOf}
 use Rattle.plane.specs.Box.{rowHas, columnHas, lesserOf, boxOf, wholeOf}
 use Rattle.outline.specs.Cut.{alphaMask, isSought, isKeyed, grownGround, cutMask, cropOf, Cut, cutOf}
+use Rattle.outline.specs.Calls.{cutIn}
 
 -- ---- tests
 
@@ -78,17 +84,17 @@ light = fin false 3 (negsuc 1)
 abbrev middle : Float
 middle = fin false 1 (negsuc 0)
 
--- the settings 128, yes, p, tolerance 0, yes
-abbrev settings : ℕ → Settings
-settings p =
-    record { «alpha_threshold» = pos 128; «key_bg» = true; «key_bg_fringe» = pos p; «key_bg_tolerance» = zero64; «crop_to_alpha» = true }
+-- the settings 128, yes, p, a tolerance, yes
+abbrev settings : ℕ → Float → Settings
+settings p tolerance =
+    record { «alpha_threshold» = pos 128; «key_bg» = true; «key_bg_fringe» = pos p; «key_bg_tolerance» = tolerance; «crop_to_alpha» = true }
 
 opaque255 : ℕ → ℕ → List ℕ
 opaque255 h w = replicate (h * w) 255
 
--- the cut of such a picture
+-- the cut of such a picture with tolerance 0
 cutWith : List Float → ℕ → ℕ → ℕ → Cut
-cutWith picture h w p = cutOf (greys picture) (opaque255 h w) h w (referenceOf (greys picture) h w) (settings p)
+cutWith picture h w p = cutIn (greys picture) (opaque255 h w) h w Border (settings p zero64)
 
 -- keyed as told, and cropped to this box
 cutTo : List Float → ℕ → ℕ → ℕ → Bool → List ℕ → Bool
@@ -106,6 +112,29 @@ found picture h w = isFound (greys picture) h w (referenceOf (greys picture) h w
 -- the row of 30 pixels, with this grey in column 27
 row30 : Float → List Float
 row30 v = replicate 27 white ++ (v ∷ black ∷ black ∷ [])
+
+-- ---- pictures of 3 by 3 on a card, cut with p 0
+
+cutOn : List Float → Card → Float → Cut
+cutOn picture card tolerance = cutIn (greys picture) (opaque255 3 3) 3 3 card (settings 0 tolerance)
+
+-- the card of six equal digits
+digits : ℕ → Card
+digits b = cardOf (replicate 6 b)
+
+-- the object is the middle pixel alone; or no ground is found, and all of the picture is the object
+cutOut : Cut → Bool
+cutOut cut = cut .keyed && same (cut .mask) (0 ∷ 0 ∷ 0 ∷ 0 ∷ 1 ∷ 0 ∷ 0 ∷ 0 ∷ 0 ∷ [])
+
+allLeft : Cut → Bool
+allLeft cut = not (cut .keyed) && same (cut .mask) (replicate 9 1)
+
+-- white with a black middle; and five black and three light pixels of border around a white middle
+ring : List Float
+ring = replicate 4 white ++ (black ∷ replicate 4 white)
+
+mixed : List Float
+mixed = replicate 4 black ++ (white ∷ black ∷ replicate 3 light)
 
 -- ---- the list
 
@@ -141,10 +170,18 @@ cases =
     -- 1 by 30, grey 1.0 in columns 0 to 26, 0.0 in 28 and 29, tolerance 0, p 1: column 27 at 0.75 joins, at 0.5 doesn't.
     ∷ cutMaskIs (row30 light) 1 30 1 (replicate 27 0 ++ (0 ∷ 1 ∷ 1 ∷ []))
     ∷ cutMaskIs (row30 middle) 1 30 1 (replicate 27 0 ++ (1 ∷ 1 ∷ 1 ∷ []))
+    -- A white border, tolerance 0, given FFFFFF: found, as without a colour; given 000000: not found, and no second try with the border.
+    ∷ cutOut (cutOn ring Border zero64)
+    ∷ cutOut (cutOn ring (digits 70) zero64)
+    ∷ allLeft (cutOn ring (digits 48) zero64)
+    -- A border of black and light, tolerance 0.5: without a colour not found, given 555555 found.
+    ∷ allLeft (cutOn mixed Border middle)
+    ∷ cutOut (cutOn mixed (digits 53) middle)
     ∷ []
 
 pub cases-hold : T (all cases)
-unfolding cases all same sameZ gets labelled greys opaque255 cutWith cutTo cutMaskIs found row30 on bit onAt apart within table rowsUpto
+unfolding cases all same sameZ gets labelled greys opaque255 cutWith cutTo cutMaskIs found row30 cutOn digits cutOut allLeft ring mixed
+    cardOf isColourText allHex hexOf textColour textChannel weightOf on bit onAt apart within table rowsUpto
     planeOf someBelow countBelow lower valueOf walk upto grid plus rowCost nearest rowOf columnOf rowsPlane columnsPlane away distanceTo
     larger reach inSquare squaresPlane isOn beside renamed merge joinTwo joinWith joinUpto firstPixel isFirst parts labelOf
     labelAt labelsPlane absOf Rattle.colour.specs.Number.larger plusZero halfOf differenceOf closeTo joinsOf passesOf onOf insert sorted

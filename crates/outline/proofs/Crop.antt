@@ -17,6 +17,7 @@ use Rattle.plane.proofs.Mask.{index-on}
 use Rattle.bounds.proofs.Laws.{BoxIn, Has, box-has, box-in}
 use Rattle.colour.specs.declared.Rgb.{Rgb}
 use Rattle.colour.specs.declared.Settings.{Settings}
+use Rattle.card.specs.declared.Card.{Card}
 use Rattle.outline.specs.Cut.{cutMask, margin, cropOf}
 use Rattle.outline.specs.Calls.{Buffers, refusalIn}
 use Rattle.outline.proofs.CutLaws.{taken, mask-not-empty}
@@ -45,11 +46,11 @@ module _ (mask : List ℕ) (h w added : ℕ) where
       (record { some-rows = omega arith; rows-in = omega arith; some-columns = omega arith; columns-in = omega arith })
 
 -- the crop box of every accepted cut is one of the picture
-pub cut-crop : (colours : List Float) (alpha : List ℕ) (h w : ℕ) (reference : Rgb) (s : Settings) (b : Buffers)
-    → refusalIn colours alpha h w s b ≡ 0 → BoxIn h w (cropOf (cutMask colours alpha h w reference s) h w margin (s .«crop_to_alpha»))
-cut-crop colours alpha h w reference s b e =
-    let wide = taken colours alpha h w s b e .sides .some-columns in
+pub cut-crop : (colours : List Float) (alpha : List ℕ) (h w : ℕ) (reference : Rgb) (card : Card) (s : Settings) (b : Buffers)
+    → refusalIn colours alpha h w card s b ≡ 0 → BoxIn h w (cropOf (cutMask colours alpha h w reference s) h w margin (s .«crop_to_alpha»))
+cut-crop colours alpha h w reference card s b e =
+    let wide = taken colours alpha h w card s b e .sides .some-columns in
     let mask = cutMask colours alpha h w reference s in
-    let f = some-found (isOn mask) (h * w) (mask-not-empty colours alpha h w reference s b e) in
+    let f = some-found (isOn mask) (h * w) (mask-not-empty colours alpha h w reference s card b e) in
     let i = f .0 in
     crop-in mask h w margin (s .«crop_to_alpha») (i / w) (i % w) (row-of i h w wide (f .1)) (column-of i w wide) (index-on mask w i ∙ f .2)

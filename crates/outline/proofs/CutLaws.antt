@@ -19,10 +19,11 @@ use Rattle.colour.specs.declared.Rgb.{Rgb}
 use Rattle.colour.specs.declared.Settings.{Settings}
 use Rattle.colour.specs.Colour.{coloursOk}
 use Rattle.colour.specs.Settings.{passesOf}
+use Rattle.card.specs.declared.Card.{Card}
 use Rattle.outline.specs.Border.{borderList}
 use Rattle.outline.specs.Ground.{closePlane, groundOf, countOn, foundFrom, isFound}
 use Rattle.outline.specs.Cut.{alphaMask, isSought, isKeyed, grownGround, cutMask}
-use Rattle.outline.specs.Refusal.{workTests, cutLengths, pictureTests, cutRefusal}
+use Rattle.outline.specs.Refusal.{workTests, cutLengths, pictureTests, cutContents, cutRefusal}
 use Rattle.outline.specs.Calls.{Buffers, refusalIn}
 use Rattle.plane.proofs.Mask.{mask-on}
 use Rattle.outline.proofs.GrowthLaws.{growth-leaves}
@@ -43,10 +44,10 @@ pub record Taken (colours : List Float) (alpha : List ℕ) (h w : ℕ) (s : Sett
   pub range : coloursOk colours ≡ true
   pub some-alpha : someBelow (h * w) (isOn (alphaMask alpha (h * w) s)) ≡ true
 
-pub taken : (colours : List Float) (alpha : List ℕ) (h w : ℕ) (s : Settings) (b : Buffers)
-    → refusalIn colours alpha h w s b ≡ 0 → Taken colours alpha h w s b
-unfolding cutRefusal cutLengths workTests pictureTests
-taken colours alpha h w s b e =
+pub taken : (colours : List Float) (alpha : List ℕ) (h w : ℕ) (card : Card) (s : Settings) (b : Buffers)
+    → refusalIn colours alpha h w card s b ≡ 0 → Taken colours alpha h w s b
+unfolding cutRefusal cutLengths workTests pictureTests cutContents
+taken colours alpha h w card s b e =
     let p = passed _ refl e in
     record {
       sides = sides-are h w (p .0);
@@ -58,8 +59,8 @@ taken colours alpha h w s b e =
       shallow-long = leb-true _ _ (p .1 .1 .1 .1 .1 .1 .0);
       deep-long = leb-true _ _ (p .1 .1 .1 .1 .1 .1 .1 .0);
       marks-long = leb-true _ _ (p .1 .1 .1 .1 .1 .1 .1 .1 .0);
-      range = p .1 .1 .1 .1 .1 .1 .1 .1 .1 .0;
-      some-alpha = p .1 .1 .1 .1 .1 .1 .1 .1 .1 .1 .1 .0;
+      range = p .1 .1 .1 .1 .1 .1 .1 .1 .1 .1 .0;
+      some-alpha = p .1 .1 .1 .1 .1 .1 .1 .1 .1 .1 .1 .1 .0;
     }
 
 -- ---- the mask is never empty
@@ -92,10 +93,10 @@ module _ (colours : List Float) (alpha : List ℕ) (h w : ℕ) (reference : Rgb)
       (and-true (leb (9 * length (borderList h w)) (10 * countOn close (borderList h w))) _ found .1)
 
   -- so the mask of every accepted cut has a pixel on
-  pub mask-not-empty : (b : Buffers) → refusalIn colours alpha h w s b ≡ 0 → some-on ≡ true
+  pub mask-not-empty : (card : Card) (b : Buffers) → refusalIn colours alpha h w card s b ≡ 0 → some-on ≡ true
   unfolding cutMask someOff
-  mask-not-empty b e =
+  mask-not-empty card b e =
       ⊎-elim {C = some-on ≡ true}
       (λ (k : keyed ≡ true). rw k (some-same (isOn (maskOf (h * w) left)) left (h * w) (mask-on (h * w) left) ∙ grown-off k))
-      (λ (k : keyed ≡ false). rw k (taken colours alpha h w s b e .some-alpha))
+      (λ (k : keyed ≡ false). rw k (taken colours alpha h w card s b e .some-alpha))
       (either keyed)

@@ -1,5 +1,6 @@
 -- The premises of the theorem about two pictures can be met, and at the bound: two pictures of 13 by 13, cut with p = 1, that differ at the
--- middle pixel alone, which lies exactly p + 5 from the ground and from the border. The prover computes it from the definitions.
+-- middle pixel alone, which lies exactly p + 5 from the ground and from the border. So they can with a colour given, by the texts FFFFFF
+-- and ffffff. The prover computes it from the definitions.
 -- Assumes nothing.
 use mathlib.Core.Path.{_≡_, refl}
 use mathlib.Core.Bool.{Bool, true, false, cond, not, _&&_, _||_}
@@ -10,7 +11,7 @@ use native.Mathlib.Omega.{arith}
 use lib.Dec.{eqb}
 use lib.IntN.{pos}
 use lib.ListN.{length, replicate}
-use lib.Ieee.{Float, lt, le, eq, add, sub, mul, div, neg}
+use lib.Ieee.{Float, lt, le, eq, add, sub, mul, div, neg, ofInt}
 use borrow.Author.Tests.{not-true, not-false}
 use Rattle.plane.specs.Plane.{on, bit, onAt, apart, within, table}
 use Rattle.plane.specs.Search.{someBelow}
@@ -20,16 +21,20 @@ use Rattle.plane.proofs.Refusal.{and-true}
 use Rattle.plane.proofs.Search.{none-found, or-true, not-both}
 use Rattle.squares.specs.Squares.{inSquare}
 use Rattle.colour.specs.declared.Settings.{Settings}
+use Rattle.card.specs.declared.Card.the-variants.{Border}
+use Rattle.card.specs.Hex.{hexOf, allHex}
+use Rattle.card.specs.Card.{isColourText, textChannel, textColour, cardOf}
+use Rattle.colour.specs.Weight.{weightOf}
 use Rattle.colour.specs.Number.{zero64, one64, absOf, plusZero, halfOf}
 use Rattle.colour.specs.Colour.{differenceOf, closeTo, colourOk, coloursOk, sameColour}
 use Rattle.colour.specs.Settings.{onOf, passesOf}
 use Rattle.median.specs.Median.{insert, sorted, placed, lowerMiddle, upperMiddle, medianOf}
 use Rattle.outline.specs.Border.{rowPixels, innerColumn, borderList, listed, onBorder, channelAt, colourAt, referenceChannel}
-use Rattle.outline.specs.Border.{referenceOf}
+use Rattle.outline.specs.Border.{referenceOf, referenceOn}
 use Rattle.outline.specs.Ground.{isClose, closePlane, groundOf}
 use Rattle.outline.specs.Growth.{nearGround}
 use Rattle.outline.specs.Cut.{alphaMask}
-use Rattle.outline.specs.Refusal.{workTests, cutLengths, pictureTests, cutRefusal}
+use Rattle.outline.specs.Refusal.{workTests, cutLengths, pictureTests, cutContents, cutRefusal}
 use Rattle.outline.specs.Calls.{Buffers, refusalIn}
 use Rattle.outline.specs.Premises.{sameTolerance, SameSettings, AgreeAt, reachOf, Agree, SameLengths, TwoCalls, TwoPictures}
 use Rattle.outline.proofs.Masks.{near-mono}
@@ -79,8 +84,8 @@ close = closePlane one side side (referenceOf one side side) zero64
 -- ---- what the prover computes
 
 -- the call is accepted
-accepted : refusalIn one alpha side side settings buffers ≡ 0
-unfolding grey pictureOf alpha buffers table cutRefusal cutLengths workTests pictureTests refusalOf coloursOk colourOk someBelow isOn
+accepted : refusalIn one alpha side side Border settings buffers ≡ 0
+unfolding grey pictureOf alpha buffers table cutRefusal cutLengths workTests pictureTests cutContents refusalOf coloursOk colourOk someBelow isOn
     maskOf alphaMask onOf on bit le lt rowPixels innerColumn borderList listed onBorder
 accepted = refl
 
@@ -131,7 +136,7 @@ agrees i l t =
     (or-true (sameColour (colourAt one i) (colourAt two i)) _
     (not-false (apartAt i) (none-found (λ (k : ℕ). not (apartAt k)) (side * side) all-apart i l)))
 
-agree : Agree one two side side settings
+agree : Agree one two side side Border settings
 agree = record { border = λ i l e. agrees i l (inl e); around = λ i l e. agrees i l (inr (near-close (reachOf settings) i e)) }
 
 alike : SameSettings settings settings
@@ -150,9 +155,44 @@ unfolding grey pictureOf table coloursOk colourOk le lt rowPixels innerColumn bo
 in-range = refl
 
 -- every premise of the theorem holds of these two calls
-pub calls : TwoCalls one two alpha side side settings settings buffers buffers
+pub calls : TwoCalls one two alpha side side Border Border settings settings buffers buffers
 calls = search (sizes, alike, lengths, in-range, ranges, agree)
 
 -- so their outlines are equal, although the pictures differ
-pub instance : TwoPictures one two alpha side side settings settings buffers buffers
-instance = two-pictures one two alpha side side settings settings buffers buffers calls
+pub instance : TwoPictures one two alpha side side Border Border settings settings buffers buffers
+instance = two-pictures one two alpha side side Border Border settings settings buffers buffers calls
+
+-- ---- with a colour given
+
+-- the texts FFFFFF and ffffff
+pub capitals : List ℕ
+capitals = replicate 6 70
+
+pub smalls : List ℕ
+smalls = replicate 6 102
+
+one-card : cardOf capitals ≡ cardOf smalls
+unfolding capitals smalls cardOf isColourText allHex hexOf textColour textChannel
+one-card = refl
+
+-- the reference is that of the border, which is white
+white : referenceOn (cardOf capitals) one side side ≡ referenceOf one side side
+unfolding capitals cardOf isColourText allHex hexOf textColour textChannel weightOf grey pictureOf table channelAt onBorder listed borderList
+    rowPixels innerColumn referenceOf referenceChannel medianOf sorted insert placed lowerMiddle upperMiddle plusZero halfOf
+    Rattle.colour.specs.Number.larger lt le eq add sub mul div neg ofInt
+white = refl
+
+given-accepted : refusalIn one alpha side side (cardOf capitals) settings buffers ≡ 0
+unfolding capitals cardOf isColourText allHex hexOf grey pictureOf alpha buffers table cutRefusal cutLengths workTests pictureTests
+    cutContents refusalOf coloursOk colourOk someBelow isOn maskOf alphaMask onOf on bit le lt rowPixels innerColumn borderList listed
+    onBorder
+given-accepted = refl
+
+given-agree : Agree one two side side (cardOf capitals) settings
+given-agree = record { border = agree .border; around = λ i l e. agree .around i l (rw (← white) e) }
+
+pub given-calls : TwoCalls one two alpha side side (cardOf capitals) (cardOf smalls) settings settings buffers buffers
+given-calls = search (sizes, one-card, alike, lengths, in-range, ranges, given-agree)
+
+pub given-instance : TwoPictures one two alpha side side (cardOf capitals) (cardOf smalls) settings settings buffers buffers
+given-instance = two-pictures one two alpha side side (cardOf capitals) (cardOf smalls) settings settings buffers buffers given-calls

@@ -17,18 +17,19 @@ use Rattle.colour.specs.declared.Rgb.{Rgb}
 use Rattle.colour.specs.declared.Settings.{Settings}
 use Rattle.colour.specs.Number.{Binary64}
 use Rattle.colour.specs.Settings.{passesOf}
+use Rattle.card.specs.declared.Card.{Card}
 use Rattle.colour.proofs.Range.{is}
 use Rattle.colour.proofs.Zero.{plus0, Alike, eq-alike}
 use Rattle.colour.proofs.Same.{Held, same-colour}
-use Rattle.outline.specs.Border.{onBorder, channelAt, colourAt, referenceOf}
+use Rattle.outline.specs.Border.{onBorder, channelAt, colourAt, referenceOn}
 use Rattle.outline.specs.Ground.{groundOf}
 use Rattle.outline.specs.Growth.{nearGround, growthOf}
 use Rattle.outline.specs.Cut.{alphaMask, isSought, isKeyed, grownGround, cutMask, cutOf}
-use Rattle.outline.specs.Refusal.{workTests, cutLengths, pictureTests, cutRefusal}
-use Rattle.outline.specs.Calls.{Buffers, refusalIn, HeldIn}
+use Rattle.outline.specs.Refusal.{workTests, cutLengths, pictureTests, cutContents, cutRefusal}
+use Rattle.outline.specs.Calls.{Buffers, refusalIn, cutIn, HeldIn}
 use Rattle.outline.specs.Premises.{sameTolerance, AgreeAt, TwoCalls, TwoPictures}
 use Rattle.outline.proofs.Masks.{near-found, near-is, within-more}
-use Rattle.outline.proofs.Borders.{border-inside, reference-same}
+use Rattle.outline.proofs.Borders.{border-inside, reference-on-same}
 use Rattle.outline.proofs.CutLaws.{Taken, taken}
 use Rattle.outline.proofs.Pictures.{Same, grounds, found-alike, growths}
 
@@ -74,8 +75,8 @@ colour-held colours n i a e l = record { r = a (3 * i + 0) (omega arith); g = a 
 
 -- ---- the cut
 
-module _ (one two : List Float) (alpha : List ℕ) (h w : ℕ) (s t : Settings) (b c : Buffers)
-    (calls : TwoCalls one two alpha h w s t b c) where
+module _ (one two : List Float) (alpha : List ℕ) (h w : ℕ) (card card′ : Card) (s t : Settings) (b c : Buffers)
+    (calls : TwoCalls one two alpha h w card card′ s t b c) where
   abbrev tol : Float
   tol = s .«key_bg_tolerance»
 
@@ -83,19 +84,20 @@ module _ (one two : List Float) (alpha : List ℕ) (h w : ℕ) (s t : Settings) 
   tol′ = t .«key_bg_tolerance»
 
   abbrev ref : Rgb
-  ref = referenceOf one h w
+  ref = referenceOn card one h w
 
   alphas : alphaMask alpha (h * w) s ≡ alphaMask alpha (h * w) t
   unfolding alphaMask
   alphas = rw (calls .settings .threshold)
 
   -- the numbers are equal, whatever the pictures show
-  refusals : refusalIn one alpha h w s b ≡ refusalIn two alpha h w t c
-  unfolding cutRefusal cutLengths workTests pictureTests
+  refusals : refusalIn one alpha h w card s b ≡ refusalIn two alpha h w card′ t c
+  unfolding cutRefusal cutLengths workTests pictureTests cutContents
   refusals =
       let l = calls .lengths in
       rw (
         calls .sizes,
+        calls .cards,
         calls .in-range,
         calls .in-range′,
         finite-alike tol tol′ (calls .settings .tolerance),
@@ -109,9 +111,9 @@ module _ (one two : List Float) (alpha : List ℕ) (h w : ℕ) (s t : Settings) 
       )
 
   -- where the first call is accepted, and both are lent binary64 numbers, as every accepted call is
-  module _ (good : refusalIn one alpha h w s b ≡ 0) (held : HeldIn one s) (held′ : HeldIn two t) where
+  module _ (good : refusalIn one alpha h w card s b ≡ 0) (held : HeldIn one s) (held′ : HeldIn two t) where
     known : Taken one alpha h w s b
-    known = taken one alpha h w s b good
+    known = taken one alpha h w card s b good
 
     tall : 0 < h
     tall = known .sides .some-rows
@@ -150,20 +152,20 @@ module _ (one two : List Float) (alpha : List ℕ) (h w : ℕ) (s t : Settings) 
     unfolding cutMask
     masks = rw (keyed, grown, alphas)
 
-    cuts : cutOf one alpha h w (referenceOf one h w) s ≡ cutOf two alpha h w (referenceOf two h w) t
+    cuts : cutIn one alpha h w card s ≡ cutIn two alpha h w card′ t
     unfolding cutOf
-    cuts = rw (← reference-same one two h w border, masks, keyed, calls .settings .cropping)
+    cuts = rw (← calls .cards, ← reference-on-same card one two h w border, masks, keyed, calls .settings .cropping)
 
 -- ---- the theorem
 
 -- Demand 3. Take any two calls of the cut on pictures of one size (one h, one w), with equal alpha (one list), equal settings of p passes
--- (whatever p is; a negative one read as 0) and each buffer as long in one call as in the other, whatever the buffers held before.
+-- (whatever p is; a negative one read as 0), on cards of one kind (no colour given, or one colour), and each buffer as long in one call as in the other, whatever the buffers held before.
 -- Let all colours lent be from 0 to 1, and let the two pictures agree on the border and on every pixel within p + 4 rows and columns of the
 -- first picture's ground, found or not; where the first call is declined they need not agree anywhere. Then, whatever such colours either
 -- picture has elsewhere, both calls are declined with the same number, or both are accepted and make the same cut: the same mask, the same
 -- weights bit for bit, the same keyed flag and the same four crop numbers.
 -- That the numbers lent are binary64 numbers (HeldIn) is what every accepted call ensures; the theorem for calls is keying's.
-pub two-pictures : (one two : List Float) (alpha : List ℕ) (h w : ℕ) (s t : Settings) (b c : Buffers)
-    → TwoCalls one two alpha h w s t b c → TwoPictures one two alpha h w s t b c
-two-pictures one two alpha h w s t b c calls =
-    record { refusals-alike = refusals one two alpha h w s t b c calls; cuts-alike = cuts one two alpha h w s t b c calls }
+pub two-pictures : (one two : List Float) (alpha : List ℕ) (h w : ℕ) (card card′ : Card) (s t : Settings) (b c : Buffers)
+    → TwoCalls one two alpha h w card card′ s t b c → TwoPictures one two alpha h w card card′ s t b c
+two-pictures one two alpha h w card card′ s t b c calls =
+    record { refusals-alike = refusals one two alpha h w card card′ s t b c calls; cuts-alike = cuts one two alpha h w card card′ s t b c calls }

@@ -1,4 +1,4 @@
--- The border of a picture, its colours, and the reference colour that the border's list gives.
+-- The border of a picture, its colours, and the reference colour: the one that the border's list gives, or a given one.
 -- Assumes nothing.
 use Prim.Native.Nat.{ℕ, _+_, _*_, _-_}
 use mathlib.Core.Bool.{Bool, false, _||_}
@@ -9,6 +9,8 @@ use lib.Ieee.{Float, nan}
 use Rattle.plane.specs.Plane.{table}
 use Rattle.colour.specs.declared.Rgb.{Rgb}
 use Rattle.median.specs.Median.{medianOf}
+use Rattle.card.specs.declared.Card.{Card}
+use Rattle.card.specs.declared.Card.the-variants as card
 
 -- the pixels of row y (R15)
 unfoldable pub rowPixels : ℕ → ℕ → List ℕ
@@ -46,3 +48,10 @@ referenceChannel colours h w c = medianOf (map (channelAt colours c) (borderList
 unfoldable pub referenceOf : List Float → ℕ → ℕ → Rgb
 referenceOf colours h w =
     record { r = referenceChannel colours h w 0; g = referenceChannel colours h w 1; b = referenceChannel colours h w 2 }
+
+-- the reference on a card (R83): a colour that is given takes the place of the border's. With a text that names no colour nothing is
+-- cut, so its line has no part in any result
+abbrev pub referenceOn : Card → List Float → ℕ → ℕ → Rgb
+referenceOn (card.Given colour) colours h w = colour
+referenceOn card.Border colours h w = referenceOf colours h w
+referenceOn card.Unreadable colours h w = referenceOf colours h w

@@ -1,3 +1,2 @@
-pub mod Range
 pub mod Files
 mod Cases

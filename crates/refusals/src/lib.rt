@@ -1,12 +1,13 @@
 // What ground, growth and cut decline: the tests in order; each function returns at the first that fails, and tests with one number are
 // made at once. Sides and lengths come first, so that nothing is read behind a wrong length, and colours are read no further
-// than the first block with a wrong one.
+// than the first block with a wrong one. Of ground and cut the lengths are judged by one function and what stands in the buffers by
+// another, so that a text with the card's colour is read between the two.
 ghost use mathlib.Core.Path.{_≡_};
 ghost use lib.ListN.{length};
 ghost use Rattle.plane.specs.Refusal.{refusalOf};
 ghost use Rattle.colour.specs.Colour.{rgbOk};
-ghost use Rattle.outline.specs.Refusal.{workTests, groundLengths, growthLengths, cutLengths, pictureTests};
-ghost use Rattle.outline.specs.Refusal.{groundRefusal, growthRefusal, cutRefusal};
+ghost use Rattle.outline.specs.Refusal.{workTests, groundLengths, growthLengths, cutLengths, pictureTests, cutContents, growthRefusal};
+use card::Card;
 use colour::Rgb;
 use colour::Settings;
 
@@ -18,7 +19,7 @@ fn rgb_ok(c: Rgb) -> bool
 }
 
 // Ground: the lengths of the colours, the output and the work buffer.
-fn ground_lengths(h: usize, w: usize, colours: usize, out: usize, work: usize) -> u32
+pub fn ground_lengths(h: usize, w: usize, colours: usize, out: usize, work: usize) -> u32
     ensures { λ r. ⌜ r ≡ refusalOf (groundLengths h w colours out work) ⌝ }
 {
     if !plane::sides_ok(h, w) {
@@ -62,7 +63,7 @@ fn growth_lengths(
 }
 
 // Cut: the lengths of the colours, the alpha, two outputs and four work buffers.
-fn cut_lengths(
+pub fn cut_lengths(
     h: usize,
     w: usize,
     colours: usize,
@@ -99,10 +100,13 @@ fn work_lengths(least: usize, nearest: usize, shallow: usize, deep: usize, marks
     3
 }
 
-// What a picture is declined for: its colours, then the tolerance.
-fn picture_refusal(colours: &[f64], tolerance: f64) -> u32
-    ensures { λ r. ⌜ r ≡ refusalOf (pictureTests (now (colours .entry)) tolerance) ⌝ }
+// What a picture is declined for: a text that names no card's colour, its colours, then the tolerance.
+pub fn picture_refusal(card: Card, colours: &[f64], tolerance: f64) -> u32
+    ensures { λ r. ⌜ r ≡ refusalOf (pictureTests card (now (colours .entry)) tolerance) ⌝ }
 {
+    if !card::readable(card) {
+        return 11;
+    }
     if !colour::colours_ok(colours) {
         return 4;
     }
@@ -112,22 +116,18 @@ fn picture_refusal(colours: &[f64], tolerance: f64) -> u32
     0
 }
 
-// The refusal of a search of the ground, or 0.
-pub fn ground_refusal(
-    colours: &[f64],
-    h: usize,
-    w: usize,
-    tolerance: f64,
-    out: usize,
-    work: usize,
-) -> u32
-    ensures { λ r. ⌜ r ≡ groundRefusal (now (colours .entry)) h w tolerance out work ⌝ }
+// What a cut is declined for once its lengths are accepted: the picture, then an alpha that nowhere reaches the threshold.
+pub fn cut_contents(card: Card, colours: &[f64], alpha: &[u8], s: Settings) -> u32
+    ensures { λ r. ⌜ r ≡ refusalOf (cutContents card (now (colours .entry)) (now (alpha .entry)) (length (now (alpha .entry))) s) ⌝ }
 {
-    let lengths = ground_lengths(h, w, colours.len(), out, work);
-    if lengths != 0 {
-        return lengths;
+    let picture = picture_refusal(card, colours, s.key_bg_tolerance);
+    if picture != 0 {
+        return picture;
     }
-    picture_refusal(colours, tolerance)
+    if !weights::some_reach(alpha, s.alpha_threshold) {
+        return 6;
+    }
+    0
 }
 
 // The refusal of growth, or 0.
@@ -163,45 +163,4 @@ pub fn growth_refusal(
         return 0;
     }
     4
-}
-
-// The refusal of a cut, or 0.
-pub fn cut_refusal(
-    colours: &[f64],
-    alpha: &[u8],
-    h: usize,
-    w: usize,
-    s: Settings,
-    mask: usize,
-    weights: usize,
-    nearest: usize,
-    shallow: usize,
-    deep: usize,
-    marks: usize,
-) -> u32
-    ensures { λ r. ⌜ r ≡ cutRefusal (now (colours .entry)) (now (alpha .entry)) h w s mask weights nearest shallow deep marks ⌝ }
-{
-    let lengths = cut_lengths(
-        h,
-        w,
-        colours.len(),
-        alpha.len(),
-        mask,
-        weights,
-        nearest,
-        shallow,
-        deep,
-        marks,
-    );
-    if lengths != 0 {
-        return lengths;
-    }
-    let picture = picture_refusal(colours, s.key_bg_tolerance);
-    if picture != 0 {
-        return picture;
-    }
-    if !weights::some_reach(alpha, s.alpha_threshold) {
-        return 6;
-    }
-    0
 }

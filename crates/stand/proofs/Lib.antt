@@ -1,1 +1,2 @@
 pub mod TwoPictures
+pub mod EarlierLaws

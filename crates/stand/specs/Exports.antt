@@ -14,6 +14,7 @@ use Rattle.outline.specs.declared.Outcome.the-variants as outcome
 use Rattle.colour.specs.declared.Rgb.{Rgb}
 use Rattle.colour.specs.declared.Settings.{Settings}
 use Rattle.colour.specs.Number.{zero64}
+use Rattle.card.specs.declared.Card.{Card}
 use Rattle.outline.specs.Calls.{Buffers}
 use Rattle.keying.specs.Calls.{Called}
 use Rattle.stand.specs.declared.StandLabels.{StandLabels}
@@ -47,9 +48,9 @@ cutValues (outcome.Done keyed box) =
     record { refusal = 0; keyed = keyed; y0 = box .y0; y1 = box .y1; x0 = box .x0; x1 = box .x1 }
 cutValues (outcome.Refused n) = record { refusal = n; keyed = false; y0 = 0; y1 = 0; x0 = 0; x1 = 0 }
 
--- a call of the exported cut with these buffers has handed back r and left b′ (R70)
-abbrev pub CutReturns : List Float → List ℕ → ℕ → ℕ → Settings → Buffers → StandCut → Buffers → Type 0
-CutReturns colours alpha h w s b r b′ = Returns cutValues (λ (a : Outcome). Called colours alpha h w s b a b′) r
+-- a call of the exported cut on a card, with these buffers, has handed back r and left b′ (R70)
+abbrev pub CutReturns : List Float → List ℕ → ℕ → ℕ → Card → Settings → Buffers → StandCut → Buffers → Type 0
+CutReturns colours alpha h w card s b r b′ = Returns cutValues (λ (a : Outcome). Called colours alpha h w card s b a b′) r
 
 -- two calls of the exported cut have one outline: they hand back the same number, keyed flag and crop box, and, accepted, the same mask and
 -- the same weights bit for bit (R66)

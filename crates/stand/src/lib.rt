@@ -5,6 +5,8 @@ ghost use Rattle.geometry.specs.declared.Answer.{Answer};
 ghost use Rattle.geometry.specs.declared.Labelled.{Labelled};
 ghost use Rattle.geometry.specs.Answer.{refusalOfAnswer};
 ghost use Rattle.geometry.specs.Calls.{NearestCalled, LabelsCalled, SquaresCalled, DistanceCalled, FillCalled};
+ghost use Rattle.card.specs.declared.Card.the-variants.{Border};
+ghost use Rattle.card.specs.Card.{cardOf};
 ghost use Rattle.outline.specs.declared.Ground.{Ground};
 ghost use Rattle.keying.specs.Calls.{GroundCalled, GrowthCalled};
 ghost use Rattle.stand.specs.Exports.{Returns, CutReturns, labelsValues, groundValues, cutValues};
@@ -198,7 +200,7 @@ pub extern "C" fn stand_cut(
     mask: &mut [u8],
     weights: &mut [f64],
 ) -> StandCut
-    ensures { λ r. ⌜ CutReturns (now (colours .entry)) (now (alpha .entry)) h w settings
+    ensures { λ r. ⌜ CutReturns (now (colours .entry)) (now (alpha .entry)) h w Border settings
         (record {
           mask = now (mask .entry);
           weights = now (weights .entry);
@@ -231,6 +233,56 @@ pub extern "C" fn stand_cut(
     ))
 }
 
+// keying::subject_with_colour
+#[no_mangle]
+pub extern "C" fn stand_cut_with_colour(
+    colours: &[f64],
+    alpha: &[u8],
+    h: usize,
+    w: usize,
+    text: &[u8],
+    settings: Settings,
+    nearest: &mut [u32],
+    shallow: &mut [u8],
+    deep: &mut [u8],
+    marks: &mut [u8],
+    mask: &mut [u8],
+    weights: &mut [f64],
+) -> StandCut
+    ensures { λ r. ⌜ CutReturns (now (colours .entry)) (now (alpha .entry)) h w (cardOf (now (text .entry))) settings
+        (record {
+          mask = now (mask .entry);
+          weights = now (weights .entry);
+          nearest = now (nearest .entry);
+          shallow = now (shallow .entry);
+          deep = now (deep .entry);
+          marks = now (marks .entry);
+        }) r
+        (record {
+          mask = now (mask .exit);
+          weights = now (weights .exit);
+          nearest = now (nearest .exit);
+          shallow = now (shallow .exit);
+          deep = now (deep .exit);
+          marks = now (marks .exit);
+        }) ⌝ }
+{
+    cut_values(keying::subject_with_colour(
+        colours,
+        alpha,
+        h,
+        w,
+        text,
+        settings,
+        nearest,
+        shallow,
+        deep,
+        marks,
+        mask,
+        weights,
+    ))
+}
+
 // keying::flat_background
 #[no_mangle]
 pub extern "C" fn stand_ground(
@@ -241,11 +293,29 @@ pub extern "C" fn stand_ground(
     work: &mut [u32],
     out: &mut [u8],
 ) -> StandGround
-    ensures { λ r. ⌜ Returns groundValues (λ (a : Ground). GroundCalled (now (colours .entry)) h w tolerance
+    ensures { λ r. ⌜ Returns groundValues (λ (a : Ground). GroundCalled (now (colours .entry)) h w Border tolerance
         (now (work .entry)) (now (out .entry)) a
         (now (work .exit)) (now (out .exit))) r ⌝ }
 {
     ground_values(keying::flat_background(colours, h, w, tolerance, work, out))
+}
+
+// keying::flat_background_with_colour
+#[no_mangle]
+pub extern "C" fn stand_ground_with_colour(
+    colours: &[f64],
+    h: usize,
+    w: usize,
+    text: &[u8],
+    tolerance: f64,
+    work: &mut [u32],
+    out: &mut [u8],
+) -> StandGround
+    ensures { λ r. ⌜ Returns groundValues (λ (a : Ground). GroundCalled (now (colours .entry)) h w (cardOf (now (text .entry))) tolerance
+        (now (work .entry)) (now (out .entry)) a
+        (now (work .exit)) (now (out .exit))) r ⌝ }
+{
+    ground_values(keying::flat_background_with_colour(colours, h, w, text, tolerance, work, out))
 }
 
 // keying::unmix_fringe

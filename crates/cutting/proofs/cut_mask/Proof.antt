@@ -14,7 +14,7 @@ use Rattle.cutting.proofs.cut_mask.Statement.{statement}
 use Rattle.cutting.proofs.cut_mask.Tie as tie
 
 reach-requires : tie.Need-reach-requires
-reach-requires c κs = let k = c .before .before .before .before .before .before .before .before .before .pre in k .0 .mask-long ∙ sym (k .1)
+reach-requires c κs = let k = c .before .before .before .before .before .before .before .before .before .pre in k .0 .mask-long ∙ sym (k .1 .0)
 
 module _ (c : tie.After-some-off) where
   abbrev at-start : tie.Start
@@ -29,7 +29,7 @@ module _ (c : tie.After-some-off) where
   reached =
       let z = at-start .args .s .«alpha_threshold» in
       let t : toZ w64 (ofZ w64 z) ≡ z = toZ-ofZ {w = w64} {z = z} (record { sfits = at-reach .before .struct-told .given .0 .1 }) in
-      at-reach .reach .ensures ∙ rw (at-start .pre .1, t)
+      at-reach .reach .ensures ∙ rw (at-start .pre .1 .0, t)
 
   sought : let a = at-start .args in (a .s .«key_bg» && not (c .some-off .result)) ≡ isSought (a .alpha .now) (a .h * a .w) (a .s)
   sought =
@@ -40,23 +40,24 @@ module _ (c : tie.After-some-off) where
 abbrev asked : tie.Then1 → tie.After-some-off
 asked c = c .before .before
 
-reference-requires : tie.Need-reference-requires
-reference-requires c κs =
-    let k = at-start (asked (c .before .before)) .pre .0 in
-    record { sides = k .sides; input = k .colours-long; range = k .range; room = k .nearest-long }
+reference-on-requires : tie.Need-reference-on-requires
+reference-on-requires c κs =
+    let p = at-start (asked (c .before .before)) .pre in
+    let k = p .0 in
+    (record { sides = k .sides; input = k .colours-long; range = k .range; room = k .nearest-long }, p .1 .1)
 
 key-requires : tie.Need-key-requires
 key-requires c κs =
     let referred = c .before .before .before .before .before .before .before in
     let off = asked (referred .before .before .before) in
     let k = at-start off .pre .0 in
-    let call = referred .reference in (
+    let call = referred .reference-on in (
       record {
         sides = k .sides;
         colours-long = k .colours-long;
         range = k .range;
         mask-long = at-reach off .reach .kept .1 .1 .0 ∙ k .mask-long;
-        nearest-long = omega (arith, k .nearest-long, call .kept .1 .1 .1 .0);
+        nearest-long = omega (arith, k .nearest-long, call .kept .1 .1 .1 .1 .0);
         shallow-long = k .shallow-long;
         deep-long = k .deep-long;
         marks-long = k .marks-long;
@@ -73,7 +74,7 @@ returns c =
     let a = at-start (asked taken) .args in
     let e = sym (sought (asked taken)) ∙ taken .if1 .taken in
     let k = keyed .key .ensures in
-    let r = referred .reference .ensures .0 in (
+    let r = referred .reference-on .ensures .0 in (
       k .0 ∙ rw r (sought-flag (a .colours .now) (a .alpha .now) (a .h) (a .w) _ (a .s) e),
       k .1 ∙ rw (r, counted .passes .ensures) (sought-mask (a .colours .now) (a .alpha .now) (a .h) (a .w) _ (a .s) e),
     )
@@ -94,7 +95,7 @@ cut-mask-spec =
     reach-requires
     (λ c κs. search needs)
     (λ c κs. search needs)
-    reference-requires
+    reference-on-requires
     key-requires
     (λ c. search needs)
     (λ c. search needs)

@@ -6,21 +6,21 @@ use Rattle.ground.proofs.flat_ground.Statement.{statement}
 use Rattle.ground.proofs.flat_ground.Tie as tie
 
 -- the start, seen from the place after the reference
-abbrev start : tie.After-reference → tie.Start
+abbrev start : tie.After-reference-on → tie.Start
 start c = c .before .before .before .before .before
 
 ground-from-requires : tie.Need-ground-from-requires
 ground-from-requires c κs =
-    let r : tie.After-reference = c .before .before .before .before in
-    let g = start r .pre in
-    let p = same-picture (g .picture) (r .reference .last .1 .1 .1 .0) (r .reference .kept .1 .1 .1 .0) in
-    (record { picture = p; output = g .output }, r .reference .ensures .1)
+    let r : tie.After-reference-on = c .before .before .before .before in
+    let g = start r .pre .0 in
+    let p = same-picture (g .picture) (r .reference-on .last .1 .1 .1 .1 .0) (r .reference-on .kept .1 .1 .1 .1 .0) in
+    (record { picture = p; output = g .output }, r .reference-on .ensures .1)
 
 returns : tie.Need-returns
 returns c =
     let f : tie.After-ground-from = c .before .before .before .before in
-    let r : tie.After-reference = f .before .before .before .before .before in
-    let e = r .reference .ensures .0 in
+    let r : tie.After-reference-on = f .before .before .before .before .before in
+    let e = r .reference-on .ensures .0 in
     (rw (← e) (f .ground-from .ensures .0), rw (← e) (f .ground-from .ensures .1))
 
 pub flat-ground-spec : {M : Type 1} → statement M

@@ -13,7 +13,7 @@ use Rattle.colour.specs.Colour.{colourOk}
 use Rattle.colour.specs.Weight.{weightOf}
 use Rattle.colour.proofs.Range.{colours-all}
 use Rattle.pam.specs.Picture.{sampleAt, coloursFrom}
-use Rattle.pam.proofs.Range.{byte-ok}
+use Rattle.colour.proofs.Bytes.{byte-ok}
 use Rattle.pam.proofs.colours.Statement.{statement}
 use Rattle.pam.proofs.colours.Tie as tie
 
