@@ -2,7 +2,7 @@
 
     python3 examples/derive.py badge.record.txt badge.ppm
 
-reads the five settings and the picture, works out mask, weights, keyed flag and crop box, and says of each whether it is as filed.
+reads the settings and the picture, works out mask, weights, keyed flag and crop box, and says of each whether it is as filed.
 Then it opens the files of the mask and the weights beside the record, and says of each whether it is as derived, byte for byte,
 and as filed, by its sum. Without a picture it takes badge.picture.ppm or badge.picture.pam beside the record.
 
@@ -45,6 +45,7 @@ def derive(record, picture):
         passes=max(0, int(record["key_bg_fringe"])),
         tolerance=float(record["key_bg_tolerance"]),
         crop=record["crop_to_alpha"] == "yes",
+        given=record.get("card_colour"),
     )
     if derived is None:
         raise Wrong("no pixel's alpha reaches the threshold, and such a picture is never cut; give the picture that was cut")

@@ -19,6 +19,7 @@ def shown(text):
 WHOLE = "0|-?[1-9][0-9]{0,18}"
 SIDE = "[1-9][0-9]{0,3}"
 YES_OR_NO = "yes|no"
+COLOUR = "[0-9a-f]{6}"
 SUM = "[0-9a-f]{64}"
 
 # The keys of the lines in their order, each with the form of its value.
@@ -31,6 +32,7 @@ LINES = {
     "key_bg_tolerance": r"-?[0-9]+(\.[0-9]+)?",
     "key_bg_tolerance_bits": "[0-9a-f]{16}",
     "crop_to_alpha": YES_OR_NO,
+    "card_colour": COLOUR,
     "keyed": YES_OR_NO,
     "crop": " ".join(["(0|[1-9][0-9]{0,3})"] * 4),
     "picture_sha256": SUM,
@@ -39,8 +41,9 @@ LINES = {
     "weights_sha256": SUM,
     "weights_pgm_sha256": SUM,
 }
-# The first line of each form, and the keys that it does not have. In the second, original_sha256 may be left out.
-FORMS = {"stand record 1": ["original_sha256", "weights_pgm_sha256"], "stand record 2": []}
+# The first line of each form, and the keys that it does not have. In the second some are there only where they are needed.
+FORMS = {"stand record 1": ["card_colour", "original_sha256", "weights_pgm_sha256"], "stand record 2": []}
+WHERE_NEEDED = ["card_colour", "original_sha256"]
 AS_FILED = "give the record as it was filed"
 LATER = "take the script of a later version"
 
@@ -56,7 +59,7 @@ def read_record(data):
         raise Wrong(f"it does not end with a newline, so it was cut short; {AS_FILED}")
     record = {}
     for key in LINES:
-        left_out = key == "original_sha256" and not lines[0].startswith(key)
+        left_out = key in WHERE_NEEDED and not lines[0].startswith(key)
         if key not in FORMS[first] and not left_out:
             record[key] = value_of(lines.pop(0), key)
     if lines != [""]:

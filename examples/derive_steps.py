@@ -1,4 +1,4 @@
-"""The steps of docs/OUTLINE.md, from a picture and five settings to the outline, for derive.py."""
+"""The steps of docs/OUTLINE.md, from a picture and its settings to the outline, for derive.py."""
 
 import re
 from bisect import bisect
@@ -67,28 +67,29 @@ class Picture:
         return high & self.all
 
 
-def outline(picture, threshold, key, passes, tolerance, crop):
+def outline(picture, threshold, key, passes, tolerance, crop, given=None):
     """Mask, weights, keyed flag and crop box, or None where no alpha reaches the threshold.
 
-    The mask is a set; the weights are bytes for each row, v for the weight v / 255.
+    The card's colour is given in six hexadecimal digits, or is not. The mask is a set; the weights are bytes for each row, v for
+    the weight v / 255.
     """
     mask = picture.chosen(picture.alpha, lambda v: v >= threshold)
     if not mask:
         return None
     background = None
     if mask == picture.all and key:
-        background = background_of(picture, tolerance, passes)
+        background = background_of(picture, tolerance, passes, given)
     if background is not None:
         mask &= ~background
     return mask, weights_of(picture, mask), background is not None, crop_of(picture, mask, crop)
 
 
-def background_of(picture, tolerance, passes):
+def background_of(picture, tolerance, passes, given):
     """Steps 2 to 6: the grown ground, or None where no ground is found."""
     border = border_list(picture)
-    middle = reference(picture, border)
+    colour = reference(picture, border, given)
     # How far byte v of each channel is from the reference.
-    distances = [[abs(v / 255 - channel) for v in range(256)] for channel in middle]
+    distances = [[abs(v / 255 - channel) for v in range(256)] for channel in colour]
     close = close_pixels(picture, distances, tolerance)
     background = ground(picture, close, border)
     digits = picture.digits(close)
@@ -110,8 +111,10 @@ def border_list(picture):
     return rows + [place(y, x) for x in (0, w - 1) for y in range(1, h - 1)]
 
 
-def reference(picture, border):
-    """Step 3: of each channel half the sum of the two middle values."""
+def reference(picture, border, given):
+    """Step 3: the colour that is given or, without one, of each channel half the sum of the two middle values."""
+    if given is not None:
+        return [v / 255 for v in bytes.fromhex(given)]
     middle = len(border) // 2
     channels = (sorted(plane[i] for i in border) for plane in picture.colours)
     return [(values[middle - 1] / 255 + values[middle] / 255) / 2 for values in channels]

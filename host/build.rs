@@ -1,5 +1,5 @@
 //! Links the proved archive, which host/prove makes where it is missing, and hands its version on
-//! to the program and the path of mask.rs on to the comparisons.
+//! to the program, and mask.rs and what reads a colour in editor/log.rs on to the comparisons.
 
 #[allow(dead_code)]
 #[path = "src/sha256.rs"]
@@ -107,15 +107,19 @@ fn version(root: &Path, archive: &Path) -> String {
     format!("proved library {number}, libstand.a with the SHA-256 {sum}")
 }
 
-/// Writes the file that a test or a program includes at its root: mask.rs, unchanged, as the
-/// module `mask`, with the record of settings that it asks for; nothing where mask.rs is not there.
-fn the_rust(root: &Path, host: &Path) {
+/// The place of mask.rs, whether it is there or not.
+fn mask_rs(root: &Path) -> PathBuf {
     println!("cargo:rerun-if-env-changed=PIXELFORGE_MASK_RS");
-    println!("cargo:rustc-check-cfg=cfg(mask_rs)");
-    let path = match env::var_os("PIXELFORGE_MASK_RS") {
+    match env::var_os("PIXELFORGE_MASK_RS") {
         Some(path) => PathBuf::from(path),
         None => root.join("../shared/docs/src/crates/pixelforge/src/mask.rs"),
-    };
+    }
+}
+
+/// Writes the file that a test or a program includes at its root: mask.rs, unchanged, as the
+/// module `mask`, with the record of settings that it asks for; nothing where mask.rs is not there.
+fn the_rust(path: &Path, host: &Path, out: &Path) {
+    println!("cargo:rustc-check-cfg=cfg(mask_rs)");
     println!("cargo:rerun-if-changed={}", path.display());
     let mut text = String::new();
     match path.canonicalize() {
@@ -131,8 +135,44 @@ fn the_rust(root: &Path, host: &Path) {
             path.display()
         ),
     }
-    let out = PathBuf::from(env::var_os("OUT_DIR").expect("OUT_DIR"));
     fs::write(out.join("the_rust.rs"), text).expect("the_rust.rs");
+}
+
+/// A function of a Rust file as it stands there, from its first line to its closing brace.
+fn function(text: &str, head: &str) -> Option<String> {
+    let from = text.find(&format!("\n{head}("))? + 1;
+    let end = text[from..].find("\n}\n")?;
+    Some(text[from..from + end + 3].into())
+}
+
+/// Writes what support/log.rs includes: `rgb` of editor/log.rs beside mask.rs, which is private there
+/// and reads the card's colour, and the functions that it calls. The rest of these two files asks for
+/// crates that are not here.
+fn the_digits(mask_rs: &Path, out: &Path) {
+    println!("cargo:rustc-check-cfg=cfg(log_rs)");
+    let beside = |name: &str| mask_rs.with_file_name(name);
+    let (log, color) = (beside("editor/log.rs"), beside("color.rs"));
+    let read = |path: &Path, heads: &[&str]| -> Option<String> {
+        println!("cargo:rerun-if-changed={}", path.display());
+        let text = fs::read_to_string(path).ok()?;
+        heads.iter().map(|head| function(&text, head)).collect()
+    };
+    let cut = (
+        read(&log, &["fn text<'a>", "fn rgb"]),
+        read(&color, &["pub fn hex_to_rgb8"]),
+    );
+    let (Some(rgb), Some(hex)) = cut else {
+        println!(
+            "cargo:warning={} and {} do not have the functions that read a colour: the comparison of \
+             its text with them is left out",
+            log.display(),
+            color.display()
+        );
+        return;
+    };
+    println!("cargo:rustc-cfg=log_rs");
+    fs::write(out.join("log_rgb.rs"), rgb).expect("log_rgb.rs");
+    fs::write(out.join("color_hex.rs"), hex).expect("color_hex.rs");
 }
 
 fn main() {
@@ -148,5 +188,8 @@ fn main() {
     println!("cargo:rustc-link-lib=static=stand");
     println!("cargo:rustc-env=STAND_ARCHIVE={}", archive.display());
     println!("cargo:rustc-env=STAND_PROVED={}", version(&root, &archive));
-    the_rust(&root, &host);
+    let out = PathBuf::from(env::var_os("OUT_DIR").expect("OUT_DIR"));
+    let mask_rs = mask_rs(&root);
+    the_rust(&mask_rs, &host, &out);
+    the_digits(&mask_rs, &out);
 }

@@ -1,6 +1,7 @@
 /* Plane geometry and the cut for the copy stand: nearest pixels, labels, squares,
  * square distance, filling of transparent pixels, ground, growth, and the cut that
- * turns a picture and five settings into mask, weights and crop box.
+ * turns a picture and five settings into mask, weights and crop box. Where the card's
+ * colour is known, ground and cut can be given it.
  *
  * Link with libstand.a, which `rt staticlib stand` writes to target/staticlib/:
  *
@@ -16,9 +17,14 @@
  * Colours. A colour is three double, each from 0 to 1; -0 counts as 0. Channel c
  * of pixel i is element 3 * i + c.
  *
+ * The card's colour. Where it is given, it is a text of six hexadecimal digits, as
+ * F4F1E8: two for red, two for green, two for blue, letters of either case, no # and no
+ * spaces. It is lent as a pointer and a length, and nothing marks its end: a NUL that is
+ * counted in the length is a byte of the text, and makes it wrong (R81).
+ *
  * Buffers. The caller lends every buffer as a pointer and its length, counted in
  * elements and not in bytes (R45, R46). There are three kinds:
- *   inputs        are read only;
+ *   inputs        are read only; the text of the card's colour is one;
  *   outputs       have exactly the length of their plane, and every element of
  *                 them is written;
  *   work buffers  hold at least stand_work_len(h, w) elements. What they hold
@@ -41,9 +47,10 @@
  * -5e-324, say, would be accepted.
  *
  * Answers. Each call answers STAND_ACCEPTED or the number of the refusal. Where
- * several things are wrong the lowest number is answered (R54 to R57). After a
- * refusal every buffer that was lent, work buffers included, is as it was. Sides are
- * judged first, then lengths, and nothing that is lent is read before both are right.
+ * several things are wrong the first of them is answered, in the order 1, 2, 3, 11, 4,
+ * 5, 6 (R54 to R57, R82). After a refusal every buffer that was lent, work buffers
+ * included, is as it was. Sides are judged first, then lengths, and nothing that is lent
+ * is read before both are right; a text whose length is not 6 is not read at all.
  */
 #ifndef STAND_H
 #define STAND_H
@@ -57,9 +64,9 @@ extern "C" {
 #endif
 
 /* The version of this header, and of the crate in host/. */
-#define STAND_VERSION "0.1.0"
+#define STAND_VERSION "0.2.0"
 #define STAND_VERSION_MAJOR 0
-#define STAND_VERSION_MINOR 1
+#define STAND_VERSION_MINOR 2
 #define STAND_VERSION_PATCH 0
 
 /* The longest side of a plane, in pixels (R1). */
@@ -70,7 +77,7 @@ extern "C" {
 /* h or w is 0 or more than STAND_MOST_SIDE (R44). */
 #define STAND_SIDE 1
 /* The length of an input is not that of its plane: h * w, for colours 3 * h * w
- * (R45). */
+ * (R45). The text of the card's colour has no plane; its length is a matter of 11. */
 #define STAND_INPUT_LENGTH 2
 /* The length of an output is not that of its plane, or a work buffer holds fewer
  * than stand_work_len(h, w) elements (R46). */
@@ -82,6 +89,9 @@ extern "C" {
 #define STAND_TOLERANCE 5
 /* No alpha reaches the threshold: the mask would be empty (R49). */
 #define STAND_ALPHA 6
+/* The text of the card's colour is not six hexadecimal digits; an empty text is not,
+ * either. It is tested after 3 and before 4 (R82). */
+#define STAND_CARD_COLOUR 11
 
 /* How many elements a work buffer needs. It is 0 where a side is 0 or more than
  * STAND_MOST_SIDE: every call with such sides answers STAND_SIDE and uses no
@@ -181,11 +191,12 @@ typedef struct {
     double r, g, b;
 } StandRgb;
 
-/* What stand_ground answers. */
+/* What stand_ground and stand_ground_with_colour answer. */
 typedef struct {
     uint32_t refusal;   /* STAND_ACCEPTED or the number of the refusal */
     bool found;         /* whether the ground was found; false when refused */
-    StandRgb reference; /* the border's colour, a zero as +0; all +0 when not found */
+    StandRgb reference; /* the border's colour, or the one that is given, a zero as +0;
+                         * all +0 when not found */
 } StandGround;
 
 /* Ground (R15 to R22): the plain card around the object.
@@ -207,6 +218,26 @@ typedef struct {
 StandGround stand_ground(
     const double *colours, size_t colours_len,
     size_t h, size_t w,
+    double tolerance,
+    uint32_t *work, size_t work_len,
+    uint8_t *out, size_t out_len);
+
+/* Ground on card of a known colour (R83): as stand_ground, but the reference is the
+ * colour that the text gives, its three bytes divided by 255, and not the border's. At
+ * least nine tenths of the border list must be close to it; where they are not, the
+ * ground is not found, and the border's own colour is not tried.
+ *
+ * Refusals 1, 2, 3, 11, 4 and 5 are tested in this order.
+ *
+ *   colours  input, 3 * h * w
+ *   text     input, the six digits of the card's colour
+ *   work     work buffer
+ *   out      output, h * w bytes, 1 on the ground and 0 elsewhere
+ */
+StandGround stand_ground_with_colour(
+    const double *colours, size_t colours_len,
+    size_t h, size_t w,
+    const uint8_t *text, size_t text_len,
     double tolerance,
     uint32_t *work, size_t work_len,
     uint8_t *out, size_t out_len);
@@ -255,7 +286,7 @@ typedef struct {
 /* The stand's own settings. */
 static const StandSettings STAND_DEFAULT_SETTINGS = {128, true, 1, 0.03125, true};
 
-/* What stand_cut answers. */
+/* What stand_cut and stand_cut_with_colour answer. */
 typedef struct {
     uint32_t refusal;      /* STAND_ACCEPTED or the number of the refusal */
     bool keyed;            /* whether a ground was sought and found */
@@ -285,6 +316,34 @@ StandCut stand_cut(
     const double *colours, size_t colours_len,
     const uint8_t *alpha, size_t alpha_len,
     size_t h, size_t w,
+    StandSettings settings,
+    uint32_t *nearest, size_t nearest_len,
+    uint8_t *shallow, size_t shallow_len,
+    uint8_t *deep, size_t deep_len,
+    uint8_t *marks, size_t marks_len,
+    uint8_t *mask, size_t mask_len,
+    double *weights, size_t weights_len);
+
+/* Cut on card of a known colour (R83): as stand_cut, but the ground is the one that
+ * stand_ground_with_colour finds, and it grows with the colour that the text gives as
+ * its reference.
+ *
+ * Refusals 1, 2, 3, 11, 4, 5 and 6 are tested in this order, whatever the settings: a
+ * wrong text is refused where no ground is sought, too.
+ *
+ *   colours               input, 3 * h * w
+ *   alpha                 input, h * w bytes
+ *   text                  input, the six digits of the card's colour
+ *   nearest               work buffer
+ *   shallow, deep, marks  work buffers
+ *   mask                  output, h * w bytes, each 0 or 1
+ *   weights               output, h * w
+ */
+StandCut stand_cut_with_colour(
+    const double *colours, size_t colours_len,
+    const uint8_t *alpha, size_t alpha_len,
+    size_t h, size_t w,
+    const uint8_t *text, size_t text_len,
     StandSettings settings,
     uint32_t *nearest, size_t nearest_len,
     uint8_t *shallow, size_t shallow_len,

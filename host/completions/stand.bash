@@ -5,6 +5,7 @@ _stand() {
     --alpha-threshold
     --no-key
     --tolerance
+    --card-colour
     --fringe
     --no-crop
     --out
@@ -23,6 +24,7 @@ _stand() {
     case $3 in
     --alpha-threshold) compopt +o default ;;
     --tolerance) compopt +o default ;;
+    --card-colour) compopt +o default ;;
     --fringe) compopt +o default ;;
     --out) compopt +o default -o dirnames ;;
     --name) compopt +o default ;;

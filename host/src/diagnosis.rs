@@ -13,7 +13,8 @@
 //! ```
 //!
 //! The lines `edge` and `least_tolerance` are there where card was sought, `advice` where there is
-//! any. A diagnosis is to be read at the stand and is not filed.
+//! any. Where the card's colour was given, card is what is close to that colour. A diagnosis is to be
+//! read at the stand and is not filed.
 
 mod advice;
 mod levels;
@@ -21,7 +22,7 @@ mod parts;
 mod profile;
 
 use crate::netpbm::Image;
-use crate::{Crop, Cut, Refusal, Settings};
+use crate::{CardColour, Chosen, Crop, Cut, Refusal};
 use levels::Levels;
 use parts::Parts;
 use profile::Profile;
@@ -98,17 +99,20 @@ pub struct Diagnosis {
 }
 
 impl Diagnosis {
-    /// Looks at the cut of a picture by these settings. The three belong together; where their
-    /// lengths do not fit, that is refused.
-    pub fn of(image: &Image, settings: &Settings, cut: &Cut) -> Result<Diagnosis, Refusal> {
+    /// Looks at the cut of a picture by what was chosen. The three belong together; where their
+    /// lengths do not fit, or the given colour is none, that is refused.
+    pub fn of(image: &Image, chosen: &Chosen, cut: &Cut) -> Result<Diagnosis, Refusal> {
         let &Image { h, w, .. } = image;
         let parts = Parts::of(&cut.mask, h, w)?;
         if image.rgb.len() != 3 * h * w {
             return Err(Refusal::InputLength);
         }
+        let bytes = |colour: &CardColour| colour.bytes().ok_or(Refusal::CardColour);
+        let given = chosen.card_colour.as_ref().map(bytes).transpose()?;
         let full = parts.pixels == h * w;
+        let settings = &chosen.settings;
         let sought = settings.key_bg && (full || cut.keyed);
-        let seen = sought.then(|| Seen::new(image, settings));
+        let seen = sought.then(|| Seen::new(image, settings.key_bg_tolerance, given));
         let state = match &seen {
             _ if cut.keyed => State::Found,
             _ if !full => State::Alpha,
@@ -147,27 +151,35 @@ impl Diagnosis {
 }
 
 /// A picture in which card was sought.
-struct Seen {
-    h: usize,
-    w: usize,
+struct Seen<'a> {
+    image: &'a Image,
+    tolerance: f64,
+    /// The card's colour, where it was given.
+    given: Option<[u8; 3]>,
     levels: Levels,
     profile: Profile,
     /// The level of the tolerance that was given; `None` where nothing is close.
     now: Option<usize>,
 }
 
-impl Seen {
-    fn new(image: &Image, settings: &Settings) -> Seen {
-        let levels = Levels::of(image);
+impl<'a> Seen<'a> {
+    fn new(image: &'a Image, tolerance: f64, given: Option<[u8; 3]>) -> Seen<'a> {
+        let levels = Levels::of(image, given);
         let profile = Profile::of(&levels, profile::RISE);
-        let now = profile.level(settings.key_bg_tolerance);
+        let now = profile.level(tolerance);
         Seen {
-            h: image.h,
-            w: image.w,
+            image,
+            tolerance,
+            given,
             levels,
             profile,
             now,
         }
+    }
+
+    /// The same picture with another colour of the card, or with none given.
+    fn with(&self, given: Option<[u8; 3]>) -> Seen<'a> {
+        Seen::new(self.image, self.tolerance, given)
     }
 
     fn close(&self) -> usize {
@@ -177,6 +189,12 @@ impl Seen {
     /// Whether enough of the border is close.
     fn covered(&self) -> bool {
         10 * self.close() >= 9 * self.profile.entries
+    }
+
+    /// Whether card is found: enough of the border is close, and something is left.
+    fn found(&self) -> bool {
+        let left = self.now.map_or(0, |level| self.profile.all[level].left);
+        self.covered() && left > 0
     }
 
     fn edge(&self) -> Edge {

@@ -5,7 +5,7 @@ use crate::decoding::{Decoded, Given};
 use crate::diagnosis::Diagnosis;
 use crate::netpbm::{self, Image};
 use crate::record::Record;
-use crate::{cutout, png, preview, sha256, Cut, Refusal, Settings};
+use crate::{cutout, png, preview, sha256, Chosen, Cut, Refusal};
 
 /// The picture that was cut, where it was decoded and is opaque: a raw PPM.
 pub const PICTURE_PPM: &str = "picture.ppm";
@@ -57,7 +57,7 @@ pub struct Filed {
 }
 
 /// What is filed of the cut of a picture.
-pub fn filed(given: &Given, settings: &Settings, cut: &Cut) -> Filed {
+pub fn filed(given: &Given, chosen: &Chosen, cut: &Cut) -> Filed {
     let &Image { h, w, .. } = &given.image;
     let bytes: Vec<u8> = cut.weights.iter().map(|&x| weight_byte(x)).collect();
     let mask = netpbm::pbm(&cut.mask, w);
@@ -66,7 +66,7 @@ pub fn filed(given: &Given, settings: &Settings, cut: &Cut) -> Filed {
     let record = Record {
         h,
         w,
-        settings: *settings,
+        chosen: chosen.clone(),
         keyed: cut.keyed,
         crop: cut.crop.clone(),
         picture: given.sum.clone(),
@@ -105,10 +105,10 @@ pub struct Results {
 }
 
 /// Cuts a picture. With `small` the weights are written in a byte a pixel alone.
-pub fn results(given: Given, settings: &Settings, small: bool) -> Result<Results, Refusal> {
-    let cut = given.image.cut(settings)?;
-    let diagnosis = Diagnosis::of(&given.image, settings, &cut)?;
-    let filed = filed(&given, settings, &cut);
+pub fn results(given: Given, chosen: &Chosen, small: bool) -> Result<Results, Refusal> {
+    let cut = given.image.cut_by(chosen)?;
+    let diagnosis = Diagnosis::of(&given.image, chosen, &cut)?;
+    let filed = filed(&given, chosen, &cut);
     let mut files = Vec::new();
     let Given { image, decoded, .. } = given;
     if let Some(Decoded { end, file, .. }) = decoded {

@@ -2,7 +2,8 @@
 //! `libstand.a`.
 //!
 //! [`cut`] makes the outline that is filed: from a picture and five settings the mask, the weights,
-//! the keyed flag and the crop box. [`ground`] and [`growth`] are its two steps. Beside them stand
+//! the keyed flag and the crop box. [`ground`] and [`growth`] are its two steps. Where the card's
+//! colour is known, [`cut_with_colour`] and [`ground_with_colour`] are given it. Beside them stand
 //! [`nearest`], [`labels`], [`squares`], [`square_distance`] and [`fill_transparent`].
 //!
 //! A plane has `h` rows and `w` columns, each from 1 to [`MOST_SIDE`], and lies row after row in
@@ -46,6 +47,7 @@
 use std::fmt;
 use std::ops::Range;
 
+mod chosen;
 mod converter;
 pub mod cutout;
 pub mod decoding;
@@ -65,11 +67,13 @@ pub mod raw;
 pub mod record;
 pub mod sha256;
 
+pub use chosen::{CardColour, Chosen};
+
 /// The longest side of a plane, in pixels.
 pub const MOST_SIDE: usize = 4096;
 
-/// Why a call was refused. Where several things are wrong, the one with the lowest number is
-/// answered.
+/// Why a call was refused. Where several things are wrong, the first of them is answered, in the
+/// order 1, 2, 3, 11, 4, 5, 6.
 #[derive(Clone, Copy, Debug, PartialEq, Eq, Hash)]
 #[non_exhaustive]
 pub enum Refusal {
@@ -86,6 +90,8 @@ pub enum Refusal {
     Tolerance,
     /// Number 6: no alpha reaches the threshold, so that the mask would be empty.
     Alpha,
+    /// Number 11: the text of the card's colour is not six hexadecimal digits.
+    CardColour,
     /// A number that this crate does not know: it and the library are not of one version.
     Unknown(u32),
 }
@@ -107,6 +113,7 @@ impl Refusal {
             4 => Err(Refusal::Colour),
             5 => Err(Refusal::Tolerance),
             6 => Err(Refusal::Alpha),
+            11 => Err(Refusal::CardColour),
             other => Err(Refusal::Unknown(other)),
         }
     }
@@ -124,6 +131,7 @@ impl Refusal {
             Refusal::Colour => 4,
             Refusal::Tolerance => 5,
             Refusal::Alpha => 6,
+            Refusal::CardColour => 11,
             Refusal::Unknown(other) => other,
         }
     }
@@ -157,6 +165,10 @@ impl fmt::Display for Refusal {
             Refusal::Alpha => f.write_str(
                 "no pixel's alpha reaches the threshold; lower the threshold, or give a picture \
                  that is not wholly transparent",
+            ),
+            Refusal::CardColour => f.write_str(
+                "the card's colour is not six hexadecimal digits; give it as in F4F1E8, without # \
+                 and without spaces",
             ),
             Refusal::Unknown(_) => f.write_str(
                 "the number is not known here; build this crate and libstand.a from one version",
@@ -334,8 +346,24 @@ pub struct Ground {
     /// 1 on the ground, 0 elsewhere.
     pub plane: Vec<u8>,
     /// The colour of the border: of each channel half the sum of its two middle values, a zero as
-    /// +0.
+    /// +0. Where the card's colour is given, that colour.
     pub reference: Rgb,
+}
+
+/// Makes the buffers of a call that seeks the ground, and gives what it found.
+fn ground_by(
+    h: usize,
+    w: usize,
+    call: impl FnOnce(&mut [u32], &mut [u8]) -> raw::StandGround,
+) -> Result<Option<Ground>, Refusal> {
+    let mut work = zeros(work_len(h, w));
+    let mut plane = zeros(plane_len(h, w));
+    let answer = call(&mut work, &mut plane);
+    Refusal::check(answer.refusal)?;
+    Ok(answer.found.then_some(Ground {
+        plane,
+        reference: answer.reference,
+    }))
 }
 
 /// The ground of a picture, or `None` where it has none.
@@ -364,14 +392,43 @@ pub fn ground(
     w: usize,
     tolerance: f64,
 ) -> Result<Option<Ground>, Refusal> {
-    let mut work = zeros(work_len(h, w));
-    let mut plane = zeros(plane_len(h, w));
-    let answer = raw::ground(colours, h, w, tolerance, &mut work, &mut plane);
-    Refusal::check(answer.refusal)?;
-    Ok(answer.found.then_some(Ground {
-        plane,
-        reference: answer.reference,
-    }))
+    ground_by(h, w, |work, out| {
+        raw::ground(colours, h, w, tolerance, work, out)
+    })
+}
+
+/// The ground of a picture on card of a known colour, or `None` where it has none.
+///
+/// `text` is the colour in six hexadecimal digits, of either case, without # and without spaces. Its
+/// three bytes divided by 255 are the reference, in place of the border's median; all else is as in
+/// [`ground`]. Nine tenths of the border list must be close to the given colour, and where they are
+/// not, the border's own is not tried.
+///
+/// ```
+/// use stand::Refusal;
+///
+/// let mut colours = [1.0; 27]; // 3 rows, 3 columns, white
+/// colours[12..15].fill(0.0); // (1, 1) black
+/// let ground = stand::ground_with_colour(&colours, 3, 3, "FFFFFF", 0.0)?.expect("a ground");
+/// assert_eq!(ground.plane, [1, 1, 1, 1, 0, 1, 1, 1, 1]);
+/// assert_eq!(ground.reference, stand::Rgb { r: 1.0, g: 1.0, b: 1.0 });
+///
+/// // The border is white and not black.
+/// assert_eq!(stand::ground_with_colour(&colours, 3, 3, "000000", 0.0)?, None);
+/// let refused = stand::ground_with_colour(&colours, 3, 3, "#FFFFFF", 0.0);
+/// assert_eq!(refused, Err(Refusal::CardColour));
+/// # Ok::<(), Refusal>(())
+/// ```
+pub fn ground_with_colour(
+    colours: &[f64],
+    h: usize,
+    w: usize,
+    text: impl AsRef<[u8]>,
+    tolerance: f64,
+) -> Result<Option<Ground>, Refusal> {
+    ground_by(h, w, |work, out| {
+        raw::ground_with_colour(colours, h, w, text.as_ref(), tolerance, work, out)
+    })
 }
 
 /// The work buffers of growth and cut.
@@ -508,7 +565,7 @@ pub struct Crop {
     pub cols: Range<usize>,
 }
 
-/// The outline of a picture: see [`cut`].
+/// The outline of a picture: see [`cut`] and [`cut_with_colour`].
 #[derive(Clone, Debug, PartialEq)]
 pub struct Cut {
     /// 1 on the object, 0 elsewhere; it is never empty.
@@ -520,6 +577,28 @@ pub struct Cut {
     /// The mask's box with one pixel added on each side, clamped to the picture; the whole picture
     /// where `crop_to_alpha` is off or the mask is full.
     pub crop: Crop,
+}
+
+/// Makes the buffers of a call that cuts, and gives the outline that it wrote.
+fn cut_by(
+    h: usize,
+    w: usize,
+    call: impl FnOnce(&mut raw::Work<'_>, &mut [u8], &mut [f64]) -> raw::StandCut,
+) -> Result<Cut, Refusal> {
+    let mut buffers = Buffers::new(h, w);
+    let mut mask = zeros(plane_len(h, w));
+    let mut weights = zeros(plane_len(h, w));
+    let answer = call(&mut buffers.lend(), &mut mask, &mut weights);
+    Refusal::check(answer.refusal)?;
+    Ok(Cut {
+        mask,
+        weights,
+        keyed: answer.keyed,
+        crop: Crop {
+            rows: answer.y0..answer.y1,
+            cols: answer.x0..answer.x1,
+        },
+    })
 }
 
 /// The outline of a picture.
@@ -551,27 +630,50 @@ pub fn cut(picture: &Picture<'_>, settings: &Settings) -> Result<Cut, Refusal> {
         h,
         w,
     } = *picture;
-    let mut buffers = Buffers::new(h, w);
-    let mut mask = zeros(plane_len(h, w));
-    let mut weights = zeros(plane_len(h, w));
-    let answer = raw::cut(
+    cut_by(h, w, |work, mask, weights| {
+        raw::cut(colours, alpha, h, w, *settings, work, mask, weights)
+    })
+}
+
+/// The outline of a picture on card of a known colour.
+///
+/// `text` is the colour in six hexadecimal digits, of either case, without # and without spaces. The
+/// ground is the one that [`ground_with_colour`] finds, and the given colour is the reference that it
+/// grows with; all else is as in [`cut`]. A text that is no such colour is refused where no ground is
+/// sought, too.
+///
+/// ```
+/// use stand::{Picture, Refusal, Settings};
+///
+/// // A black pixel on white card.
+/// let mut colours = [1.0; 75];
+/// colours[36..39].fill(0.0);
+/// let picture = Picture { colours: &colours, alpha: &[255; 25], h: 5, w: 5 };
+/// let settings = Settings::default();
+/// let cut = stand::cut_with_colour(&picture, "FFFFFF", &settings)?;
+/// assert_eq!(cut, stand::cut(&picture, &settings)?);
+///
+/// // The card is not grey: none is found, and the whole picture is the object.
+/// let cut = stand::cut_with_colour(&picture, "808080", &settings)?;
+/// assert_eq!((cut.keyed, cut.mask), (false, vec![1; 25]));
+///
+/// let refused = stand::cut_with_colour(&picture, "white", &settings);
+/// assert_eq!(refused, Err(Refusal::CardColour));
+/// # Ok::<(), Refusal>(())
+/// ```
+pub fn cut_with_colour(
+    picture: &Picture<'_>,
+    text: impl AsRef<[u8]>,
+    settings: &Settings,
+) -> Result<Cut, Refusal> {
+    let Picture {
         colours,
         alpha,
         h,
         w,
-        *settings,
-        &mut buffers.lend(),
-        &mut mask,
-        &mut weights,
-    );
-    Refusal::check(answer.refusal)?;
-    Ok(Cut {
-        mask,
-        weights,
-        keyed: answer.keyed,
-        crop: Crop {
-            rows: answer.y0..answer.y1,
-            cols: answer.x0..answer.x1,
-        },
+    } = *picture;
+    let text = text.as_ref();
+    cut_by(h, w, |work, mask, weights| {
+        raw::cut_with_colour(colours, alpha, h, w, text, *settings, work, mask, weights)
     })
 }

@@ -6,7 +6,7 @@
 //! order, with comments and blank lines between them, each once.
 
 use crate::sha256::Summed;
-use crate::{Cut, Picture, Refusal, Settings, MOST_SIDE};
+use crate::{Chosen, Cut, Picture, Refusal, Settings, MOST_SIDE};
 use std::fmt;
 use std::io::{self, BufRead, BufReader, Read};
 
@@ -31,13 +31,18 @@ impl Image {
 
     /// The outline of the picture.
     pub fn cut(&self, settings: &Settings) -> Result<Cut, Refusal> {
+        self.cut_by(&Chosen::from(*settings))
+    }
+
+    /// The outline of the picture by these settings and, where it is given, the card's colour.
+    pub fn cut_by(&self, chosen: &Chosen) -> Result<Cut, Refusal> {
         let picture = Picture {
             colours: &self.colours(),
             alpha: &self.alpha,
             h: self.h,
             w: self.w,
         };
-        crate::cut(&picture, settings)
+        chosen.cut(&picture)
     }
 }
 

@@ -21,7 +21,7 @@ pub struct StandLabels {
     pub parts: u32,
 }
 
-/// What [`ground`] answers.
+/// What [`ground`] and [`ground_with_colour`] answer.
 #[repr(C)]
 #[derive(Clone, Copy, Debug, PartialEq)]
 pub struct StandGround {
@@ -29,11 +29,11 @@ pub struct StandGround {
     pub refusal: u32,
     /// Whether the ground was found; false when refused.
     pub found: bool,
-    /// The border's colour, a zero as +0; all +0 when not found.
+    /// The border's colour, or the one that is given, a zero as +0; all +0 when not found.
     pub reference: Rgb,
 }
 
-/// What [`cut`] answers.
+/// What [`cut`] and [`cut_with_colour`] answer.
 #[repr(C)]
 #[derive(Clone, Copy, Debug, PartialEq, Eq)]
 pub struct StandCut {
@@ -59,8 +59,8 @@ const _: () = {
     assert!(size_of::<StandGround>() == 32);
 };
 
-/// The work buffers of [`growth`] and [`cut`], each of at least [`crate::work_len`] numbers: 14
-/// bytes a pixel in all.
+/// The work buffers of [`growth`], [`cut`] and [`cut_with_colour`], each of at least
+/// [`crate::work_len`] numbers: 14 bytes a pixel in all.
 #[derive(Debug)]
 pub struct Work<'a> {
     /// The border's values and the pixels that the flood has still to look at, then the indices of
@@ -148,6 +148,19 @@ pub mod exports {
             out: *mut u8,
             out_len: usize,
         ) -> StandGround;
+        pub fn stand_ground_with_colour(
+            colours: *const f64,
+            colours_len: usize,
+            h: usize,
+            w: usize,
+            text: *const u8,
+            text_len: usize,
+            tolerance: f64,
+            work: *mut u32,
+            work_len: usize,
+            out: *mut u8,
+            out_len: usize,
+        ) -> StandGround;
         pub fn stand_growth(
             colours: *const f64,
             colours_len: usize,
@@ -175,6 +188,29 @@ pub mod exports {
             alpha_len: usize,
             h: usize,
             w: usize,
+            settings: Settings,
+            nearest: *mut u32,
+            nearest_len: usize,
+            shallow: *mut u8,
+            shallow_len: usize,
+            deep: *mut u8,
+            deep_len: usize,
+            marks: *mut u8,
+            marks_len: usize,
+            mask: *mut u8,
+            mask_len: usize,
+            weights: *mut f64,
+            weights_len: usize,
+        ) -> StandCut;
+        pub fn stand_cut_with_colour(
+            colours: *const f64,
+            colours_len: usize,
+            alpha: *const u8,
+            alpha_len: usize,
+            h: usize,
+            w: usize,
+            text: *const u8,
+            text_len: usize,
             settings: Settings,
             nearest: *mut u32,
             nearest_len: usize,
@@ -333,6 +369,34 @@ pub fn ground(
     }
 }
 
+/// `stand_ground_with_colour`: `text` is the six digits of the card's colour, `work` a work buffer,
+/// `out` an output of h × w bytes.
+pub fn ground_with_colour(
+    colours: &[f64],
+    h: usize,
+    w: usize,
+    text: &[u8],
+    tolerance: f64,
+    work: &mut [u32],
+    out: &mut [u8],
+) -> StandGround {
+    unsafe {
+        stand_ground_with_colour(
+            colours.as_ptr(),
+            colours.len(),
+            h,
+            w,
+            text.as_ptr(),
+            text.len(),
+            tolerance,
+            work.as_mut_ptr(),
+            work.len(),
+            out.as_mut_ptr(),
+            out.len(),
+        )
+    }
+}
+
 /// `stand_growth`: `out` is an output of h × w bytes.
 #[allow(clippy::too_many_arguments)]
 pub fn growth(
@@ -389,6 +453,47 @@ pub fn cut(
             alpha.len(),
             h,
             w,
+            settings,
+            work.nearest.as_mut_ptr(),
+            work.nearest.len(),
+            work.shallow.as_mut_ptr(),
+            work.shallow.len(),
+            work.deep.as_mut_ptr(),
+            work.deep.len(),
+            work.marks.as_mut_ptr(),
+            work.marks.len(),
+            mask.as_mut_ptr(),
+            mask.len(),
+            weights.as_mut_ptr(),
+            weights.len(),
+        )
+    }
+}
+
+/// `stand_cut_with_colour`: `text` is the six digits of the card's colour, `mask` an output of h × w
+/// bytes, `weights` one of h × w numbers.
+#[allow(clippy::too_many_arguments)]
+pub fn cut_with_colour(
+    colours: &[f64],
+    alpha: &[u8],
+    h: usize,
+    w: usize,
+    text: &[u8],
+    settings: Settings,
+    work: &mut Work<'_>,
+    mask: &mut [u8],
+    weights: &mut [f64],
+) -> StandCut {
+    unsafe {
+        stand_cut_with_colour(
+            colours.as_ptr(),
+            colours.len(),
+            alpha.as_ptr(),
+            alpha.len(),
+            h,
+            w,
+            text.as_ptr(),
+            text.len(),
             settings,
             work.nearest.as_mut_ptr(),
             work.nearest.len(),

@@ -10,6 +10,7 @@
 //! key_bg_tolerance: 0.03125
 //! key_bg_tolerance_bits: 3fa0000000000000
 //! crop_to_alpha: yes
+//! card_colour: f4f1e8
 //! keyed: yes
 //! crop: 1 4 1 4
 //! picture_sha256: (64 digits)
@@ -21,16 +22,17 @@
 //!
 //! The lines stand in this order, each ends with a newline, and after the first each is a key, a
 //! colon, a space and a value. The tolerance is written as the shortest decimal number that gives
-//! the same f64 back, and again as the f64's 64 bits in hexadecimal. The crop box is its first row,
+//! the same f64 back, and again as the f64's 64 bits in hexadecimal. The card's colour is a line that
+//! is there only where it was given, in six digits with small letters. The crop box is its first row,
 //! the row after its last, its first column and the column after its last. The sums are of the bytes
 //! of files: the picture that was cut; the file that it was decoded from, or standard input, a line
 //! that is there only where it was; the mask; and the weights in their two forms.
 //!
-//! Form 1 has neither the line of the original nor the last line. Records of form 1 are read and
-//! written as they always were. A setting that comes later adds a line after `crop_to_alpha`, only
-//! where it is used.
+//! Form 1 has neither the lines of the card's colour and the original nor the last line. Records of
+//! form 1 are read and written as they always were. A setting that comes later adds a line after
+//! those of the settings, only where it is used.
 
-use crate::{Crop, Settings};
+use crate::{CardColour, Chosen, Crop, Settings};
 use std::fmt;
 use std::iter::Peekable;
 use std::str::Lines;
@@ -42,8 +44,9 @@ pub struct Record {
     pub h: usize,
     /// How many columns the picture has.
     pub w: usize,
-    /// The settings of the cut.
-    pub settings: Settings,
+    /// The settings of the cut, with the card's colour where it was given; it is not in a record of
+    /// form 1.
+    pub chosen: Chosen,
     /// Whether a ground was sought and found.
     pub keyed: bool,
     /// The crop box.
@@ -74,7 +77,7 @@ fn yes_or_no(yes: bool) -> &'static str {
 /// The text of the record.
 impl fmt::Display for Record {
     fn fmt(&self, f: &mut fmt::Formatter<'_>) -> fmt::Result {
-        let settings = &self.settings;
+        let settings = &self.chosen.settings;
         let tolerance = settings.key_bg_tolerance;
         let Crop { rows, cols } = &self.crop;
         let form = if self.weights_pgm.is_some() { 2 } else { 1 };
@@ -87,6 +90,9 @@ impl fmt::Display for Record {
         writeln!(f, "key_bg_tolerance: {tolerance}")?;
         writeln!(f, "key_bg_tolerance_bits: {:016x}", tolerance.to_bits())?;
         writeln!(f, "crop_to_alpha: {}", yes_or_no(settings.crop_to_alpha))?;
+        if let Some(colour) = &self.chosen.card_colour {
+            writeln!(f, "card_colour: {colour}")?;
+        }
         writeln!(f, "keyed: {}", yes_or_no(self.keyed))?;
         writeln!(
             f,
@@ -154,22 +160,38 @@ impl<'a> Values<'a> {
         })
     }
 
-    /// The sum of a line that is there only where it is needed.
-    fn sum_if_there(&mut self, key: &str) -> Result<Option<String>, String> {
+    /// Settings and, after form 1, the card's colour.
+    fn chosen(&mut self, form: u8) -> Result<Chosen, String> {
+        Ok(Chosen {
+            settings: self.settings()?,
+            card_colour: match form {
+                1 => None,
+                _ => self.digits_if_there("card_colour", 6)?.map(CardColour::new),
+            },
+        })
+    }
+
+    /// The digits of a line that is there only where it is needed.
+    fn digits_if_there(&mut self, key: &str, count: usize) -> Result<Option<&'a str>, String> {
         match self.0.peek() {
-            Some(line) if line.starts_with(key) => Ok(Some(self.sum(key)?)),
+            Some(line) if line.starts_with(key) => Ok(Some(self.digits(key, count)?)),
             _ => Ok(None),
         }
     }
 
-    fn sum(&mut self, key: &str) -> Result<String, String> {
+    /// So many hexadecimal digits, with small letters.
+    fn digits(&mut self, key: &str, count: usize) -> Result<&'a str, String> {
         let text = self.text(key)?;
         let hex = |c: char| c.is_ascii_digit() || ('a'..='f').contains(&c);
-        if text.len() == 64 && text.chars().all(hex) {
-            Ok(text.into())
+        if text.len() == count && text.chars().all(hex) {
+            Ok(text)
         } else {
             Err(format!("the record's {key} is \"{text}\""))
         }
+    }
+
+    fn sum(&mut self, key: &str) -> Result<String, String> {
+        self.digits(key, 64).map(String::from)
     }
 }
 
@@ -184,13 +206,15 @@ impl Record {
         let record = Record {
             h: values.number("rows")?,
             w: values.number("columns")?,
-            settings: values.settings()?,
+            chosen: values.chosen(form)?,
             keyed: values.yes("keyed")?,
             crop: values.crop("crop")?,
             picture: values.sum("picture_sha256")?,
             original: match form {
                 1 => None,
-                _ => values.sum_if_there("original_sha256")?,
+                _ => values
+                    .digits_if_there("original_sha256", 64)?
+                    .map(String::from),
             },
             mask: values.sum("mask_sha256")?,
             weights: values.sum("weights_sha256")?,
@@ -237,13 +261,13 @@ mod tests {
         Record {
             h: 5,
             w: 7,
-            settings: Settings {
+            chosen: Chosen::from(Settings {
                 alpha_threshold: -3,
                 key_bg: false,
                 key_bg_fringe: i64::MAX,
                 key_bg_tolerance: tolerance,
                 crop_to_alpha: true,
-            },
+            }),
             keyed: true,
             crop: Crop {
                 rows: 0..5,
@@ -257,8 +281,9 @@ mod tests {
         }
     }
 
-    /// The sample in its three shapes: form 1, form 2, and form 2 of a picture that was decoded.
-    fn samples(tolerance: f64) -> [Record; 3] {
+    /// The sample in its five shapes: form 1, form 2, form 2 of a picture that was decoded, and both
+    /// with the card's colour.
+    fn samples(tolerance: f64) -> [Record; 5] {
         let one = sample(tolerance);
         let two = Record {
             weights_pgm: Some("9".repeat(64)),
@@ -268,7 +293,14 @@ mod tests {
             original: Some("e".repeat(64)),
             ..two.clone()
         };
-        [one, two, decoded]
+        let with_colour = |record: &Record| {
+            let mut record = record.clone();
+            record.chosen.card_colour = Some(CardColour::new("C0FFEE"));
+            record
+        };
+        let coloured = [&two, &decoded].map(with_colour);
+        let [two_coloured, decoded_coloured] = coloured;
+        [one, two, decoded, two_coloured, decoded_coloured]
     }
 
     #[test]
@@ -279,11 +311,17 @@ mod tests {
                     key_bg_tolerance_bits: 3fa0000000000000\ncrop_to_alpha: yes\nkeyed: yes\n\
                     crop: 0 5 1 4\npicture_sha256: 0000";
         assert!(text.starts_with(want), "{text}");
-        let [_, two, decoded] = samples(0.03125).map(|record| record.to_string());
+        let all = samples(0.03125).map(|record| record.to_string());
+        let [_, two, decoded, two_coloured, decoded_coloured] = all;
         assert!(two.starts_with("stand record 2\nrows: 5\n"), "{two}");
         assert!(two.ends_with(&format!("\nweights_pgm_sha256: {}\n", "9".repeat(64))));
         let line = format!("original_sha256: {}\n", "e".repeat(64));
         assert_eq!(decoded.replace(&line, ""), two);
+        let line = "\ncrop_to_alpha: yes\ncard_colour: c0ffee\nkeyed: ";
+        for (with, without) in [(two_coloured, two), (decoded_coloured, decoded)] {
+            assert!(with.contains(line), "{with}");
+            assert_eq!(with.replace("card_colour: c0ffee\n", ""), without);
+        }
     }
 
     /// The tolerance comes back bit for bit.
@@ -306,7 +344,7 @@ mod tests {
         for tolerance in tolerances.into_iter().filter(|t| t.is_finite()) {
             for record in samples(tolerance) {
                 let back = Record::read(&record.to_string()).unwrap();
-                let bits = back.settings.key_bg_tolerance.to_bits();
+                let bits = back.chosen.settings.key_bg_tolerance.to_bits();
                 assert_eq!(bits, tolerance.to_bits());
                 assert_eq!(back, record);
             }
@@ -343,6 +381,29 @@ mod tests {
                 "\"margin: 4\" where its keyed",
             ),
             ("record 2", "record 1", "does not end"),
+        ] {
+            let why = Record::read(&text.replace(old, new)).unwrap_err();
+            assert!(why.contains(said), "{why}");
+        }
+        let text = samples(0.03125)[3].to_string();
+        for (old, new, said) in [
+            ("c0ffee", "C0FFEE", "the record's card_colour is \"C0FFEE\""),
+            ("c0ffee", "c0ffe", "card_colour is \"c0ffe\""),
+            ("c0ffee", "c0ffee0", "card_colour is \"c0ffee0\""),
+            ("c0ffee", "c0ff e", "card_colour is \"c0ff e\""),
+            ("c0ffee", "#c0ffe", "card_colour is \"#c0ffe\""),
+            ("c0ffee", "", "card_colour is \"\""),
+            (": c0ffee", "", "\"card_colour\" where its card_colour"),
+            (
+                "c0ffee\n",
+                "c0ffee\ncard_colour: c0ffee\n",
+                "where its keyed",
+            ),
+            (
+                "record 2",
+                "record 1",
+                "\"card_colour: c0ffee\" where its keyed",
+            ),
         ] {
             let why = Record::read(&text.replace(old, new)).unwrap_err();
             assert!(why.contains(said), "{why}");

@@ -2,7 +2,7 @@
 //! crates/replay/src/lib.rt describes.
 #![allow(dead_code)]
 
-use stand::Settings;
+use stand::{Picture, Settings};
 use std::fmt::Write;
 
 /// The most pixels and the most colours of a case.
@@ -12,10 +12,13 @@ pub const MOST_COLOURS: usize = 80;
 /// The characters of the palette start here.
 const FIRST: u8 = b'0';
 
-/// A case: G for ground, C for a cut, P for the cuts of two pictures.
+/// A case: G for ground, C for a cut, P for the cuts of two pictures. With the card's colour the letter
+/// is written small.
 #[derive(Clone)]
 pub struct Case {
     pub op: char,
+    /// The text of the card's colour, where one is given.
+    pub colour: Option<String>,
     pub h: usize,
     pub w: usize,
     /// Two pictures for P, else one.
@@ -34,19 +37,20 @@ pub struct Outline {
     pub crop: [usize; 4],
 }
 
-/// Who answers.
+/// Who answers: by the median of the border, or by the card's colour where its text is given.
 pub trait Answers {
-    fn ground(&self, colours: &[f64], h: usize, w: usize, tolerance: f64) -> Option<Vec<u8>>;
-    fn squares(&self, mask: &[u8], h: usize, w: usize, k: u64) -> Vec<u8>;
-    /// The outline, or the number by which the cut is refused.
-    fn cut(
+    /// The ground, if there is one, or the number by which the call is refused.
+    fn ground(
         &self,
+        given: Option<&str>,
         colours: &[f64],
-        alpha: &[u8],
         h: usize,
         w: usize,
-        s: &Settings,
-    ) -> Result<Outline, u32>;
+        tolerance: f64,
+    ) -> Result<Option<Vec<u8>>, u32>;
+    fn squares(&self, mask: &[u8], h: usize, w: usize, k: u64) -> Vec<u8>;
+    /// The outline, or the number by which the cut is refused.
+    fn cut(&self, given: Option<&str>, picture: &Picture, s: &Settings) -> Result<Outline, u32>;
 }
 
 /// The bits of a pixel's channels, and its alpha.
@@ -75,18 +79,20 @@ impl Case {
     fn head(&self, colours: usize) -> String {
         let s = &self.settings;
         let tolerance = s.key_bg_tolerance.to_bits();
-        let all = format!(
-            "{} {} {} {colours} {tolerance:016x}",
-            self.op, self.h, self.w
-        );
-        if self.op == 'G' {
-            return all;
+        let op = match self.colour {
+            Some(_) => self.op.to_ascii_lowercase(),
+            None => self.op,
+        };
+        let mut all = format!("{op} {} {} {colours} {tolerance:016x}", self.h, self.w);
+        if self.op != 'G' {
+            let (key, crop) = (s.key_bg as u8, s.crop_to_alpha as u8);
+            let (threshold, p) = (s.alpha_threshold, s.key_bg_fringe);
+            all += &format!(" {threshold} {key} {p} {crop}");
         }
-        let (key, crop) = (s.key_bg as u8, s.crop_to_alpha as u8);
-        format!(
-            "{all} {} {key} {} {crop}",
-            s.alpha_threshold, s.key_bg_fringe
-        )
+        if let Some(text) = &self.colour {
+            all += &format!(" {text}");
+        }
+        all
     }
 
     /// The case, or nothing where it has too many pixels or colours.
@@ -114,56 +120,73 @@ impl Case {
         Some(text)
     }
 
+    pub fn picture<'a>(&'a self, colours: &'a [f64]) -> Picture<'a> {
+        Picture {
+            colours,
+            alpha: &self.alpha,
+            h: self.h,
+            w: self.w,
+        }
+    }
+
+    fn ground(&self, colours: &[f64], by: &impl Answers) -> Result<Option<Vec<u8>>, u32> {
+        let tolerance = self.settings.key_bg_tolerance;
+        by.ground(self.colour.as_deref(), colours, self.h, self.w, tolerance)
+    }
+
     /// The answer, headed by the case's first line.
     pub fn answer(&self, by: &impl Answers) -> String {
-        let mut out = self.head(self.palette().len()) + "\n";
-        let (h, w, s) = (self.h, self.w, &self.settings);
-        let cut = |picture: &[f64]| by.cut(picture, &self.alpha, h, w, s);
-        match &self.pictures[..] {
-            [one] if self.op == 'G' => match by.ground(one, h, w, s.key_bg_tolerance) {
-                Some(ground) => out += &format!("found\n{}", digits(&ground, w)),
-                None => out += "absent\n",
+        let head = self.head(self.palette().len()) + "\n";
+        let given = self.colour.as_deref();
+        let cut = |colours: &[f64]| by.cut(given, &self.picture(colours), &self.settings);
+        head + &match &self.pictures[..] {
+            [one] if self.op == 'G' => match self.ground(one, by) {
+                Ok(Some(ground)) => format!("found\n{}", digits(&ground, self.w)),
+                Ok(None) => "absent\n".into(),
+                Err(number) => refused(number),
             },
-            [one] => out += &cut_text(&cut(one), w),
+            [one] => cut_text(&cut(one), self.w),
             [one, two] => {
-                let ground = by.ground(one, h, w, s.key_bg_tolerance).expect("a ground");
-                for more in [3, 4] {
-                    let k = u64::try_from(s.key_bg_fringe).unwrap_or(0) + more;
-                    let yes = agree(one, two, &by.squares(&ground, h, w, k), h, w);
-                    writeln!(out, "agree within p + {more}: {}", yes_or_no(yes)).unwrap();
-                }
                 let (a, b) = (cut(one), cut(two));
-                out += &(cut_text(&a, w) + &cut_text(&b, w));
+                let cuts = cut_text(&a, self.w) + &cut_text(&b, self.w);
                 let same = a.ok().map(|a| a.mask) == b.ok().map(|b| b.mask);
-                writeln!(out, "same mask: {}", yes_or_no(same)).unwrap();
+                self.agreement(one, two, by) + &cuts + &whether("same mask", same)
             }
             _ => panic!("one picture or two"),
         }
-        out
+    }
+
+    /// Whether two pictures agree on the border and near the first one's ground.
+    fn agreement(&self, one: &[f64], two: &[f64], by: &impl Answers) -> String {
+        let (h, w) = (self.h, self.w);
+        let Ok(Some(ground)) = self.ground(one, by) else {
+            return "absent\n".into();
+        };
+        let p = u64::try_from(self.settings.key_bg_fringe).unwrap_or(0);
+        [3, 4]
+            .map(|more| {
+                let yes = agree(one, two, &by.squares(&ground, h, w, p + more), h, w);
+                whether(&format!("agree within p + {more}"), yes)
+            })
+            .concat()
     }
 
     /// The next case of a text, if there is one.
     pub fn read<'a>(lines: &mut impl Iterator<Item = &'a str>) -> Option<Case> {
         let head: Vec<&str> = lines.next()?.split(' ').collect();
-        let number = |i: usize| head[i].parse::<i64>().expect("a number");
-        let (h, w, colours) = (number(1) as usize, number(2) as usize, number(3) as usize);
-        let mut settings = Settings {
-            key_bg_tolerance: float(head[4]),
-            ..Settings::default()
-        };
-        if head[0] != "G" {
-            settings.alpha_threshold = number(5);
-            settings.key_bg = number(6) == 1;
-            settings.key_bg_fringe = number(7);
-            settings.crop_to_alpha = number(8) == 1;
-        }
+        let [h, w, colours] = [1, 2, 3].map(|i| number(head[i]) as usize);
+        let letter = head[0].chars().next().expect("an operation");
+        let op = letter.to_ascii_uppercase();
+        let words = if op == 'G' { 5 } else { 9 };
+        let colour = (op != letter).then(|| head[words].to_string());
+        assert_eq!(head.len(), words + colour.is_some() as usize, "{head:?}");
         let palette: Vec<Vec<f64>> = (0..colours)
             .map(|_| next(lines).split(' ').map(float).collect())
             .collect();
         let levels = next(lines).split(' ');
         let levels: Vec<u8> = levels.map(|a| a.parse().expect("an alpha")).collect();
         let mut codes = Vec::new();
-        let pictures = (0..if head[0] == "P" { 2 } else { 1 })
+        let pictures = (0..if op == 'P' { 2 } else { 1 })
             .map(|_| {
                 let rows: String = (0..h).map(|_| next(lines)).collect();
                 assert_eq!(rows.len(), h * w);
@@ -172,14 +195,37 @@ impl Case {
             })
             .collect();
         Some(Case {
-            op: head[0].chars().next().expect("an operation"),
+            op,
+            colour,
             h,
             w,
             pictures,
             alpha: codes.iter().map(|&k| levels[k]).collect(),
-            settings,
+            settings: settings(&head[4..words]),
         })
     }
+}
+
+/// The settings by their words: the tolerance, and for a cut the others.
+fn settings(words: &[&str]) -> Settings {
+    let all = Settings {
+        key_bg_tolerance: float(words[0]),
+        ..Settings::default()
+    };
+    match words[1..] {
+        [threshold, key, p, crop] => Settings {
+            alpha_threshold: number(threshold),
+            key_bg: number(key) == 1,
+            key_bg_fringe: number(p),
+            crop_to_alpha: number(crop) == 1,
+            ..all
+        },
+        _ => all,
+    }
+}
+
+fn number(word: &str) -> i64 {
+    word.parse().expect("a number")
 }
 
 fn next<'a>(lines: &mut impl Iterator<Item = &'a str>) -> &'a str {
@@ -190,11 +236,12 @@ fn float(hex: &str) -> f64 {
     f64::from_bits(u64::from_str_radix(hex, 16).expect("16 hexadecimal digits"))
 }
 
-fn yes_or_no(yes: bool) -> &'static str {
-    match yes {
-        true => "yes",
-        false => "no",
-    }
+fn whether(what: &str, yes: bool) -> String {
+    format!("{what}: {}\n", if yes { "yes" } else { "no" })
+}
+
+fn refused(number: u32) -> String {
+    format!("refused {number}\n")
 }
 
 fn digits(mask: &[u8], w: usize) -> String {
@@ -205,7 +252,7 @@ fn digits(mask: &[u8], w: usize) -> String {
 fn cut_text(cut: &Result<Outline, u32>, w: usize) -> String {
     let outline = match cut {
         Ok(outline) => outline,
-        Err(number) => return format!("refused {number}\n"),
+        Err(number) => return refused(*number),
     };
     let [y0, y1, x0, x1] = outline.crop;
     let mut out = format!("keyed {} crop {y0} {y1} {x0} {x1}\n", outline.keyed as u8);

@@ -112,6 +112,21 @@ impl CutLent {
         (answer, out)
     }
 
+    /// The same with the card's colour; the answer, refused or not.
+    pub fn ground_with_colour(
+        &mut self,
+        colours: &[f64],
+        h: usize,
+        w: usize,
+        text: impl AsRef<[u8]>,
+        tolerance: f64,
+    ) -> (StandGround, &[u8]) {
+        let (text, out) = (text.as_ref(), &mut self.mask[..h * w]);
+        let work = &mut self.nearest;
+        let answer = raw::ground_with_colour(colours, h, w, text, tolerance, work, out);
+        (answer, out)
+    }
+
     pub fn growth(
         &mut self,
         colours: &[f64],
@@ -150,6 +165,30 @@ impl CutLent {
             marks: &mut self.marks,
         };
         let answer = raw::cut(colours, alpha, h, w, settings, &mut work, mask, weights);
+        (answer, mask, weights)
+    }
+
+    /// The same with the card's colour.
+    pub fn cut_with_colour(
+        &mut self,
+        colours: &[f64],
+        alpha: &[u8],
+        h: usize,
+        w: usize,
+        text: impl AsRef<[u8]>,
+        settings: Settings,
+    ) -> (StandCut, &[u8], &[f64]) {
+        let (mask, weights) = (&mut self.mask[..h * w], &mut self.weights[..h * w]);
+        let mut work = Work {
+            nearest: &mut self.nearest,
+            shallow: &mut self.shallow,
+            deep: &mut self.deep,
+            marks: &mut self.marks,
+        };
+        let text = text.as_ref();
+        let answer = raw::cut_with_colour(
+            colours, alpha, h, w, text, settings, &mut work, mask, weights,
+        );
         (answer, mask, weights)
     }
 }

@@ -181,8 +181,8 @@ pub fn completion(help: &str) -> String {
         let offer = match *value {
             "" => return None,
             "FOLDER" => "compopt +o default -o dirnames",
-            // A number or a new name, of which a shell knows nothing.
-            "N" | "T" | "NAME" => "compopt +o default",
+            // A number, a colour or a new name, of which a shell knows nothing.
+            "N" | "T" | "RRGGBB" | "NAME" => "compopt +o default",
             _ => ":",
         };
         Some(format!("    {option}) {offer} ;;"))

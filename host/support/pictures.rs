@@ -340,6 +340,86 @@ pub fn draw(random: &mut Random, h: usize, w: usize) -> Drawn {
     }
 }
 
+/// A byte for each channel, to the nearest.
+pub fn bytes_of(colour: Colour) -> [u8; 3] {
+    colour.map(|c| (c * 255.0).round() as u8)
+}
+
+/// The colours as a file of bytes has them.
+pub fn in_bytes(colours: &mut [f64]) {
+    for c in colours {
+        *c = (*c * 255.0).round() / 255.0;
+    }
+}
+
+/// Six hexadecimal digits, each in either case.
+pub fn text_of(random: &mut Random, bytes: [u8; 3]) -> String {
+    let [r, g, b] = bytes;
+    other_case(random, &format!("{r:02x}{g:02x}{b:02x}"))
+}
+
+/// The same digits, each in either case.
+pub fn other_case(random: &mut Random, text: &str) -> String {
+    text.chars()
+        .map(|c| match random.below(2) {
+            0 => c.to_ascii_uppercase(),
+            _ => c.to_ascii_lowercase(),
+        })
+        .collect()
+}
+
+/// A colour to give for a picture: its border's own, one beside that, a pixel's, or any.
+pub fn card_colour(random: &mut Random, colours: &[f64], h: usize, w: usize) -> [u8; 3] {
+    let Rgb { r, g, b } = reference(colours, h, w);
+    let own = bytes_of([r, g, b]);
+    match random.below(10) {
+        0..=4 => own,
+        5..=7 => own.map(|c| {
+            let up = c.saturating_add(random.below(4) as u8);
+            up.saturating_sub(random.below(4) as u8)
+        }),
+        8 => bytes_of(get(colours, random.below(h * w))),
+        _ => [0; 3].map(|_: u8| random.next() as u8),
+    }
+}
+
+/// A card of two shades, and the colour halfway between them: each is as far from it as the tolerance
+/// allows, and twice as far from the other.
+fn two_shades(random: &mut Random, drawn: &mut Drawn) -> [u8; 3] {
+    let step = 1 + random.below(8);
+    let middle = [0; 3].map(|_: u8| step + random.below(256 - 2 * step));
+    let (lighter, body) = (random.below(11), colour(random));
+    let cover = shape(random, drawn.h, drawn.w);
+    for i in 0..drawn.h * drawn.w {
+        let shade = match random.below(10) < lighter {
+            true => middle.map(|m| (m + step) as f64 / 255.0),
+            false => middle.map(|m| (m - step) as f64 / 255.0),
+        };
+        let part = cover((i / drawn.w) as f64, (i % drawn.w) as f64);
+        put(&mut drawn.colours, i, mix(shade, body, part));
+    }
+    drawn.settings.key_bg_tolerance = step as f64 / 255.0 + 1e-9;
+    middle.map(|m| m as u8)
+}
+
+/// A picture of these sides, and the card's colour as a text that is given with it. Most have the
+/// colours of a file of bytes.
+pub fn draw_given(random: &mut Random, h: usize, w: usize) -> (Drawn, String) {
+    let mut drawn = draw(random, h, w);
+    let bytes = match random.below(6) {
+        0 => two_shades(random, &mut drawn),
+        1 => card_colour(random, &drawn.colours, h, w),
+        _ => {
+            in_bytes(&mut drawn.colours);
+            let own = drawn.settings.key_bg_tolerance;
+            let of = [own, own, own, 0.0, 1.0 / 255.0, 0.00393, 2.0 / 255.0];
+            drawn.settings.key_bg_tolerance = pick(random, &of);
+            card_colour(random, &drawn.colours, h, w)
+        }
+    };
+    (drawn, text_of(random, bytes))
+}
+
 /// Sides to `most`: some lines, some squares.
 pub fn sides(random: &mut Random, most: usize) -> (usize, usize) {
     let (h, w) = (1 + random.below(most), 1 + random.below(most));
@@ -383,6 +463,21 @@ pub fn reference(colours: &[f64], h: usize, w: usize) -> Rgb {
     Rgb { r, g, b }
 }
 
+/// The colour that six hexadecimal digits give: three bytes, each divided by 255.
+pub fn colour_of(text: &str) -> Rgb {
+    let byte = |i: usize| u8::from_str_radix(&text[i..i + 2], 16).expect("two digits");
+    let [r, g, b] = [0, 2, 4].map(|i| byte(i) as f64 / 255.0);
+    Rgb { r, g, b }
+}
+
+/// The reference of a cut: the card's colour where it is given, else the median of the border.
+pub fn reference_by(given: Option<&str>, colours: &[f64], h: usize, w: usize) -> Rgb {
+    match given {
+        Some(text) => colour_of(text),
+        None => reference(colours, h, w),
+    }
+}
+
 /// Whether pixel i is close to the reference.
 pub fn is_close(colours: &[f64], i: usize, reference: Rgb, tolerance: f64) -> bool {
     let [r, g, b] = get(colours, i);
@@ -395,7 +490,11 @@ pub fn is_close(colours: &[f64], i: usize, reference: Rgb, tolerance: f64) -> bo
 
 /// The ground (R20), found or not: 1 on it.
 pub fn ground(colours: &[f64], h: usize, w: usize, tolerance: f64) -> Vec<u8> {
-    let reference = reference(colours, h, w);
+    ground_by(reference(colours, h, w), colours, h, w, tolerance)
+}
+
+/// The same by any reference.
+pub fn ground_by(reference: Rgb, colours: &[f64], h: usize, w: usize, tolerance: f64) -> Vec<u8> {
     let close: Vec<bool> = (0..h * w)
         .map(|i| is_close(colours, i, reference, tolerance))
         .collect();
@@ -416,7 +515,18 @@ pub fn ground(colours: &[f64], h: usize, w: usize, tolerance: f64) -> Vec<u8> {
 
 /// How many entries of the border list are close, and how many entries it has.
 pub fn close_entries(colours: &[f64], h: usize, w: usize, tolerance: f64) -> (usize, usize) {
-    let (reference, list) = (reference(colours, h, w), border(h, w));
+    close_entries_by(reference(colours, h, w), colours, h, w, tolerance)
+}
+
+/// The same by any reference.
+pub fn close_entries_by(
+    reference: Rgb,
+    colours: &[f64],
+    h: usize,
+    w: usize,
+    tolerance: f64,
+) -> (usize, usize) {
+    let list = border(h, w);
     let close = list
         .iter()
         .filter(|&&i| is_close(colours, i, reference, tolerance));
@@ -461,4 +571,64 @@ pub fn noise(random: &mut Random, h: usize, w: usize, per_mille: usize) -> Vec<f
         }
     }
     colours
+}
+
+/// The grey of ring d of a card for p passes: 1 − 1.25^(d − p − 4). Twice the difference of ring p from
+/// the border's grey is below that of ring p + 4, and not below its own.
+fn ring(p: usize, d: usize, _: usize) -> f64 {
+    1.0 - (d..p + 4).fold(1.0, |power, _| power / 1.25)
+}
+
+/// The same for a given r = 254 / 255: r − r (1.25^d − 1) / (1.25^(p + 4) − 1). Ring 0 has the two greys that
+/// are 1 / 255 from r, and every third pixel, by row plus column, the darker.
+fn ring_by_colour(p: usize, d: usize, at: usize) -> f64 {
+    let power = |n: usize| (0..n).fold(1.0, |power, _| power * 1.25);
+    let r = 254.0 / 255.0;
+    match d {
+        0 if at % 3 == 0 => 253.0 / 255.0,
+        0 => 1.0,
+        _ => r - r * ((power(d) - 1.0) / (power(p + 4) - 1.0)),
+    }
+}
+
+/// Square cards of grey rings, counted from 0 at the border, for p passes: the colour that is given with
+/// them, if one is, the grey by p, ring, and row plus column, and a tolerance by which the border is the
+/// ground.
+pub struct Rings {
+    pub given: Option<&'static str>,
+    grey: fn(usize, usize, usize) -> f64,
+    pub tolerance: f64,
+}
+
+pub const BY_MEDIAN: Rings = Rings {
+    given: None,
+    grey: ring,
+    tolerance: 0.0,
+};
+
+/// By the median, white, these have no ground: a third of the border is 2 / 255 from it.
+pub const BY_COLOUR: Rings = Rings {
+    given: Some("fefefe"),
+    grey: ring_by_colour,
+    tolerance: 0.00393,
+};
+
+impl Rings {
+    /// The card with this grey in its middle pixel.
+    pub fn card(&self, p: usize, side: usize, middle: f64) -> Vec<f64> {
+        let at = |i: usize| {
+            let (y, x) = (i / side, i % side);
+            match y.min(x).min(side - 1 - y).min(side - 1 - x) {
+                ring if ring == side / 2 => middle,
+                ring => (self.grey)(p, ring, y + x),
+            }
+        };
+        (0..side * side).flat_map(|i| [at(i); 3]).collect()
+    }
+
+    /// Greys of the middle pixel of a card of side 2 (p + 4) + 1: with the first, as the rings go on,
+    /// pixels join in pass p that do not with the second.
+    pub fn middles(&self, p: usize) -> (f64, f64) {
+        ((self.grey)(p, p + 4, 0), (self.grey)(p, p, 0))
+    }
 }

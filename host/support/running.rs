@@ -3,7 +3,7 @@
 
 use stand::netpbm::{self, Image};
 use stand::record::Record;
-use stand::{sha256, Settings};
+use stand::{sha256, Chosen, Settings};
 use std::ffi::OsStr;
 use std::fs;
 use std::io::Write;
@@ -97,8 +97,9 @@ pub fn run_on(folder: &Path, words: &[impl AsRef<OsStr>], bytes: &[u8]) -> Ran {
     Ran::new(child.wait_with_output().unwrap())
 }
 
-/// The settings as words.
-pub fn words(settings: &Settings) -> Vec<String> {
+/// What is chosen as words.
+pub fn words(chosen: &Chosen) -> Vec<String> {
+    let settings = &chosen.settings;
     let mut words = vec![
         format!("--alpha-threshold={}", settings.alpha_threshold),
         format!("--fringe={}", settings.key_bg_fringe),
@@ -109,6 +110,9 @@ pub fn words(settings: &Settings) -> Vec<String> {
     }
     if !settings.crop_to_alpha {
         words.push("--no-crop".into());
+    }
+    if let Some(colour) = &chosen.card_colour {
+        words.push(format!("--card-colour={colour}"));
     }
     words
 }
@@ -148,7 +152,18 @@ pub fn filed(
     settings: &Settings,
     picture: &[u8],
 ) -> Record {
-    let own = image.cut(settings).expect("an accepted picture");
+    filed_by(folder, name, image, &Chosen::from(*settings), picture)
+}
+
+/// The same of a cut for which the card's colour may be given.
+pub fn filed_by(
+    folder: &Path,
+    name: &str,
+    image: &Image,
+    chosen: &Chosen,
+    picture: &[u8],
+) -> Record {
+    let own = image.cut_by(chosen).expect("an accepted picture");
     let file = |end: &str| fs::read(folder.join(format!("{name}.{end}"))).expect(end);
     let (mask, weights) = (file("mask.pbm"), file("weights.f64"));
     same_mask(&mask, &own.mask, image.h, image.w);
@@ -171,7 +186,7 @@ pub fn filed(
     let want = Record {
         h: image.h,
         w: image.w,
-        settings: *settings,
+        chosen: chosen.clone(),
         keyed: own.keyed,
         crop: own.crop,
         picture: sha256::of(if is_kept { &kept.1 } else { picture }),
@@ -181,7 +196,7 @@ pub fn filed(
         weights_pgm: Some(sha256::of(&weights_pgm)),
     };
     assert_eq!(record, want);
-    let bits = |record: &Record| record.settings.key_bg_tolerance.to_bits();
+    let bits = |record: &Record| record.chosen.settings.key_bg_tolerance.to_bits();
     assert_eq!(bits(&record), bits(&want));
     record
 }

@@ -206,6 +206,37 @@ fn keep_going() {
     batch(&folder, &["--keep-going", "--force"]).ended(2, "give one");
 }
 
+/// The card's colour is a setting as others are: another one, one too many or none is said, and
+/// letters of the other case are the same.
+#[test]
+fn keep_going_with_a_colour() {
+    let folder = pictures("colour");
+    let going = |words: &[&str]| {
+        let some = ["--out", "cuts", "--keep-going", "square.pam"];
+        let ran = run(&folder, &[&some, words].concat());
+        assert_eq!(ran.status, 0, "{}", ran.said);
+        ran.out.contains("cut with OTHER SETTINGS")
+    };
+    assert!(!going(&["--card-colour", "FAFAFA"]));
+    let before = results(&folder.join("cuts"));
+    for (words, other) in [
+        (&["--card-colour", "fafafa"][..], false),
+        (&["--card-colour", "FaFafA"], false),
+        (&["--card-colour", "fafafb"], true),
+        (&["--card-colour", "fafaf"], true),
+        (&[], true),
+        (&["--card-colour", "fafafa", "--fringe=2"], true),
+    ] {
+        assert_eq!(going(words), other, "{words:?}");
+    }
+    assert!(before == results(&folder.join("cuts")));
+    // A record without the line has other settings too.
+    let clear = ["--out", "cuts", "--keep-going", "clear.pam"];
+    run(&folder, &clear).ended(0, "");
+    let ran = run(&folder, &[&clear[..], &["--card-colour=fafafa"]].concat());
+    assert!(ran.out.contains("cut with OTHER SETTINGS"), "{}", ran.out);
+}
+
 /// The rows of a table, each with its fields.
 fn rows(table: &str) -> Vec<Vec<String>> {
     let mut rows = vec![vec![String::new()]];
@@ -279,10 +310,11 @@ fn sheet() {
             "parts",
             "largest_part",
             "specks",
-            "remark"
+            "remark",
+            "card_colour"
         ]
     );
-    assert_eq!(row("square")[12..], ["1", "100.0 %", "0", ""]);
+    assert_eq!(row("square")[12..], ["1", "100.0 %", "0", "", ""]);
 
     // Later, from what lies in the folder alone: what was refused has left nothing.
     fs::remove_file(cuts.join("index.html")).unwrap();
@@ -292,6 +324,34 @@ fn sheet() {
     assert_eq!(page.matches("<article").count(), 6);
     assert!(page.contains("<p class=\"state\">unreadable</p>"));
     run(&folder, &["--sheet", "missing"]).ended(2, "missing could not be read");
+}
+
+/// The table has the card's colour where it was given; a text that is none is refused, and said.
+#[test]
+fn sheet_with_a_colour() {
+    let folder = pictures("coloured");
+    let rows_after = |words: &[&str]| {
+        batch(&folder, words);
+        rows(&fs::read_to_string(folder.join("cuts/summary.csv")).unwrap())
+    };
+    let cell = |rows: &[Vec<String>], name: &str, column: &str| {
+        let at = rows[0].iter().position(|own| own == column).expect(column);
+        let row = rows.iter().find(|row| row[0] == name).expect(name);
+        row[at].clone()
+    };
+    let wrong = rows_after(&["--card-colour", "#FAFAFA"]);
+    assert_eq!(cell(&wrong, "square.pam", "refusal"), "11");
+    assert_eq!(cell(&wrong, "square.pam", "card_colour"), "");
+    let remark = cell(&wrong, "clear.pam", "remark");
+    assert!(remark.contains("give it as in F4F1E8"), "{remark}");
+    assert_eq!(names(&folder.join("cuts")), ["index.html", "summary.csv"]);
+    let right = rows_after(&["--card-colour", "FAFAFA"]);
+    assert!(right.iter().all(|row| row.len() == right[0].len()));
+    for name in ["square", "clear", "chequered"] {
+        assert_eq!(cell(&right, name, "card_colour"), "fafafa");
+    }
+    assert_eq!(cell(&right, "square", "state"), "found");
+    assert_eq!(cell(&right, "blank.pam", "refusal"), "6");
 }
 
 /// Pixels of the page as a browser shows it, where one is installed.

@@ -204,6 +204,7 @@ fn many() {
     run(&folder, &["--check", "--quiet", "c.record.txt", "c.pam"]).quiet();
     for words in [
         &["--tolerance", "0.1"][..],
+        &["--card-colour", "ffffff"],
         &["--out", "x"],
         &["--force"],
         &["--name", "x"],
@@ -215,32 +216,102 @@ fn many() {
     }
 }
 
-/// Records of form 1, as they were filed before there was another, are checked for ever.
+/// The folder of records that are kept as they were filed.
+fn kept(form: &str) -> PathBuf {
+    let records = Path::new(env!("CARGO_MANIFEST_DIR")).join("tests/records");
+    records.join(form)
+}
+
+/// Records as they were filed before later settings and forms came are checked for ever, and so are
+/// those with the card's colour. A picture that came from standard input lies beside its record.
 #[test]
-fn form_1() {
-    let kept = Path::new(env!("CARGO_MANIFEST_DIR")).join("tests/records/form-1");
-    for (name, picture) in [("disc", "ppm"), ("clear", "pam"), ("grey", "pgm")] {
+fn kept_records() {
+    for (form, first, name, picture, with, without) in [
+        ("form-1", 1, "disc", "disc.ppm", 8, 2),
+        ("form-1", 1, "clear", "clear.pam", 8, 2),
+        ("form-1", 1, "grey", "grey.pgm", 8, 2),
+        ("form-2", 2, "disc", "disc.ppm", 9, 3),
+        ("form-2", 2, "clear", "clear.pam", 8, 2),
+        ("form-2", 2, "grey", "grey.picture.ppm", 9, 9),
+        ("form-2-colour", 2, "disc", "disc.ppm", 9, 3),
+        ("form-2-colour", 2, "clear", "clear.pam", 8, 2),
+        ("form-2-colour", 2, "off", "off.picture.ppm", 9, 9),
+    ] {
+        let kept = kept(form);
         let record = format!("{name}.record.txt");
         let text = fs::read_to_string(kept.join(&record)).unwrap();
-        assert!(text.starts_with("stand record 1\n"));
-        let words = ["--check", &record, &format!("{name}.{picture}")];
-        let ran = run(&kept, &words);
-        assert_eq!(
-            (answers(&ran), lines(&ran)),
-            ((0, vec![]), 8),
-            "{}",
-            ran.said
-        );
-        let ran = run(&kept, &words[..2]);
-        assert_eq!(
-            (answers(&ran), lines(&ran)),
-            ((0, vec![]), 2),
-            "{}",
-            ran.said
-        );
+        assert!(text.starts_with(&format!("stand record {first}\n")));
+        let coloured = text.contains("\ncard_colour: ");
+        assert_eq!(coloured, form == "form-2-colour");
+        let words = ["--check", &record, picture];
+        for (words, count) in [(&words[..], with), (&words[..2], without)] {
+            let ran = run(&kept, words);
+            let own = (answers(&ran), lines(&ran));
+            assert_eq!(own, ((0, vec![]), count), "{form}/{name}: {}", ran.said);
+        }
     }
-    // Form 1 has no sum of the weights in a byte a pixel, so the others must be there.
-    let folder = folder("form-1");
+}
+
+/// The recorded colour is what the picture is cut with: another one, or none, gives another outline.
+#[test]
+fn with_colour() {
+    let (kept, folder) = (kept("form-2-colour"), folder("colour"));
+    for name in names(&kept) {
+        fs::copy(kept.join(&name), folder.join(&name)).unwrap();
+    }
+    for (name, old, new, what) in [
+        (
+            "disc",
+            "card_colour: b0a8a0",
+            "card_colour: eeeae2",
+            &["mask", "weights", "crop box"][..],
+        ),
+        (
+            "disc",
+            "card_colour: b0a8a0\n",
+            "",
+            &["mask", "weights", "crop box"],
+        ),
+        (
+            "off",
+            "card_colour: f3efe7\n",
+            "",
+            &["mask", "weights", "keyed flag", "crop box"],
+        ),
+        ("clear", "card_colour: 000000\n", "", &[]),
+    ] {
+        let record = format!("{name}.record.txt");
+        let text = fs::read_to_string(kept.join(&record)).unwrap();
+        assert!(text.contains(old), "{text}");
+        fs::write(folder.join(&record), text.replace(old, new)).unwrap();
+        let picture = match name {
+            "clear" => "clear.pam",
+            _ => "disc.ppm",
+        };
+        let ran = run(&folder, &["--check", &record, picture]);
+        let want: Vec<String> = what.iter().map(|what| again(what)).collect();
+        let status = i32::from(!want.is_empty());
+        assert_eq!(answers(&ran), (status, want), "{name}: {}", ran.said);
+    }
+    let text = fs::read_to_string(kept.join("disc.record.txt")).unwrap();
+    for (old, new, said) in [
+        ("b0a8a0", "B0A8A0", "the record's card_colour is \"B0A8A0\""),
+        ("b0a8a0", "b0a8a", "the record's card_colour is \"b0a8a\""),
+        (
+            "record 2",
+            "record 1",
+            "\"card_colour: b0a8a0\" where its keyed belongs",
+        ),
+    ] {
+        fs::write(folder.join("disc.record.txt"), text.replace(old, new)).unwrap();
+        run(&folder, &["--check", "disc.record.txt"]).ended(2, said);
+    }
+}
+
+/// Form 1 has no sum of the weights in a byte a pixel, so the others must be there.
+#[test]
+fn form_1() {
+    let (kept, folder) = (kept("form-1"), folder("form-1"));
     for end in ["record.txt", "mask.pbm"] {
         let name = format!("disc.{end}");
         fs::copy(kept.join(&name), folder.join(&name)).unwrap();

@@ -1,5 +1,5 @@
 //! The rules on ground, growth and cut (R15 to R36), computed pixel by pixel without any algorithm, and
-//! its cases. These need no mask.rs.
+//! its cases; ground and cut also by a colour that is given. These need no mask.rs.
 
 #[path = "../support/masks.rs"]
 mod masks;
@@ -73,13 +73,28 @@ fn growth(colours: &[f64], back: &[u8], w: usize, r: Rgb, p: i64) -> Vec<u8> {
 }
 
 /// The ground where it is found.
-fn found(colours: &[f64], h: usize, w: usize, tolerance: f64) -> Option<Vec<u8>> {
-    let (close, all) = pictures::close_entries(colours, h, w, tolerance);
-    let ground = pictures::ground(colours, h, w, tolerance);
+fn found(reference: Rgb, colours: &[f64], h: usize, w: usize, tolerance: f64) -> Option<Vec<u8>> {
+    let (close, all) = pictures::close_entries_by(reference, colours, h, w, tolerance);
+    let ground = pictures::ground_by(reference, colours, h, w, tolerance);
     (10 * close >= 9 * all && ground.contains(&0)).then_some(ground)
 }
 
-fn cut(drawn: &Drawn) -> Result<Cut, Refusal> {
+/// The least box that holds the mask, one row or column larger on each side, within the picture.
+fn crop(mask: &[u8], h: usize, w: usize) -> Crop {
+    let on = || (0..h * w).filter(|&i| mask[i] == 1);
+    let rows = (on().map(|i| i / w).min(), on().map(|i| i / w).max());
+    let cols = (on().map(|i| i % w).min(), on().map(|i| i % w).max());
+    let clamped = |(least, most): (Option<usize>, Option<usize>), side: usize| {
+        least.unwrap().saturating_sub(1)..(most.unwrap() + 2).min(side)
+    };
+    Crop {
+        rows: clamped(rows, h),
+        cols: clamped(cols, w),
+    }
+}
+
+/// The cut by the median of the border, or by the card's colour where that is given.
+fn cut(drawn: &Drawn, given: Option<&str>) -> Result<Cut, Refusal> {
     let Drawn {
         colours,
         alpha,
@@ -97,8 +112,8 @@ fn cut(drawn: &Drawn) -> Result<Cut, Refusal> {
     }
     let mut keyed = false;
     if settings.key_bg && !mask.contains(&0) {
-        if let Some(ground) = found(colours, h, w, settings.key_bg_tolerance) {
-            let reference = pictures::reference(colours, h, w);
+        let reference = pictures::reference_by(given, colours, h, w);
+        if let Some(ground) = found(reference, colours, h, w, settings.key_bg_tolerance) {
             let grown = growth(colours, &ground, w, reference, settings.key_bg_fringe);
             mask = grown.iter().map(|&g| 1 - g).collect();
             keyed = true;
@@ -109,22 +124,13 @@ fn cut(drawn: &Drawn) -> Result<Cut, Refusal> {
         _ => alpha[i].max(1) as f64 / 255.0,
     };
     let weights = (0..h * w).map(weight).collect();
-    let mut crop = Crop {
-        rows: 0..h,
-        cols: 0..w,
+    let crop = match settings.crop_to_alpha && mask.contains(&0) {
+        true => crop(&mask, h, w),
+        false => Crop {
+            rows: 0..h,
+            cols: 0..w,
+        },
     };
-    if settings.crop_to_alpha && mask.contains(&0) {
-        let on = || (0..h * w).filter(|&i| mask[i] == 1);
-        let rows = (on().map(|i| i / w).min(), on().map(|i| i / w).max());
-        let cols = (on().map(|i| i % w).min(), on().map(|i| i % w).max());
-        let clamped = |(least, most): (Option<usize>, Option<usize>), side: usize| {
-            least.unwrap().saturating_sub(1)..(most.unwrap() + 2).min(side)
-        };
-        crop = Crop {
-            rows: clamped(rows, h),
-            cols: clamped(cols, w),
-        };
-    }
     Ok(Cut {
         mask,
         weights,
@@ -133,30 +139,77 @@ fn cut(drawn: &Drawn) -> Result<Cut, Refusal> {
     })
 }
 
+/// How many pictures were keyed, and how many of these had pixels joined.
+#[derive(Default)]
+struct Seen {
+    keyed: u32,
+    grown: u32,
+}
+
+/// Ground and cut of a picture against the rules; whether a ground was found.
+fn hold(drawn: &Drawn, given: Option<&str>, seen: &mut Seen) -> bool {
+    let (colours, h, w, s) = (&drawn.colours, drawn.h, drawn.w, &drawn.settings);
+    let tolerance = s.key_bg_tolerance;
+    let (ours, ground) = match given {
+        None => (
+            stand::cut(&drawn.picture(), s),
+            stand::ground(colours, h, w, tolerance),
+        ),
+        Some(text) => (
+            stand::cut_with_colour(&drawn.picture(), text, s),
+            stand::ground_with_colour(colours, h, w, text, tolerance),
+        ),
+    };
+    let shown = || format!("colour {given:?}, {}", drawn.show());
+    assert_eq!(ours, cut(drawn, given), "{}", shown());
+    let reference = pictures::reference_by(given, colours, h, w);
+    let expected = found(reference, colours, h, w, tolerance);
+    let ground = ground
+        .unwrap()
+        .map(|ground| (ground.plane, ground.reference));
+    let both = expected.clone().map(|plane| (plane, reference));
+    assert_eq!(ground, both, "{}", shown());
+    if let (Ok(cut), Some(ground)) = (ours, &expected) {
+        let joined = cut.mask.iter().zip(ground).any(|(m, g)| m + g == 0);
+        seen.keyed += cut.keyed as u32;
+        seen.grown += (joined && cut.keyed) as u32;
+    }
+    expected.is_some()
+}
+
 #[test]
 fn random_pictures() {
     let mut random = Random(71);
-    let (mut keyed, mut grown) = (0, 0);
+    let mut seen = Seen::default();
     for _ in 0..3_000 {
         let (h, w) = pictures::sides(&mut random, 20);
         let drawn = pictures::draw(&mut random, h, w);
-        let ours = stand::cut(&drawn.picture(), &drawn.settings);
-        assert_eq!(ours, cut(&drawn), "{}", drawn.show());
-        let tolerance = drawn.settings.key_bg_tolerance;
-        let ground = stand::ground(&drawn.colours, h, w, tolerance).unwrap();
-        let plane = ground.map(|ground| ground.plane);
-        let expected = found(&drawn.colours, h, w, tolerance);
-        assert_eq!(plane, expected, "{}", drawn.show());
-        if let (Ok(cut), Some(ground)) = (ours, expected) {
-            keyed += cut.keyed as u32;
-            grown += cut
-                .mask
-                .iter()
-                .zip(&ground)
-                .any(|(m, g)| m + g == 0 && cut.keyed) as u32;
-        }
+        hold(&drawn, None, &mut seen);
     }
+    let Seen { keyed, grown } = seen;
     assert!(keyed >= 500 && grown >= 100, "keyed {keyed}, grown {grown}");
+}
+
+/// With the card's colour given, and where the median finds a ground and the colour does not, or
+/// the other way round.
+#[test]
+fn random_pictures_with_a_colour() {
+    let mut random = Random(73);
+    let mut seen = Seen::default();
+    let (mut gained, mut lost) = (0, 0);
+    for _ in 0..4_500 {
+        let (h, w) = pictures::sides(&mut random, 20);
+        let (drawn, text) = pictures::draw_given(&mut random, h, w);
+        let by_colour = hold(&drawn, Some(&text), &mut seen);
+        let tolerance = drawn.settings.key_bg_tolerance;
+        let median = pictures::reference(&drawn.colours, h, w);
+        let by_median = found(median, &drawn.colours, h, w, tolerance).is_some();
+        gained += (by_colour && !by_median) as u32;
+        lost += (by_median && !by_colour) as u32;
+    }
+    let Seen { keyed, grown } = seen;
+    assert!(keyed >= 500 && grown >= 100, "keyed {keyed}, grown {grown}");
+    assert!(gained >= 100 && lost >= 100, "only {gained} and {lost}");
 }
 
 #[test]
@@ -176,8 +229,14 @@ fn random_growths() {
     }
 }
 
-/// A picture of greys, opaque, with tolerance 0.
-fn greys(h: usize, w: usize, greys: &[f64], p: i64) -> Cut {
+/// A picture of greys, opaque, with tolerance 0, by the median or by a colour that is given.
+fn greys_by(
+    given: Option<&str>,
+    h: usize,
+    w: usize,
+    greys: &[f64],
+    p: i64,
+) -> Result<Cut, Refusal> {
     let colours: Vec<f64> = greys.iter().flat_map(|&grey| [grey; 3]).collect();
     let picture = Picture {
         colours: &colours,
@@ -190,7 +249,14 @@ fn greys(h: usize, w: usize, greys: &[f64], p: i64) -> Cut {
         key_bg_tolerance: 0.0,
         ..Settings::default()
     };
-    stand::cut(&picture, &settings).unwrap()
+    match given {
+        Some(text) => stand::cut_with_colour(&picture, text, &settings),
+        None => stand::cut(&picture, &settings),
+    }
+}
+
+fn greys(h: usize, w: usize, greys: &[f64], p: i64) -> Cut {
+    greys_by(None, h, w, greys, p).unwrap()
 }
 
 /// The proved cases on ground, growth and cut (R77 to R79).
@@ -227,6 +293,36 @@ fn document_cases() {
     mask[12] = 1;
     assert!(cut.keyed && cut.mask == mask);
     assert_eq!((cut.crop.rows, cut.crop.cols), (1..4, 1..4));
+}
+
+/// A white card of 3 by 3 with a black pixel, by colours that are given and texts that are none.
+#[test]
+fn cases_of_a_colour() {
+    let mut card = [1.0; 9];
+    card[4] = 0.0;
+    let by = |text: &str| greys_by(Some(text), 3, 3, &card, 0);
+    for text in ["ffffff", "FFFFFF", "fFFffF"] {
+        let cut = by(text).unwrap();
+        assert!(cut.keyed && cut.mask == [0, 0, 0, 0, 1, 0, 0, 0, 0]);
+    }
+    // No fall-back on the median: nothing of the border is close to black.
+    for text in ["000000", "fefefe", "ffff00"] {
+        let cut = by(text).unwrap();
+        assert!(!cut.keyed && cut.mask == [1; 9]);
+        assert_eq!((cut.crop.rows, cut.crop.cols), (0..3, 0..3));
+    }
+    for text in [
+        "", "fffff", "fffffff", "#ffffff", "#fffff", "fffffg", " fffff", "ffffff\0",
+    ] {
+        let refused = by(text).map_err(|refusal| refusal.number());
+        assert_eq!(refused, Err(11), "{text:?}");
+    }
+    // Nine of ten entries of the border list are white, and then eight.
+    let mut card = [1.0; 12];
+    card[0] = 0.0;
+    assert!(greys_by(Some("ffffff"), 3, 4, &card, 0).unwrap().keyed);
+    card[1] = 0.0;
+    assert!(!greys_by(Some("ffffff"), 3, 4, &card, 0).unwrap().keyed);
 }
 
 /// Weights of every alpha, on the mask and off it.

@@ -1,7 +1,8 @@
 //! `examples/derive.py`, which shares no code with the library: it comes to the library's outlines, it
 //! compares the files beside a record, it reads every picture that the program reads, and where a
 //! file is not what it should be it ends with a sentence. The records are written here, in both
-//! forms. All is left out, with a message, where there is no python3.
+//! forms, with the card's colour and without. All is left out, with a message, where there is no
+//! python3.
 
 #[path = "../examples/pictures/draw.rs"]
 #[allow(dead_code)]
@@ -13,7 +14,7 @@ mod pictures;
 
 use masks::Random;
 use stand::netpbm::{self, Image};
-use stand::{sha256, Settings};
+use stand::{sha256, CardColour, Chosen, Settings};
 use std::ffi::OsStr;
 use std::fmt::Write as _;
 use std::fs;
@@ -163,26 +164,34 @@ enum Form {
     Decoded(&'static [u8]),
 }
 
-/// The settings as lines of a record.
-fn setting_lines(settings: &Settings) -> String {
+/// What was chosen as lines of a record; the card's colour has one where it was given.
+fn setting_lines(chosen: &Chosen) -> String {
     let yes = |yes| if yes { "yes" } else { "no" };
+    let settings = &chosen.settings;
     let tolerance = settings.key_bg_tolerance;
+    let colour = chosen.card_colour.as_ref();
     format!(
         "alpha_threshold: {}\nkey_bg: {}\nkey_bg_fringe: {}\nkey_bg_tolerance: {tolerance}\n\
-         key_bg_tolerance_bits: {:016x}\ncrop_to_alpha: {}\n",
+         key_bg_tolerance_bits: {:016x}\ncrop_to_alpha: {}\n{}",
         settings.alpha_threshold,
         yes(settings.key_bg),
         settings.key_bg_fringe,
         tolerance.to_bits(),
-        yes(settings.crop_to_alpha)
+        yes(settings.crop_to_alpha),
+        colour.map_or(String::new(), |colour| format!("card_colour: {colour}\n"))
     )
 }
 
 /// Cuts a picture, and files it under a name: NAME.pam, mask, weights and record. False where the
 /// picture is refused.
 fn file(folder: &Path, name: &str, picture: &[u8], settings: &Settings, form: Form) -> bool {
+    file_by(folder, name, picture, &Chosen::from(*settings), form)
+}
+
+/// The same with the card's colour where it is given, which a record of the first form has not.
+fn file_by(folder: &Path, name: &str, picture: &[u8], chosen: &Chosen, form: Form) -> bool {
     let (image, _) = netpbm::read(picture).expect("a picture");
-    let Ok(cut) = image.cut(settings) else {
+    let Ok(cut) = image.cut_by(chosen) else {
         return false;
     };
     let write = |end: &str, bytes: &[u8]| {
@@ -193,7 +202,7 @@ fn file(folder: &Path, name: &str, picture: &[u8], settings: &Settings, form: Fo
     let on = |(&mask, &alpha): (&u8, &u8)| mask * alpha.max(1);
     let seen: Vec<u8> = cut.mask.iter().zip(&image.alpha).map(on).collect();
     let first = if form == Form::One { 1 } else { 2 };
-    let (h, w, settings) = (image.h, image.w, setting_lines(settings));
+    let (h, w, settings) = (image.h, image.w, setting_lines(chosen));
     let mut text = format!("stand record {first}\nrows: {h}\ncolumns: {w}\n{settings}");
     let keyed = if cut.keyed { "yes" } else { "no" };
     let (rows, cols) = (cut.crop.rows, cut.crop.cols);
@@ -328,6 +337,50 @@ fn outlines() {
         }
     }
     assert!(calls.len() > 300, "{} pictures", calls.len());
+    for (ran, call) in derive_each(&folder, &calls).iter().zip(&calls) {
+        ran.well(call);
+    }
+}
+
+/// A colour for the card of a picture: one of its own near the edge, or beside it, or any.
+fn some_colour(random: &mut Random, image: &Image) -> CardColour {
+    let any = |random: &mut Random| [0; 3].map(|_: u8| random.below(256) as u8);
+    let at = 3 * random.below(image.w);
+    let own = [0, 1, 2].map(|c| image.rgb[at + c]);
+    CardColour::from(match random.below(8) {
+        0 => any(random),
+        1 => own.map(|v| v.saturating_sub(random.below(12) as u8)),
+        2 => own.map(|v| v.saturating_add(random.below(12) as u8)),
+        _ => own,
+    })
+}
+
+/// The same with the card's colour: the script comes to the library's outlines, some of which are not
+/// those without the colour.
+#[test]
+fn outlines_with_colour() {
+    if without_python() {
+        return;
+    }
+    let folder = folder("coloured");
+    let mut random = Random(13);
+    let (mut calls, mut keyed, mut others) = (Vec::new(), 0, 0);
+    for (at, (image, settings)) in many().iter().enumerate() {
+        let (name, picture) = (at.to_string(), netpbm::pam(image));
+        let chosen = Chosen {
+            settings: *settings,
+            card_colour: Some(some_colour(&mut random, image)),
+        };
+        let form = [Form::Two, Form::Decoded(b"original")][at % 2];
+        if file_by(&folder, &name, &picture, &chosen, form) {
+            calls.push(call(&name));
+            let (with, without) = (image.cut_by(&chosen), image.cut(settings));
+            keyed += usize::from(with.as_ref().is_ok_and(|cut| cut.keyed));
+            others += usize::from(with != without);
+        }
+    }
+    assert!(calls.len() > 300, "{} pictures", calls.len());
+    assert!(keyed > 100 && others > 20, "{keyed} keyed, {others} others");
     for (ran, call) in derive_each(&folder, &calls).iter().zip(&calls) {
         ran.well(call);
     }
@@ -601,12 +654,16 @@ fn another_record() {
         ("rows", "1", "rows", h.to_string()),
         ("columns", "4096", "columns", w.to_string()),
         ("keyed", "no", "keyed", "yes".into()),
+        ("card_colour", "000000", "keyed", "no".into()),
     ] {
         ticket(&folder, key, Form::Two);
         let path = folder.join(format!("{key}.record.txt"));
         let good = fs::read_to_string(&path).unwrap();
-        let line = good.lines().find(|line| line.starts_with(key)).unwrap();
-        let text = good.replacen(line, &format!("{key}: {value}"), 1);
+        let text = match good.lines().find(|line| line.starts_with(key)) {
+            Some(line) => good.replacen(line, &format!("{key}: {value}"), 1),
+            // A line that is there only where it is used.
+            None => good.replacen("keyed", &format!("{key}: {value}\nkeyed"), 1),
+        };
         fs::write(&path, text).unwrap();
         calls.push(call(key));
         wanted.push(format!("{wrong}: NOT as filed; it comes to {comes}"));
@@ -661,6 +718,48 @@ fn no_records(good: &str) -> Vec<(Vec<u8>, &'static str)> {
     all.map(|(text, said)| (text.into_bytes(), said)).collect()
 }
 
+/// The same of the card's colour: its line in another form, in another place, or in form 1.
+fn no_colours(good: &str) -> Vec<(Vec<u8>, &'static str)> {
+    let line = |line: &str| good.replacen("keyed", &format!("{line}\nkeyed"), 1);
+    let texts = [
+        (
+            line("card_colour: F4F1E8"),
+            "F4F1E8\" where its card_colour",
+        ),
+        (line("card_colour: f4f1e"), "f4f1e\" where its card_colour"),
+        (
+            line("card_colour: f4f1e80"),
+            "f4f1e80\" where its card_colour",
+        ),
+        (
+            line("card_colour: #f4f1e8"),
+            "#f4f1e8\" where its card_colour",
+        ),
+        (
+            line("card_colour: "),
+            "\"card_colour: \" where its card_colour",
+        ),
+        (line("card_colour:f4f1e8"), "where its card_colour line"),
+        (
+            line("card_colour: f4f1e8 "),
+            "f4f1e8 \" where its card_colour",
+        ),
+        (
+            line("card_colour: f4f1e8\ncard_colour: f4f1e8"),
+            "f4f1e8\" where its keyed line",
+        ),
+        (
+            good.replacen("crop_to", "card_colour: f4f1e8\ncrop_to", 1),
+            "f4f1e8\" where its crop_to_alpha line",
+        ),
+        (
+            line("card_colour: f4f1e8").replacen("record 2", "record 1", 1),
+            "f4f1e8\" where its keyed line",
+        ),
+    ];
+    texts.map(|(text, said)| (text.into_bytes(), said)).into()
+}
+
 /// What is no record ends in a sentence.
 #[test]
 fn no_record() {
@@ -670,7 +769,7 @@ fn no_record() {
     let folder = folder("records");
     ticket(&folder, "a", Form::Two);
     let good = fs::read_to_string(folder.join("a.record.txt")).unwrap();
-    let records = no_records(&good);
+    let records = [no_records(&good), no_colours(&good)].concat();
     let mut calls = Vec::new();
     for (at, (record, _)) in records.iter().enumerate() {
         fs::write(folder.join(format!("{at}.record.txt")), record).unwrap();
@@ -693,13 +792,20 @@ fn altered_records() {
         &[255, 255, 255, 255, 0, 255, 255, 255, 255],
     ]
     .concat();
-    let settings = Settings::default();
     let mut random = Random(8);
     let mut calls = Vec::new();
-    for at in 0..300 {
+    for at in 0..450 {
         let name = at.to_string();
-        let form = [Form::One, Form::Decoded(b"o")][at % 2];
-        assert!(file(&folder, &name, &picture, &settings, form));
+        let form = [Form::One, Form::Decoded(b"o"), Form::Two][at % 3];
+        // With no tolerance every other colour leaves the card unfound.
+        let chosen = Chosen {
+            settings: Settings {
+                key_bg_tolerance: 0.0,
+                ..Settings::default()
+            },
+            card_colour: (form == Form::Two).then(|| CardColour::new("ffffff")),
+        };
+        assert!(file_by(&folder, &name, &picture, &chosen, form));
         let path = folder.join(format!("{name}.record.txt"));
         let mut bytes = fs::read(&path).unwrap();
         let good = bytes.clone();

@@ -10,7 +10,7 @@ use masks::Random;
 use photographs::{jpeg, objects, Photograph, Scene, SCENES};
 use stand::diagnosis::{read_back, Diagnosis, State};
 use stand::netpbm::Image;
-use stand::{Cut, Refusal, Settings};
+use stand::{CardColour, Chosen, Cut, Refusal, Settings};
 
 /// The sides of the photographs.
 const H: usize = 750;
@@ -23,10 +23,15 @@ fn with_tolerance(tolerance: f64) -> Settings {
     }
 }
 
-/// A cut with its diagnosis, whose text holds what it says.
+/// A cut with its diagnosis.
 fn diagnosed(image: &Image, settings: &Settings) -> (Cut, Diagnosis) {
-    let cut = image.cut(settings).expect("a cut");
-    let diagnosis = Diagnosis::of(image, settings, &cut).expect("a diagnosis");
+    diagnosed_by(image, &Chosen::from(*settings))
+}
+
+/// A cut with its diagnosis, whose text holds what it says.
+fn diagnosed_by(image: &Image, chosen: &Chosen) -> (Cut, Diagnosis) {
+    let cut = image.cut_by(chosen).expect("a cut");
+    let diagnosis = Diagnosis::of(image, chosen, &cut).expect("a diagnosis");
     let text = diagnosis.to_string();
     let advice = diagnosis.advice().map(str::to_string);
     assert!(text.starts_with("state: ") && text.is_ascii(), "{text}");
@@ -39,6 +44,14 @@ fn named(advice: Option<&str>) -> Option<f64> {
     let (_, after) = advice?.split_once("--tolerance ")?;
     let word = after.split(' ').next()?.trim_end_matches([',', ';']);
     Some(word.parse().expect("a number after --tolerance"))
+}
+
+/// The colour that a sentence names, as it is read at the stand: the word after --card-colour.
+fn named_colour(advice: Option<&str>) -> Option<CardColour> {
+    let (_, after) = advice?.split_once("use --card-colour ")?;
+    let colour = CardColour::new(after.split(' ').next()?);
+    assert!(colour.bytes().is_some(), "{after}");
+    Some(colour)
 }
 
 /// How much two masks have in common: pixels in both over pixels in either.
@@ -169,7 +182,22 @@ fn rectangle(
 
 /// The state and the sentence are these.
 fn says(image: &Image, tolerance: f64, state: State, words: &[&str]) -> Diagnosis {
-    let (_, diagnosis) = diagnosed(image, &with_tolerance(tolerance));
+    says_with(image, None, tolerance, state, words)
+}
+
+/// The same with the card's colour.
+fn says_with(
+    image: &Image,
+    card_colour: Option<CardColour>,
+    tolerance: f64,
+    state: State,
+    words: &[&str],
+) -> Diagnosis {
+    let chosen = Chosen {
+        settings: with_tolerance(tolerance),
+        card_colour,
+    };
+    let (_, diagnosis) = diagnosed_by(image, &chosen);
     let advice = diagnosis.advice().unwrap_or("none");
     assert_eq!(diagnosis.state, state, "{advice}");
     for word in words {
@@ -279,6 +307,96 @@ fn dust() {
     assert_eq!((dusty.parts, dusty.specks), (3, 2));
 }
 
+/// A given colour that the card has not: the sentence names the edge's, and who gives that one, or
+/// none, finds card.
+#[test]
+fn another_colour() {
+    let image = grey(90, 120, rectangle(30..60, 40..80, 100));
+    let usual = 0.03125;
+    let says = |colour: &str, state: State, words: &[&str]| {
+        says_with(&image, Some(CardColour::new(colour)), usual, state, words)
+    };
+    // The card is from 200 to 203.
+    says("C9C9C9", State::Found, &["none"]);
+    for given in ["000000", "ffffff", "d4d4d4", "64c9c9"] {
+        let and_not = format!(", and not the given {given}; use --card-colour ");
+        let words = [
+            "the picture's edge has the colour c",
+            &and_not,
+            " or leave --card-colour out",
+        ];
+        let wrong = says(&given.to_uppercase(), State::NotFound, &words);
+        let colour = named_colour(wrong.advice());
+        let right = says_with(&image, colour, usual, State::Found, &["none"]);
+        assert_eq!((right.object, right.parts), (1200, 1));
+    }
+    let right = says_with(&image, None, usual, State::Found, &["none"]);
+    assert_eq!(right.object, 1200);
+}
+
+/// An edge whose colour lies half way between two bytes, both of which are too far from some of it:
+/// only without a colour card is found. Where the given colour is the nearest, a tolerance is named.
+#[test]
+fn colour_between_bytes() {
+    let stripes = |y: usize, x: usize| match (30..60).contains(&y) && (40..80).contains(&x) {
+        true => 60,
+        false => 200 + ((y + x) % 2) as u8,
+    };
+    let rgb = (0..90 * 120).flat_map(|i| [stripes(i / 120, i % 120); 3]);
+    let image = Image {
+        h: 90,
+        w: 120,
+        rgb: rgb.collect(),
+        alpha: vec![255; 90 * 120],
+    };
+    let half = 0.5001 / 255.0;
+    let says = |given: [u8; 3], tolerance: f64, state: State, words: &[&str]| {
+        let colour = Some(CardColour::from(given));
+        says_with(&image, colour, tolerance, state, words)
+    };
+    let words = [
+        "the picture's edge has the colour c9c9c9, and not the given c8c8c8; leave --card-colour out",
+    ];
+    let wrong = says([200; 3], half, State::NotFound, &words);
+    assert_eq!(named_colour(wrong.advice()), None);
+    says_with(&image, None, half, State::Found, &["none"]);
+    let nearest = says(
+        [201; 3],
+        half,
+        State::NotFound,
+        &["50.0 % of", "use --tolerance"],
+    );
+    let tolerance = named(nearest.advice()).unwrap();
+    says([201; 3], tolerance, State::Found, &["none"]);
+}
+
+/// Photographs that find no card as they are, with a colour that their card has not: the sentence
+/// leaves the colour out and names the tolerance that helps without it.
+#[test]
+fn another_colour_in_poor_light() {
+    let mut followed = 0;
+    for scene in &SCENES {
+        let image = scene.photograph(H, W).image;
+        let given = |colour: &str, tolerance: f64| Chosen {
+            settings: with_tolerance(tolerance),
+            card_colour: Some(CardColour::new(colour)),
+        };
+        let (_, plain) = diagnosed(&image, &Settings::default());
+        let (_, black) = diagnosed_by(&image, &given("000000", 0.03125));
+        let advice = black.advice().expect("advice");
+        println!("{}: {}; {advice}", scene.name, plain.state);
+        assert_eq!(black.state, State::NotFound);
+        assert!(advice.contains("leave --card-colour out"), "{advice}");
+        let tolerance = named(black.advice());
+        assert_eq!(tolerance.is_some(), plain.state == State::NotFound);
+        if let Some(tolerance) = tolerance {
+            assert_eq!(tolerance, named(plain.advice()).unwrap());
+            followed += 1;
+        }
+    }
+    assert!(followed >= 3, "{followed}");
+}
+
 #[test]
 fn card_not_sought() {
     let mut image = grey(60, 80, rectangle(20..40, 20..60, 20));
@@ -301,7 +419,7 @@ fn card_not_sought() {
 #[test]
 fn any_picture() {
     let mut random = Random(5);
-    for _ in 0..2000 {
+    for at in 0..3000 {
         let (h, w) = (1 + random.below(40), 1 + random.below(40));
         let few = 1 + random.below(40);
         let steep = random.below(4) * 30;
@@ -317,24 +435,35 @@ fn any_picture() {
             crop_to_alpha: random.below(2) == 0,
             ..with_tolerance(tolerances[random.below(6)])
         };
-        let (cut, diagnosis) = diagnosed(&image, &settings);
+        let near = image.rgb[random.below(3 * h * w)];
+        let colour = || [0; 3].map(|_: u8| near.saturating_add(random.below(20) as u8));
+        let card_colour = (at % 2 == 1).then(colour).map(CardColour::from);
+        let with = |settings: Settings| {
+            let card_colour = card_colour.clone();
+            let chosen = Chosen {
+                settings,
+                card_colour,
+            };
+            diagnosed_by(&image, &chosen)
+        };
+        let (cut, diagnosis) = with(settings);
         let edge = diagnosis.edge.expect("card was sought");
         let enough = 10 * edge.close >= 9 * edge.entries;
         assert_eq!(edge.entries, if h > 1 { 2 * (w + h - 2) } else { 2 * w });
         assert_eq!(cut.keyed, diagnosis.state == State::Found);
         assert_eq!(enough, diagnosis.state != State::NotFound);
         let least = with_tolerance(edge.least_tolerance);
-        assert_ne!(diagnosed(&image, &least).1.state, State::NotFound);
+        assert_ne!(with(least).1.state, State::NotFound);
     }
 }
 
 /// What does not belong together is refused.
 #[test]
 fn lengths_that_do_not_fit() {
-    let settings = Settings::default();
+    let mut chosen = Chosen::default();
     let image = grey(6, 8, rectangle(2..4, 2..6, 20));
-    let cut = image.cut(&settings).unwrap();
-    let of = |image: &Image, cut: &Cut| Diagnosis::of(image, &settings, cut).map(|_| ());
+    let cut = image.cut_by(&chosen).unwrap();
+    let of = |image: &Image, cut: &Cut| Diagnosis::of(image, &chosen, cut).map(|_| ());
     assert_eq!(of(&image, &cut), Ok(()));
     let mut short = image.clone();
     short.rgb.pop();
@@ -345,4 +474,7 @@ fn lengths_that_do_not_fit() {
     let mut none = image.clone();
     none.h = 0;
     assert_eq!(of(&none, &cut), Err(Refusal::Side));
+    chosen.card_colour = Some(CardColour::new("white"));
+    let refused = Diagnosis::of(&image, &chosen, &cut);
+    assert_eq!(refused, Err(Refusal::CardColour));
 }

@@ -12,7 +12,7 @@ mod running;
 use masks::Random;
 use running::*;
 use stand::netpbm::{self, Image};
-use stand::Settings;
+use stand::{CardColour, Chosen, Settings};
 use std::ffi::OsStr;
 use std::fs;
 use std::io::Write;
@@ -49,7 +49,7 @@ fn example_pictures() {
         fs::write(folder.join(&path), &picture).unwrap();
         for (at, settings) in many.iter().enumerate() {
             let own = format!("{name}-{at}");
-            let mut words = words(settings);
+            let mut words = words(&Chosen::from(*settings));
             words.extend([path.clone(), "--name".into(), own.clone()]);
             let ran = run(&folder, &words);
             if name == "blank" && settings.alpha_threshold > 0 {
@@ -65,10 +65,9 @@ fn example_pictures() {
     }
 }
 
-/// A random picture: card with spots on it.
-fn random_image(random: &mut Random) -> Image {
+/// A random picture: card of this grey with spots on it.
+fn random_image(random: &mut Random, card: u8) -> Image {
     let (h, w) = (1 + random.below(20), 1 + random.below(20));
-    let card = random.below(256) as u8;
     let mut rgb = vec![card; 3 * h * w];
     for (pixel, on) in rgb.chunks_mut(3).zip(random.mask(h * w, 100)) {
         if on == 1 {
@@ -87,8 +86,9 @@ fn random_pictures() {
     let folder = folder("random");
     let mut random = Random(2);
     let (mut keyed, mut unfound, mut refused) = (0, 0, 0);
-    for _ in 0..60 {
-        let image = random_image(&mut random);
+    for at in 0..120 {
+        let card = random.below(256) as u8;
+        let image = random_image(&mut random, card);
         let settings = Settings {
             alpha_threshold: random.below(300) as i64 - 20,
             key_bg: random.below(8) > 0,
@@ -96,15 +96,21 @@ fn random_pictures() {
             key_bg_tolerance: random.below(1000) as f64 / 3000.0,
             crop_to_alpha: random.below(4) > 0,
         };
+        // Half of them with a colour: the card's or one near it.
+        let colour = || [0; 3].map(|_: u8| card.saturating_add(random.below(30) as u8));
+        let chosen = Chosen {
+            settings,
+            card_colour: (at % 2 == 1).then(colour).map(CardColour::from),
+        };
         let picture = netpbm::pam(&image);
-        let mut words = words(&settings);
+        let mut words = words(&chosen);
         words.extend(["--force", "--name", "r", "-"].map(String::from));
         let ran = run_on(&folder, &words, &picture);
-        match image.cut(&settings) {
+        match image.cut_by(&chosen) {
             Ok(own) => {
                 let full = own.mask.iter().all(|&m| m == 1);
                 ran.cut(own.keyed || !full || !settings.key_bg);
-                filed(&folder, "r", &image, &settings, &picture);
+                filed_by(&folder, "r", &image, &chosen, &picture);
                 keyed += usize::from(own.keyed);
                 unfound += usize::from(ran.status == 3);
             }
@@ -115,7 +121,7 @@ fn random_pictures() {
         }
     }
     assert!(
-        keyed >= 5 && unfound >= 5 && refused >= 2,
+        keyed >= 10 && unfound >= 10 && refused >= 4,
         "{keyed} keyed, {unfound} without card, {refused} refused"
     );
 }
@@ -150,6 +156,51 @@ fn forms() {
     let picture = netpbm::pgm(&grey, w);
     run_on(&folder, &["--name=grey", "-"], &picture).ended(0, "");
     filed(&folder, "grey", &image, &settings, &picture);
+}
+
+/// The card's colour in either case gives one record, which has its line; one that the card has not
+/// finds none, though the edge is plain.
+#[test]
+fn card_colour() {
+    let folder = folder("colour");
+    let image = draw::badge();
+    let picture = netpbm::pam(&image);
+    fs::write(folder.join("a.pam"), &picture).unwrap();
+    let mut records = Vec::new();
+    for (name, colour) in [
+        ("small", "e9e7e1"),
+        ("large", "E9E7E1"),
+        ("mixed", "E9e7e1"),
+    ] {
+        let words = ["a.pam", "--name", name, "--card-colour", colour];
+        run(&folder, &words).cut(true);
+        let chosen = Chosen {
+            card_colour: Some(CardColour::new(colour)),
+            ..Chosen::default()
+        };
+        let record = filed_by(&folder, name, &image, &chosen, &picture);
+        assert!(record.keyed);
+        records.push(fs::read_to_string(folder.join(format!("{name}.record.txt"))).unwrap());
+    }
+    assert!(records.iter().all(|record| *record == records[0]));
+    assert!(records[0].contains("\ncrop_to_alpha: yes\ncard_colour: e9e7e1\nkeyed: yes\n"));
+
+    let ran = run(&folder, &["a.pam", "--card-colour=000000", "--no-crop"]);
+    assert_eq!(ran.status, 3, "{}", ran.said);
+    let advice = "\n  advice: the picture's edge has the colour ";
+    assert!(ran.out.contains(advice), "{}", ran.out);
+    assert!(ran
+        .out
+        .contains(", and not the given 000000; use --card-colour "));
+    let text = fs::read_to_string(folder.join("a.record.txt")).unwrap();
+    assert!(text.contains("\ncrop_to_alpha: no\ncard_colour: 000000\nkeyed: no\n"));
+    // Without the option there is no such line.
+    run(&folder, &["a.pam", "--force"]).cut(true);
+    let text = fs::read_to_string(folder.join("a.record.txt")).unwrap();
+    assert!(
+        text.contains("\ncrop_to_alpha: yes\nkeyed: yes\n"),
+        "{text}"
+    );
 }
 
 /// A picture of the largest sides, with what it took.
@@ -225,6 +276,22 @@ fn refusals() {
     }
     let words = ["--alpha-threshold", "256", "--name=a", "-"];
     run_on(&folder, &words, opaque).ended(1, "refused 6: no pixel's alpha");
+    // What is no colour is refused before all that, and where no card is sought.
+    for colour in [
+        "",
+        "F4F1E",
+        "F4F1E80",
+        "#F4F1E8",
+        "F4 F1E8",
+        "white",
+        "F4F1E\u{30a}",
+    ] {
+        let words = ["--no-key", "--tolerance=inf", "--alpha-threshold=256"];
+        for more in [&[][..], &words] {
+            let words = [&["--card-colour", colour, "--name=a", "-"], more].concat();
+            run_on(&folder, &words, opaque).ended(1, "refused 11: the card's colour is not six");
+        }
+    }
     assert!(names(&folder).is_empty());
     // A side is refused before a byte of the pixels is read, so nothing needs to follow the header.
     fs::write(folder.join("b.ppm"), "P6 5000 5000 255\n").unwrap();
@@ -310,6 +377,7 @@ fn wrong_files_and_words() {
             "could not be written",
         ),
         (&["a.ppm", "--tolerance", "0,03125"], "takes a number"),
+        (&["a.ppm", "--card-colour"], "--card-colour needs a value"),
         (
             &["a.ppm", "--fringe", "99999999999999999999"],
             "whole number",

@@ -14,13 +14,18 @@ use std::path::{Path, PathBuf};
 const CALLS: [&str; 4] = ["geometry", "keying", "stand", "cutfile"];
 
 /// Theorems, by crate and name; and every public statement of these files.
-const THEOREMS: [(&str, &str); 15] = [
+const THEOREMS: [(&str, &str); 20] = [
     ("nearest", "nearest-some"),
     ("nearest", "nearest-none"),
     ("nearest", "nearest-is"),
     ("labels", "label-joined"),
     ("labels", "joined-label"),
     ("outline", "cases-hold"),
+    ("card", "same-digits"),
+    ("keying", "ground-as-before"),
+    ("keying", "cut-as-before"),
+    ("stand", "exported-ground-as-before"),
+    ("stand", "exported-cut-as-before"),
     ("pam_header", "header-accepted"),
     ("pam_header", "header-means"),
     ("pam_header", "earlier-same"),

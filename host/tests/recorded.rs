@@ -106,30 +106,32 @@ fn scipys_answers() {
 struct Ours;
 
 impl Answers for Ours {
-    fn ground(&self, colours: &[f64], h: usize, w: usize, tolerance: f64) -> Option<Vec<u8>> {
-        let found = stand::ground(colours, h, w, tolerance).unwrap();
-        found.map(|ground| ground.plane)
+    fn ground(
+        &self,
+        given: Option<&str>,
+        colours: &[f64],
+        h: usize,
+        w: usize,
+        tolerance: f64,
+    ) -> Result<Option<Vec<u8>>, u32> {
+        let found = match given {
+            Some(text) => stand::ground_with_colour(colours, h, w, text, tolerance),
+            None => stand::ground(colours, h, w, tolerance),
+        };
+        let found = found.map_err(|refusal| refusal.number())?;
+        Ok(found.map(|ground| ground.plane))
     }
 
     fn squares(&self, mask: &[u8], h: usize, w: usize, k: u64) -> Vec<u8> {
         stand::squares(mask, h, w, k).unwrap()
     }
 
-    fn cut(
-        &self,
-        colours: &[f64],
-        alpha: &[u8],
-        h: usize,
-        w: usize,
-        s: &Settings,
-    ) -> Result<Outline, u32> {
-        let picture = Picture {
-            colours,
-            alpha,
-            h,
-            w,
+    fn cut(&self, given: Option<&str>, picture: &Picture, s: &Settings) -> Result<Outline, u32> {
+        let cut = match given {
+            Some(text) => stand::cut_with_colour(picture, text, s),
+            None => stand::cut(picture, s),
         };
-        let cut = stand::cut(&picture, s).map_err(|refusal| refusal.number())?;
+        let cut = cut.map_err(|refusal| refusal.number())?;
         let (rows, cols) = (cut.crop.rows, cut.crop.cols);
         Ok(Outline {
             mask: cut.mask,
@@ -140,31 +142,34 @@ impl Answers for Ours {
     }
 }
 
-fn replay_keying(name: &str, least: usize) {
+/// At least so many cases, and of these so many with the card's colour.
+fn replay_keying(name: &str, least: usize, coloured: usize) {
     let stdin = fs::read_to_string(folder(name).join("stdin")).expect("stdin");
     let mut lines = stdin.lines();
-    let (mut ours, mut cases) = (String::new(), 0);
+    let (mut ours, mut cases, mut with_colour) = (String::new(), 0, 0);
     while let Some(case) = Case::read(&mut lines) {
         ours += &case.answer(&Ours);
         cases += 1;
+        with_colour += case.colour.is_some() as usize;
     }
     compare(name, &folder(name), &ours, cases);
     assert!(cases >= least, "{cases} cases");
+    assert!(with_colour >= coloured, "{with_colour} with a colour");
 }
 
 #[test]
 fn the_rusts_grounds() {
-    replay_keying("replay_ground", 300);
+    replay_keying("replay_ground", 440, 40);
 }
 
 #[test]
 fn the_rusts_cuts() {
-    replay_keying("replay_cut", 200);
+    replay_keying("replay_cut", 320, 60);
 }
 
 #[test]
 fn the_rusts_pairs() {
-    replay_keying("replay_pair", 9);
+    replay_keying("replay_pair", 36, 18);
 }
 
 /// Runs a generator, and holds what it writes to be what the repository has.

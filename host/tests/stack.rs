@@ -7,7 +7,7 @@ mod masks;
 mod pictures;
 
 use masks::Random;
-use stand::raw::{self, Work};
+use stand::raw::{self, StandCut, Work};
 use stand::{Rgb, Settings};
 use std::io::Write;
 use std::thread;
@@ -93,7 +93,7 @@ fn calls_on_masks() {
 #[test]
 fn calls_on_pictures() {
     let mut random = Random(72);
-    let mut keyed = 0;
+    let (mut keyed, mut coloured) = (0, 0);
     for (h, w) in shapes() {
         let n = h * w;
         let all = [
@@ -167,9 +167,59 @@ fn calls_on_pictures() {
             });
             assert_eq!(cut.refusal, 0);
             keyed += cut.keyed as u32;
+            let cut = with_colour(&shown, colours, h, w, settings);
+            coloured += cut.keyed as u32;
         }
     }
-    let line = format!("every export in {STACK} bytes of stack; {keyed} of 16 pictures keyed\n");
+    let line = format!(
+        "every export in {STACK} bytes of stack; {keyed} of 16 pictures keyed, {coloured} with a \
+         given colour\n"
+    );
     std::io::stderr().write_all(line.as_bytes()).unwrap();
-    assert!(keyed >= 4, "hardly a picture was keyed");
+    assert!(keyed.min(coloured) >= 4, "hardly a picture was keyed");
+}
+
+/// Ground and cut with the card's colour, which is the white of the pictures here.
+fn with_colour(
+    shown: &dyn Fn(&str) -> String,
+    colours: &[f64],
+    h: usize,
+    w: usize,
+    settings: Settings,
+) -> StandCut {
+    let n = h * w;
+    let (text, alpha) = (b"FdfDfD", vec![255; n]);
+    let (ground, _) = same_in_little(&shown("ground with colour"), || {
+        let (mut work, mut out) = (room(h, w, 7), vec![7; n]);
+        let tolerance = settings.key_bg_tolerance;
+        let answer = raw::ground_with_colour(colours, h, w, text, tolerance, &mut work, &mut out);
+        (answer, out)
+    });
+    assert_eq!(ground.refusal, 0);
+    let (cut, ..) = same_in_little(&shown("cut with colour"), || {
+        let mut nearest = room(h, w, 7);
+        let [mut shallow, mut deep, mut marks] = [1, 2, 3].map(|i| room(h, w, i));
+        let mut work = Work {
+            nearest: &mut nearest,
+            shallow: &mut shallow,
+            deep: &mut deep,
+            marks: &mut marks,
+        };
+        let (mut mask, mut weights) = (vec![7; n], vec![7.5; n]);
+        let answer = raw::cut_with_colour(
+            colours,
+            &alpha,
+            h,
+            w,
+            text,
+            settings,
+            &mut work,
+            &mut mask,
+            &mut weights,
+        );
+        (answer, mask, weights)
+    });
+    assert_eq!(cut.refusal, 0);
+    assert_eq!(cut.keyed, ground.found);
+    cut
 }

@@ -43,17 +43,20 @@ enum Kind {
     Input(usize),
     Output(usize),
     Work,
+    /// The text of the card's colour, which has no plane.
+    Text,
 }
-use Kind::{Input, Output, Work};
+use Kind::{Input, Output, Text, Work};
 
 /// Every export, with its slices in the order of the parameters.
-const CALLS: [(&str, &[Kind]); 8] = [
+const CALLS: [(&str, &[Kind]); 10] = [
     ("nearest", &[Input(1), Work, Output(1), Output(1)]),
     ("labels", &[Input(1), Work, Output(1)]),
     ("squares", &[Input(1), Work, Output(1)]),
     ("distance", &[Input(1), Work, Output(1)]),
     ("fill", &[Input(3), Input(1), Work, Output(3)]),
     ("ground", &[Input(3), Work, Output(1)]),
+    ("ground_with_colour", &[Input(3), Text, Work, Output(1)]),
     (
         "growth",
         &[Input(3), Input(1), Work, Work, Work, Work, Output(1)],
@@ -71,7 +74,27 @@ const CALLS: [(&str, &[Kind]); 8] = [
             Output(1),
         ],
     ),
+    (
+        "cut_with_colour",
+        &[
+            Input(3),
+            Input(1),
+            Text,
+            Work,
+            Work,
+            Work,
+            Work,
+            Output(1),
+            Output(1),
+        ],
+    ),
 ];
+
+/// The slices of an export.
+fn kinds(call: &str) -> &'static [Kind] {
+    let found = CALLS.iter().find(|(name, _)| *name == call);
+    found.expect("a call").1
+}
 
 const GREY: Rgb = Rgb {
     r: 0.5,
@@ -104,6 +127,22 @@ fn answer(
             "distance" => stand_distance(b(0), n[0], h, w, k(1), n[1], k(2), n[2]),
             "fill" => stand_fill(q(0), n[0], b(1), n[1], h, w, k(2), n[2], q(3), n[3]),
             "ground" => stand_ground(f(0), n[0], h, w, tolerance, k(1), n[1], b(2), n[2]).refusal,
+            "ground_with_colour" => {
+                stand_ground_with_colour(
+                    f(0),
+                    n[0],
+                    h,
+                    w,
+                    b(1),
+                    n[1],
+                    tolerance,
+                    k(2),
+                    n[2],
+                    b(3),
+                    n[3],
+                )
+                .refusal
+            }
             "growth" => stand_growth(
                 f(0),
                 n[0],
@@ -148,6 +187,32 @@ fn answer(
                 )
                 .refusal
             }
+            "cut_with_colour" => {
+                stand_cut_with_colour(
+                    f(0),
+                    n[0],
+                    b(1),
+                    n[1],
+                    h,
+                    w,
+                    b(2),
+                    n[2],
+                    settings,
+                    k(3),
+                    n[3],
+                    b(4),
+                    n[4],
+                    b(5),
+                    n[5],
+                    b(6),
+                    n[6],
+                    b(7),
+                    n[7],
+                    f(8),
+                    n[8],
+                )
+                .refusal
+            }
             other => panic!("{other}"),
         }
     }
@@ -161,23 +226,24 @@ fn fitting(kinds: &[Kind], h: usize, w: usize) -> Vec<usize> {
     let length = |kind: &Kind| match *kind {
         Input(each) | Output(each) => n.wrapping_mul(each),
         Work => room,
+        Text => 6,
     };
     kinds.iter().map(length).collect()
 }
 
-/// 2 or 3 for lengths of which one is wrong; 0 where none is.
+/// 2, 3 or 11 for lengths of which one is wrong; 0 where none is.
 fn number(kinds: &[Kind], fitting: &[usize], lengths: &[usize]) -> u32 {
     let wrong = |j: usize| match kinds[j] {
-        Input(_) | Output(_) => lengths[j] != fitting[j],
         Work => lengths[j] < fitting[j],
+        _ => lengths[j] != fitting[j],
     };
-    let some =
-        |input: bool| (0..kinds.len()).any(|j| matches!(kinds[j], Input(_)) == input && wrong(j));
-    match (some(true), some(false)) {
-        (true, _) => 2,
-        (_, true) => 3,
-        _ => 0,
-    }
+    let number = |j: usize| match kinds[j] {
+        Input(_) => 2,
+        Output(_) | Work => 3,
+        Text => 11,
+    };
+    let numbers = (0..kinds.len()).filter(|&j| wrong(j)).map(number);
+    numbers.min().unwrap_or(0)
 }
 
 #[test]
@@ -222,11 +288,12 @@ fn wrong_sides() {
 #[test]
 fn wrong_lengths() {
     let none = memory(1 << 16, 0);
-    let mut refused = [0; 4];
+    let mut refused = [0; 12];
     for (call, kinds) in CALLS {
         for (h, w) in [(1, 1), (1, 2), (3, 5), (1, 4096), (4096, 1), (4096, 4096)] {
             let right = fitting(kinds, h, w);
-            // Each slice alone, and each together with the last, which is an output.
+            // Each slice alone, and each together with the last, which is an output. A text of six
+            // bytes behind a wrong length, and one of another length, is not read either.
             for at in 0..kinds.len() {
                 let bytes = right[at] * if call == "squares" { 1 } else { 8 };
                 for len in [
@@ -256,11 +323,23 @@ fn wrong_lengths() {
             }
         }
     }
-    let [_, _, two, three] = refused;
+    let [two, three, eleven] = [2, 3, 11].map(|number| refused[number]);
     say(format!(
-        "unreadable memory behind wrong lengths: {two} calls refused with 2, {three} with 3"
+        "unreadable memory behind wrong lengths: {two} calls refused with 2, {three} with 3, \
+         {eleven} with 11"
     ));
-    assert!(two > 100 && three > 100);
+    assert!(two > 100 && three > 100 && eleven > 50);
+}
+
+/// Inputs that can be read; the rest cannot.
+fn with_inputs(call: &str, colours: &[f64], alpha: &[u8], none: *mut c_void) -> Vec<*mut c_void> {
+    let place = |kind: &Kind| match kind {
+        Input(3) => colours.as_ptr() as *mut c_void,
+        Input(_) => alpha.as_ptr() as *mut c_void,
+        Text => b"F4f1e8".as_ptr() as *mut c_void,
+        _ => none,
+    };
+    kinds(call).iter().map(place).collect()
 }
 
 /// Colours, tolerance and alpha that are refused: no output and no work buffer is touched.
@@ -289,23 +368,41 @@ fn wrong_values() {
         ("ground", &colours, GREY, infinite, 5),
         ("cut", &colours, GREY, infinite, 5),
         ("cut", &colours, GREY, good, 6),
+        ("ground_with_colour", &one_bad, GREY, good, 4),
+        ("cut_with_colour", &one_bad, GREY, good, 4),
+        ("ground_with_colour", &colours, GREY, infinite, 5),
+        ("cut_with_colour", &colours, GREY, infinite, 5),
+        ("cut_with_colour", &colours, GREY, good, 6),
     ];
     for (call, colours, reference, settings, expected) in asked {
-        let (_, kinds) = CALLS
-            .iter()
-            .find(|(name, _)| *name == call)
-            .expect("a call");
-        let at: Vec<*mut c_void> = kinds
-            .iter()
-            .map(|kind| match kind {
-                Input(3) => colours.as_ptr() as *mut c_void,
-                Input(_) => alpha.as_ptr() as *mut c_void,
-                _ => none,
-            })
-            .collect();
-        let lengths = fitting(kinds, h, w);
+        let at = with_inputs(call, colours, &alpha, none);
+        let lengths = fitting(kinds(call), h, w);
         let refusal = answer(call, h, w, &lengths, &at, reference, settings);
         assert_eq!(refusal, expected, "{call}");
+    }
+}
+
+/// Six bytes that are not six digits: nothing but the text is read, and nothing is written.
+#[test]
+fn wrong_texts() {
+    let none = memory(1 << 16, 0);
+    for call in ["ground_with_colour", "cut_with_colour"] {
+        for text in [b"F4f1e ", b"#F4f1e", b"+F4f1e", b"F4f1\0\0", b"F4f1e\xff"] {
+            for key_bg in [true, false] {
+                let settings = Settings {
+                    key_bg,
+                    ..Settings::default()
+                };
+                let place = |kind: &Kind| match kind {
+                    Text => text.as_ptr() as *mut c_void,
+                    _ => none,
+                };
+                let at: Vec<*mut c_void> = kinds(call).iter().map(place).collect();
+                let lengths = fitting(kinds(call), 9, 14);
+                let refusal = answer(call, 9, 14, &lengths, &at, GREY, settings);
+                assert_eq!(refusal, 11, "{call}, {}", text.escape_ascii());
+            }
+        }
     }
 }
 
@@ -325,19 +422,12 @@ fn colours_after_the_first_that_is_wrong() {
             }
             *colours.add(at) = -1.0;
         }
-        for call in ["ground", "growth", "cut"] {
-            let (_, kinds) = CALLS
-                .iter()
-                .find(|(name, _)| *name == call)
-                .expect("a call");
-            let lent: Vec<*mut c_void> = kinds
-                .iter()
-                .map(|kind| match kind {
-                    Input(3) => colours as *mut c_void,
-                    Input(_) => alpha.as_ptr() as *mut c_void,
-                    _ => none,
-                })
-                .collect();
+        for (call, kinds) in CALLS {
+            if !call.starts_with("ground") && !call.starts_with("cut") && call != "growth" {
+                continue;
+            }
+            let mut lent = with_inputs(call, &[], &alpha, none);
+            lent[0] = colours as *mut c_void;
             let lengths = fitting(kinds, h, w);
             let refusal = answer(call, h, w, &lengths, &lent, GREY, Settings::default());
             assert_eq!(refusal, 4, "{call}");

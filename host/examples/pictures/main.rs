@@ -11,7 +11,7 @@ use draw::Drawn;
 use stand::decoding::Given;
 use stand::filing;
 use stand::placing::Place;
-use stand::{netpbm, sha256, Settings};
+use stand::{netpbm, sha256, Chosen};
 use std::error::Error;
 use std::fs;
 use std::path::{Path, PathBuf};
@@ -28,7 +28,7 @@ fn cut(folder: &Path, drawn: &Drawn) -> Result<(), Box<dyn Error>> {
         sum: sha256::of(&bytes),
         decoded: None,
     };
-    let results = match filing::results(given, &Settings::default(), false) {
+    let results = match filing::results(given, &Chosen::default(), false) {
         Ok(results) => results,
         Err(why) => {
             println!("  {why}");

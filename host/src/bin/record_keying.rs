@@ -1,5 +1,6 @@
 //! Writes the lists of mask.rs's answers of ground and cut that the programs replay_ground,
-//! replay_cut and replay_pair are run on.
+//! replay_cut and replay_pair are run on. Where the card's colour is given, its second reading answers
+//! (support/reading.rs); these cases come last.
 //!
 //! ```text
 //! cargo run --release --manifest-path host/Cargo.toml --bin record_keying [-- FOLDER]
@@ -28,6 +29,9 @@ mod masks;
 #[cfg(mask_rs)]
 #[path = "../../support/pictures.rs"]
 mod pictures;
+#[cfg(mask_rs)]
+#[path = "../../support/reading.rs"]
+mod reading;
 
 #[cfg(mask_rs)]
 fn main() {
@@ -37,12 +41,12 @@ fn main() {
 #[cfg(mask_rs)]
 mod with {
     use crate::cases::{Answers, Case, Outline};
-    use crate::config::Config;
     use crate::drawings::{self, Disc};
     use crate::mask;
     use crate::masks::{bools, Random};
-    use crate::pictures::{self, mix, Colour, PASSES, THRESHOLDS, TOLERANCES};
-    use stand::Settings;
+    use crate::pictures::{self, mix, Colour, Rings, PASSES, THRESHOLDS, TOLERANCES};
+    use crate::reading;
+    use stand::{Picture, Rgb, Settings};
     use std::path::PathBuf;
 
     /// The most bytes of a `stdin`: what replay reads.
@@ -54,9 +58,26 @@ mod with {
         mask.iter().map(|&m| m as u8).collect()
     }
 
+    /// The colour of a text, or refusal 11.
+    fn colour_of(text: &str) -> Result<Rgb, u32> {
+        let good = text.len() == 6 && text.bytes().all(|b| b.is_ascii_hexdigit());
+        good.then(|| pictures::colour_of(text)).ok_or(11)
+    }
+
     impl Answers for MaskRs {
-        fn ground(&self, colours: &[f64], h: usize, w: usize, tolerance: f64) -> Option<Vec<u8>> {
-            mask::flat_background(colours, h, w, tolerance, 0).map(|plane| bytes(&plane))
+        fn ground(
+            &self,
+            given: Option<&str>,
+            colours: &[f64],
+            h: usize,
+            w: usize,
+            tolerance: f64,
+        ) -> Result<Option<Vec<u8>>, u32> {
+            let plane = match given {
+                Some(text) => reading::ground(colour_of(text)?, colours, h, w, tolerance),
+                None => mask::flat_background(colours, h, w, tolerance, 0),
+            };
+            Ok(plane.map(|plane| bytes(&plane)))
         }
 
         fn squares(&self, mask: &[u8], h: usize, w: usize, k: u64) -> Vec<u8> {
@@ -65,21 +86,22 @@ mod with {
 
         fn cut(
             &self,
-            colours: &[f64],
-            alpha: &[u8],
-            h: usize,
-            w: usize,
+            given: Option<&str>,
+            picture: &Picture,
             s: &Settings,
         ) -> Result<Outline, u32> {
-            let config = Config {
-                alpha_threshold: s.alpha_threshold,
-                key_bg: s.key_bg,
-                key_bg_fringe: s.key_bg_fringe,
-                key_bg_tolerance: s.key_bg_tolerance,
-                crop_to_alpha: s.crop_to_alpha,
+            let Picture {
+                colours,
+                alpha,
+                h,
+                w,
+            } = *picture;
+            let subject = match given {
+                Some(text) => reading::subject(colour_of(text)?, picture, s),
+                None => mask::subject(colours, alpha, h, w, &reading::config(s)).ok(),
             };
             // The only error: no alpha reaches the threshold.
-            let subject = mask::subject(colours, alpha, h, w, &config).map_err(|_| 6u32)?;
+            let subject = subject.ok_or(6u32)?;
             let (y0, y1, x0, x1) = subject.crop;
             Ok(Outline {
                 mask: bytes(&subject.mask),
@@ -104,6 +126,11 @@ mod with {
         twice: usize,
         cropped: usize,
         refused: usize,
+        /// With the card's colour; and of these, those whose ground the median does not find, and those
+        /// whose ground only the median finds.
+        coloured: usize,
+        gained: usize,
+        lost: usize,
     }
 
     /// How many passes of growth join a pixel, to 2.
@@ -113,7 +140,7 @@ mod with {
                 key_bg_fringe: p.min(case.settings.key_bg_fringe),
                 ..case.settings
             };
-            let cut = MaskRs.cut(colours, &case.alpha, case.h, case.w, &settings);
+            let cut = MaskRs.cut(case.colour.as_deref(), &case.picture(colours), &settings);
             cut.map(|cut| cut.mask).ok()
         };
         let differ = |p: i64| mask(p) != mask(p + 1);
@@ -139,18 +166,16 @@ mod with {
         }
 
         fn count(&mut self, case: &Case) {
-            let (h, w, s) = (case.h, case.w, &case.settings);
-            let tolerance = s.key_bg_tolerance;
+            let given = case.colour.as_deref();
             self.cases += 1;
+            self.coloured += given.is_some() as usize;
             for colours in &case.pictures {
-                let (close, all) = pictures::close_entries(colours, h, w, tolerance);
-                self.nine_tenths += (10 * close == 9 * all) as usize;
-                self.one_below += (10 * close < 9 * all && 10 * (close + 1) >= 9 * all) as usize;
-                self.found += MaskRs.ground(colours, h, w, tolerance).is_some() as usize;
+                self.count_ground(case, colours);
                 if case.op == 'G' {
                     continue;
                 }
-                let Ok(cut) = MaskRs.cut(colours, &case.alpha, h, w, s) else {
+                let (h, w, picture) = (case.h, case.w, case.picture(colours));
+                let Ok(cut) = MaskRs.cut(given, &picture, &case.settings) else {
                     self.refused += 1;
                     continue;
                 };
@@ -162,6 +187,23 @@ mod with {
             }
         }
 
+        fn count_ground(&mut self, case: &Case, colours: &[f64]) {
+            let (given, h, w) = (case.colour.as_deref(), case.h, case.w);
+            let tolerance = case.settings.key_bg_tolerance;
+            let Ok(ground) = MaskRs.ground(given, colours, h, w, tolerance) else {
+                self.refused += (case.op == 'G') as usize;
+                return;
+            };
+            let reference = pictures::reference_by(given, colours, h, w);
+            let (close, all) = pictures::close_entries_by(reference, colours, h, w, tolerance);
+            self.nine_tenths += (10 * close == 9 * all) as usize;
+            self.one_below += (10 * close < 9 * all && 10 * (close + 1) >= 9 * all) as usize;
+            self.found += ground.is_some() as usize;
+            let median = mask::flat_background(colours, h, w, tolerance, 0);
+            self.gained += (ground.is_some() && median.is_none()) as usize;
+            self.lost += (ground.is_none() && median.is_some()) as usize;
+        }
+
         fn write(&self, folder: &std::path::Path, name: &str) {
             let folder = folder.join(name);
             std::fs::create_dir_all(&folder).expect("the folder");
@@ -170,7 +212,8 @@ mod with {
             println!(
                 "{}: {} cases; {} and {} bytes\n  ground found {}, border exactly nine tenths close {}, \
                  one entry below {}; keyed {}, grown in a pass {}, in two or more {}, cropped {}, \
-                 refused {}",
+                 refused {}\n  with a colour {}, of which found by the colour only {}, by the median \
+                 only {}",
                 folder.display(),
                 self.cases,
                 self.stdin.len(),
@@ -182,7 +225,10 @@ mod with {
                 self.grown,
                 self.twice,
                 self.cropped,
-                self.refused
+                self.refused,
+                self.coloured,
+                self.gained,
+                self.lost
             );
         }
     }
@@ -222,6 +268,7 @@ mod with {
         let colours = (0..h * w).flat_map(|i| colour(i / w, i % w)).collect();
         Case {
             op,
+            colour: None,
             h,
             w,
             pictures: vec![colours],
@@ -254,6 +301,7 @@ mod with {
         };
         Case {
             op,
+            colour: None,
             h,
             w,
             pictures: vec![colours],
@@ -267,6 +315,14 @@ mod with {
             key_bg_fringe: p,
             key_bg_tolerance: tolerance,
             ..Settings::default()
+        }
+    }
+
+    /// The case with the card's colour.
+    fn by_colour(case: Case, text: &str) -> Case {
+        Case {
+            colour: Some(text.into()),
+            ..case
         }
     }
 
@@ -560,31 +616,133 @@ mod with {
         }
     }
 
+    /// Cases with the card's colour.
+    mod given {
+        use super::*;
+
+        /// Texts that are no colour.
+        const NONE: [&str; 6] = ["", "fffff", "fffffff", "#fffff", "#ffffff", "fffffg"];
+
+        /// A card of this grey with a black pixel in the middle.
+        fn card(h: usize, w: usize, grey: f64, settings: Settings, op: char) -> Case {
+            let middle = (h / 2, w / 2);
+            cut(h, w, settings, op, |y, x| match (y, x) == middle {
+                true => BLACK,
+                false => [grey; 3],
+            })
+        }
+
+        /// The card's own colour and others; differences that are exactly the tolerance; nine tenths
+        /// and one entry less; two shades about the colour that is given; texts that are refused.
+        fn by_hand(list: &mut List, op: char) {
+            let mut add = |case: Case, text: &str| assert!(list.add(&by_colour(case, text)));
+            for text in ["ffffff", "FFFFFF", "000000", "fefefe", "ffff00"] {
+                add(card(3, 3, 1.0, passes(0, 0.0), op), text);
+            }
+            let (grey, one) = (128.0 / 255.0, 129.0 / 255.0 - 128.0 / 255.0);
+            for tolerance in [one, below(one)] {
+                add(card(4, 5, grey, passes(1, tolerance), op), "818181");
+            }
+            for (h, last) in [(3, 0), (3, 1), (4, 0), (4, 1)] {
+                let black = |y, x| y == 0 && x <= last;
+                let colour = |y, x| [!black(y, x) as u8 as f64; 3];
+                add(cut(h, 4, passes(0, 0.0), op, colour), "FfFfFf");
+            }
+            for text in ["c8c8c8", "C6C6C6"] {
+                let shades = [198.0 / 255.0, 202.0 / 255.0];
+                let shade = |y: usize, x: usize| [shades[((y + x) % 3 == 0) as usize]; 3];
+                let colour = |y, x| match (y, x) == (3, 3) {
+                    true => BLACK,
+                    false => shade(y, x),
+                };
+                add(cut(7, 6, passes(1, 0.01), op, colour), text);
+            }
+            for text in NONE {
+                add(card(3, 3, 1.0, passes(1, 0.0), op), text);
+            }
+        }
+
+        pub fn grounds(list: &mut List) {
+            by_hand(list, 'G');
+        }
+
+        pub fn cuts(list: &mut List) {
+            by_hand(list, 'C');
+            soft(list);
+            let keying = |key_bg: bool| Settings {
+                key_bg,
+                ..passes(1, 0.0)
+            };
+            let by = |alpha: Vec<u8>, key_bg: bool| Case {
+                alpha,
+                ..card(3, 3, 1.0, keying(key_bg), 'C')
+            };
+            // Keying off; a hole by alpha; all transparent, which is 6, or 11 where the text is none.
+            let mut hole = vec![255; 9];
+            hole[4] = 3;
+            for text in ["ffffff", ""] {
+                assert!(list.add(&by_colour(by(vec![255; 9], false), text)));
+                assert!(list.add(&by_colour(by(hole.clone(), true), text)));
+                assert!(list.add(&by_colour(by(vec![0; 9], true), text)));
+            }
+        }
+
+        /// A disc with a soft rim on a card of 248, by its own colour and ones beside it.
+        fn soft(list: &mut List) {
+            let side = 15;
+            let disc = Disc {
+                cy: 7.0,
+                cx: 7.0,
+                outer: 5.0,
+                inner: None,
+                soft: 3.0,
+            };
+            let card = [248.0 / 255.0; 3];
+            for (text, p) in [("f8f8f8", 1), ("F8F8F8", 3), ("fafafa", 2), ("e8f8f8", 1)] {
+                let colour = |y, x| mix(card, [0.55, 0.2, 0.15], disc.cover(y, x));
+                let case = cut(side, side, passes(p, 0.03125), 'C', colour);
+                assert!(list.add(&by_colour(case, text)));
+            }
+            // A rim that joins by the darker colour and not by the median, and one the other way.
+            for (rim, text) in [(0.48, "f1f1f1"), (0.49, "ffffff")] {
+                let colour = |y: usize, x: usize| match y.min(x).min(8 - y).min(8 - x) {
+                    0 | 1 => card,
+                    2 => [rim; 3],
+                    _ => BLACK,
+                };
+                let case = cut(9, 9, passes(1, 0.03125), 'C', colour);
+                assert!(list.add(&by_colour(case, text)));
+            }
+        }
+
+        /// Pictures of a fixed seed in the colours of a file; in two of three there is a ground.
+        pub fn random(list: &mut List, op: char, seed: u64, count: usize) {
+            let mut random = Random(seed);
+            let (mut added, mut others) = (0, 0);
+            while added < count {
+                let (h, w) = pictures::sides(&mut random, 12);
+                let mut case = drawn(&mut random, h, w, op);
+                pictures::in_bytes(&mut case.pictures[0]);
+                let bytes = pictures::card_colour(&mut random, &case.pictures[0], h, w);
+                let case = by_colour(case, &pictures::text_of(&mut random, bytes));
+                let answer = case.answer(&MaskRs);
+                let there = answer.contains("found") || answer.contains("keyed 1");
+                let kept = there || others < count / 3;
+                if kept && case.text().is_some_and(|text| text.len() < 800) && list.add(&case) {
+                    added += 1;
+                    others += !there as usize;
+                }
+            }
+        }
+    }
+
     mod pairs {
         use super::*;
 
-        /// The grey of ring d of a card for p passes: 1 − 1.25^(d − p − 4).
-        fn grey(p: usize, d: usize) -> f64 {
-            1.0 - (d..p + 4).fold(1.0, |power, _| power / 1.25)
-        }
-
-        /// A square card of rings, counted from the border inwards, with the middle of the grey given.
-        fn rings(p: usize, side: usize, middle: f64) -> Vec<f64> {
-            let at = |i: usize| {
-                let (y, x) = (i / side, i % side);
-                match y.min(x).min(side - 1 - y).min(side - 1 - x) {
-                    ring if ring == side / 2 => middle,
-                    ring => grey(p, ring),
-                }
-            };
-            (0..side * side).flat_map(|i| [at(i); 3]).collect()
-        }
-
-        /// Twice the distance of ring p from the border's grey is below that of ring p + 4, and not
-        /// below its own.
-        pub fn tight(list: &mut List) {
+        /// Cards whose middle pixel decides whether pixels join in pass p, and cards of one ring more.
+        pub fn tight(list: &mut List, rings: &Rings) {
             for p in [1, 2, 3, 4, 8, 12] {
-                let (joins, stays) = (grey(p, p + 4), grey(p, p));
+                let (joins, stays) = rings.middles(p);
                 let side = 2 * (p + 4) + 1;
                 let pairs = [
                     (side, joins, stays),
@@ -594,15 +752,31 @@ mod with {
                 for (side, one, two) in pairs {
                     let case = Case {
                         op: 'P',
+                        colour: rings.given.map(str::to_string),
                         h: side,
                         w: side,
-                        pictures: vec![rings(p, side, one), rings(p, side, two)],
+                        pictures: vec![rings.card(p, side, one), rings.card(p, side, two)],
                         alpha: vec![255; side * side],
-                        settings: passes(p as i64, 0.0),
+                        settings: passes(p as i64, rings.tolerance),
                     };
                     assert!(list.add(&case));
                 }
             }
+        }
+
+        /// With white given, all black and five white pixels of six: their borders differ, and so do
+        /// their cuts, although the first one has no ground.
+        pub fn borders(list: &mut List) {
+            let case = |last: f64| {
+                cut(6, 1, passes(1, 0.0), 'P', |y, _| {
+                    [if y < 5 { last } else { 0.0 }; 3]
+                })
+            };
+            let [black, other] = [0.0, 1.0].map(|last| case(last).pictures.remove(0));
+            assert!(list.add(&Case {
+                pictures: vec![black, other],
+                ..by_colour(case(0.0), "ffffff")
+            }));
         }
     }
 
@@ -617,6 +791,8 @@ mod with {
         grounds::neighbours(&mut list);
         grounds::tolerances(&mut list);
         grounds::random(&mut list);
+        given::grounds(&mut list);
+        given::random(&mut list, 'G', 36, 26);
         list.write(&folder, "replay_ground");
 
         let mut list = List::default();
@@ -626,10 +802,14 @@ mod with {
         cuts::rising(&mut list);
         cuts::alphas(&mut list);
         cuts::random(&mut list);
+        given::cuts(&mut list);
+        given::random(&mut list, 'C', 37, 34);
         list.write(&folder, "replay_cut");
 
         let mut list = List::default();
-        pairs::tight(&mut list);
+        pairs::tight(&mut list, &pictures::BY_MEDIAN);
+        pairs::tight(&mut list, &pictures::BY_COLOUR);
+        pairs::borders(&mut list);
         list.write(&folder, "replay_pair");
     }
 }

@@ -1,13 +1,15 @@
 //! The sentence of advice: what looks wrong, and what to do.
 //!
 //! A tolerance is named only after it was tried: it finds card, its outline is firm, and it leaves
-//! an object and not mostly crumbs. Since the best tolerance depends on the picture alone, who
-//! follows the advice is not sent on to another one.
+//! an object and not mostly crumbs. Since the best tolerance depends on the picture and the card's
+//! colour alone, who follows the advice is not sent on to another one. A colour is named only where
+//! it finds card.
 
+use super::levels::edge_colour;
 use super::parts::Parts;
 use super::profile::{At, Profile};
 use super::{per_cent, sides, up, Seen, State};
-use crate::{Crop, Refusal};
+use crate::{CardColour, Crop, Refusal};
 use std::ops::Range;
 
 /// A tolerance that is worth so much more is worth a word.
@@ -28,7 +30,7 @@ impl Tried {
             return Ok(None);
         };
         let at = profile.all[level];
-        let parts = Parts::of(&seen.levels.left_at(level), seen.h, seen.w)?;
+        let parts = Parts::of(&seen.levels.left_at(level), seen.image.h, seen.image.w)?;
         let good = at.firm >= LEAST_FIRM && parts.mostly_solid();
         Ok(good.then_some(Tried { at, parts }))
     }
@@ -58,6 +60,9 @@ pub fn of(state: State, seen: &Seen, parts: &Parts) -> Result<Option<String>, Re
 fn not_found(seen: &Seen) -> Result<String, Refusal> {
     let profile = &seen.profile;
     let best = Tried::best(seen, profile, 9)?;
+    if let Some(text) = another_colour(seen, best.as_ref())? {
+        return Ok(text);
+    }
     let worth = best.as_ref().map_or(0.0, |best| best.at.worth());
     // A firm outline of an object that takes up more than a tenth of the edge.
     let wider = Tried::best(seen, profile, 5)?.map(|wider| wider.at);
@@ -78,6 +83,32 @@ fn not_found(seen: &Seen) -> Result<String, Refusal> {
              another colour, in even light"
         ),
     })
+}
+
+/// The edge has another colour than the one that was given, and with its own card is found: at this
+/// tolerance, or at one that is better than the best with the given colour.
+fn another_colour(seen: &Seen, best: Option<&Tried>) -> Result<Option<String>, Refusal> {
+    let edge = edge_colour(seen.image);
+    let Some(given) = seen.given.filter(|given| *given != edge) else {
+        return Ok(None);
+    };
+    let (own, nearest) = (seen.with(None), CardColour::from(edge));
+    let todo = if !own.found() {
+        let worth = |tried: &Tried| tried.at.worth();
+        let least = best.map_or(f64::NEG_INFINITY, |best| worth(best) + BETTER);
+        let other = Tried::best(&own, &own.profile, 9)?.filter(|other| worth(other) > least);
+        other.map(|other| format!("leave --card-colour out and use {}", other.option()))
+    } else if seen.with(Some(edge)).found() {
+        Some(format!(
+            "use --card-colour {nearest} or leave --card-colour out"
+        ))
+    } else {
+        // The edge's colour lies between two bytes, and the nearest are just too far from it.
+        Some("leave --card-colour out".into())
+    };
+    let given = CardColour::from(given);
+    let start = format!("the picture's edge has the colour {nearest}, and not the given {given}");
+    Ok(todo.map(|todo| format!("{start}; {todo}")))
 }
 
 /// All is card, and nothing is left.
@@ -150,12 +181,12 @@ fn higher(now: &At, seen: &Seen, parts: &Parts, best: &Tried) -> Option<String> 
 
 /// Whether there are more specks than an uneven rim has.
 fn many(seen: &Seen, parts: &Parts) -> bool {
-    parts.specks > 100.max((seen.h + seen.w) / 10)
+    parts.specks > 100.max((seen.image.h + seen.image.w) / 10)
 }
 
 /// Whether specks lie apart from the object, so that the mask's box is larger for them.
 fn apart(seen: &Seen, parts: &Parts) -> bool {
-    let near = 4.max(seen.h.max(seen.w) / 100);
+    let near = 4.max(seen.image.h.max(seen.image.w) / 100);
     let larger = |all: &Range<usize>, solid: &Range<usize>| {
         all.start + near < solid.start || solid.end + near < all.end
     };
@@ -192,7 +223,8 @@ fn verb(specks: usize, verb: &str) -> String {
 
 /// The sides at which the crop box (R35) of what is in this box touches the picture's edge.
 fn at_edge(seen: &Seen, Crop { rows, cols }: &Crop) -> Option<String> {
-    let (bottom, right) = (rows.end + 1 >= seen.h, cols.end + 1 >= seen.w);
+    let (h, w) = (seen.image.h, seen.image.w);
+    let (bottom, right) = (rows.end + 1 >= h, cols.end + 1 >= w);
     sides(&[rows.start <= 1, bottom, cols.start <= 1, right])
 }
 

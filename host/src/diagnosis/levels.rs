@@ -1,4 +1,5 @@
-//! For each pixel of a picture the least tolerance at which it is ground (R15 to R20).
+//! For each pixel of a picture the least tolerance at which it is ground (R15 to R20). The reference
+//! is the border's median, or the card's colour where that is given (R83).
 //!
 //! A picture of bytes has few differences from its reference: at most 256 a channel. They are put in
 //! order, and a level is a place in that order. A pixel is ground at a tolerance when a way leads to
@@ -30,10 +31,10 @@ const REACHED: u16 = 0x8000;
 const RIM: u16 = u16::MAX;
 
 impl Levels {
-    /// The levels of a picture that has a pixel.
-    pub fn of(image: &Image) -> Levels {
+    /// The levels of a picture that has a pixel, with the card's colour where it is given.
+    pub fn of(image: &Image, given: Option<[u8; 3]>) -> Levels {
         let entries = entries(image.h, image.w);
-        let differences = differences(image, &entries);
+        let differences = differences(image, &entries, given);
         let mut steps = differences.concat();
         steps.sort_by(f64::total_cmp);
         steps.dedup();
@@ -144,10 +145,8 @@ fn entries(h: usize, w: usize) -> Vec<usize> {
     ends.chain(side(0)).chain(side(w - 1)).collect()
 }
 
-/// For each channel and each byte the difference from the reference (R17, R18), computed as the
-/// library does.
-fn differences(image: &Image, entries: &[usize]) -> [Vec<f64>; 3] {
-    let colour = |byte: usize| byte as f64 / 255.0;
+/// The two middle values of each channel of the border list (R17).
+fn middles(image: &Image, entries: &[usize]) -> [[u8; 2]; 3] {
     [0, 1, 2].map(|channel| {
         let mut counts = [0; 256];
         for at in entries {
@@ -159,18 +158,37 @@ fn differences(image: &Image, entries: &[usize]) -> [Vec<f64>; 3] {
                 before += count;
                 before > place
             });
-            colour(byte.unwrap_or(255))
+            byte.unwrap_or(255) as u8
         };
         let half = entries.len() / 2;
-        let reference = (in_order(half - 1) + in_order(half)) / 2.0;
+        [in_order(half - 1), in_order(half)]
+    })
+}
+
+/// The border's median in the nearest bytes, of two that are as near the higher ones.
+pub fn edge_colour(image: &Image) -> [u8; 3] {
+    let middles = middles(image, &entries(image.h, image.w));
+    middles.map(|[a, b]| (u16::from(a) + u16::from(b)).div_ceil(2) as u8)
+}
+
+/// For each channel and each byte the difference from the reference (R17, R18, R83), computed as the
+/// library does.
+fn differences(image: &Image, entries: &[usize], given: Option<[u8; 3]>) -> [Vec<f64>; 3] {
+    let colour = |byte: u8| f64::from(byte) / 255.0;
+    let reference = match given {
+        Some(bytes) => bytes.map(colour),
+        None => middles(image, entries).map(|[a, b]| (colour(a) + colour(b)) / 2.0),
+    };
+    reference.map(|reference| {
         let from_reference = |byte| (colour(byte) - reference).abs();
-        (0..256).map(from_reference).collect()
+        (0..=255).map(from_reference).collect()
     })
 }
 
 #[cfg(test)]
 mod tests {
     use super::*;
+    use crate::CardColour;
 
     /// Pictures of any small sides in four bytes, of which one is most of the border or is not.
     fn pictures(count: usize) -> impl Iterator<Item = Image> {
@@ -200,41 +218,78 @@ mod tests {
         })
     }
 
+    /// What the library's ground leaves of a picture, where it is found.
+    fn rest(image: &Image, given: Option<[u8; 3]>, tolerance: f64) -> Option<Vec<u8>> {
+        let (colours, h, w) = (image.colours(), image.h, image.w);
+        let ground = match given.map(CardColour::from) {
+            None => crate::ground(&colours, h, w, tolerance),
+            Some(text) => crate::ground_with_colour(&colours, h, w, text, tolerance),
+        };
+        let ground = ground.expect("an accepted picture")?;
+        Some(ground.plane.iter().map(|on| 1 - on).collect())
+    }
+
     /// At every tolerance that makes a difference, and just below it, what is left and what is close
-    /// on the border are as the library's ground says.
+    /// on the border are as the library's ground says. Says how often card is found.
+    fn hold(image: &Image, given: Option<[u8; 3]>) -> usize {
+        let rest = |tolerance: f64| rest(image, given, tolerance);
+        let levels = Levels::of(image, given);
+        let entries: usize = levels.border.iter().sum();
+        let (mut close, mut before, mut found) = (0, None, 0);
+        for (level, &step) in levels.steps.iter().enumerate() {
+            let just_below = match step.to_bits() {
+                0 => -0.1,
+                bits => f64::from_bits(bits - 1),
+            };
+            assert_eq!(rest(just_below), before, "{image:?} {given:?} below {step}");
+            close += levels.border[level];
+            let left = levels.left_at(level);
+            let enough = 10 * close >= 9 * entries && left.contains(&1);
+            before = enough.then_some(left);
+            assert_eq!(rest(step), before, "{image:?} {given:?} at {step}");
+            found += usize::from(enough);
+        }
+        found
+    }
+
     #[test]
     fn the_library_says_the_same() {
-        let mut found = 0;
-        for image in pictures(1000) {
-            let colours = image.colours();
-            let rest = |tolerance: f64| {
-                let ground = crate::ground(&colours, image.h, image.w, tolerance).unwrap();
-                ground.map(|ground| ground.plane.iter().map(|on| 1 - on).collect::<Vec<u8>>())
-            };
-            let levels = Levels::of(&image);
-            let entries: usize = levels.border.iter().sum();
-            let (mut close, mut before) = (0, None);
-            for (level, &step) in levels.steps.iter().enumerate() {
-                let just_below = match step.to_bits() {
-                    0 => -0.1,
-                    bits => f64::from_bits(bits - 1),
-                };
-                assert_eq!(rest(just_below), before, "{image:?} below {step}");
-                close += levels.border[level];
-                let left = levels.left_at(level);
-                let enough = 10 * close >= 9 * entries && left.contains(&1);
-                before = enough.then_some(left);
-                assert_eq!(rest(step), before, "{image:?} at {step}");
-                found += usize::from(enough);
-            }
-        }
+        let found: usize = pictures(1000).map(|image| hold(&image, None)).sum();
         assert!(found > 3000, "{found} grounds");
+    }
+
+    /// With a given colour: that of a pixel, one near the edge's, and any.
+    #[test]
+    fn the_library_says_the_same_of_a_given_colour() {
+        let mut found = 0;
+        for (at, image) in pictures(600).enumerate() {
+            let pixel = 3 * (at % (image.h * image.w));
+            let near = edge_colour(&image).map(|byte| byte.saturating_add(at as u8 % 5));
+            let any = [at as u8, 255 - at as u8, (7 * at) as u8];
+            let own = [0, 1, 2].map(|channel| image.rgb[pixel + channel]);
+            found += hold(&image, Some([own, near, any][at % 3]));
+        }
+        assert!(found > 1500, "{found} grounds");
+    }
+
+    /// The nearest bytes to a median, which may lie half way between two.
+    #[test]
+    fn colour_of_the_edge() {
+        let image = |bytes: [u8; 4]| Image {
+            h: 2,
+            w: 2,
+            rgb: bytes.into_iter().flat_map(|v| [v, 9, 255 - v]).collect(),
+            alpha: vec![255; 4],
+        };
+        assert_eq!(edge_colour(&image([7, 1, 3, 200])), [5, 9, 250]);
+        assert_eq!(edge_colour(&image([7, 1, 4, 200])), [6, 9, 250]);
+        assert_eq!(edge_colour(&image([255; 4])), [255, 9, 0]);
     }
 
     #[test]
     fn highest_in_reach() {
         for image in pictures(300) {
-            let levels = Levels::of(&image);
+            let levels = Levels::of(&image, None);
             for reach in 0..4 {
                 let highest = levels.highest(reach);
                 let inner = |plane: &[u16]| -> Vec<u16> {

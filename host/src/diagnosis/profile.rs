@@ -184,7 +184,7 @@ mod tests {
     }
 
     fn profile(image: &Image) -> Profile {
-        Profile::of(&Levels::of(image), RISE)
+        Profile::of(&Levels::of(image, None), RISE)
     }
 
     /// What is dark all at once has a firm outline at every tolerance below it, what becomes dark

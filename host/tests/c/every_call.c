@@ -10,6 +10,36 @@
 #define PIXELS (SIDE * SIDE)
 #define ROOM (2 * PIXELS + 2 * (SIDE + SIDE) + 16)
 
+/* Ground and cut with the card's colour, on the same card: white is found and grey is not. A NUL that
+ * is counted makes the text too long. */
+static void with_colour(const double *colours, const uint8_t *alpha)
+{
+    static const char *const texts[3] = {"FFfffF", "808080", "#FFFFF"};
+    double weights[PIXELS];
+    uint8_t background[PIXELS], mask[PIXELS];
+    uint32_t nearest[ROOM];
+    uint8_t shallow[ROOM], deep[ROOM], marks[ROOM];
+    StandSettings settings = STAND_DEFAULT_SETTINGS;
+    size_t room = stand_work_len(SIDE, SIDE);
+    int i, j;
+
+    for (j = 0; j < 4; j++) {
+        const uint8_t *text = (const uint8_t *)texts[j % 3];
+        size_t len = j < 3 ? 6 : 7;
+        StandGround ground = stand_ground_with_colour(colours, 3 * PIXELS, SIDE, SIDE, text, len,
+                                                      0.03125, nearest, room, background, PIXELS);
+        StandCut cut = stand_cut_with_colour(colours, 3 * PIXELS, alpha, PIXELS, SIDE, SIDE, text,
+                                             len, settings, nearest, room, shallow, room, deep,
+                                             room, marks, room, mask, PIXELS, weights, PIXELS);
+        int on = 0;
+        for (i = 0; cut.refusal == STAND_ACCEPTED && i < PIXELS; i++) on += mask[i];
+        printf("colour %u %d %g, %u %d, crop %u %u %u %u: %d\n", (unsigned)ground.refusal,
+               (int)ground.found, ground.reference.g, (unsigned)cut.refusal, (int)cut.keyed,
+               (unsigned)cut.y0, (unsigned)cut.y1, (unsigned)cut.x0, (unsigned)cut.x1, on);
+    }
+    printf("refused %d\n", STAND_CARD_COLOUR);
+}
+
 /* Ground, growth and cut on a white card with one black pixel in its middle. */
 static void picture(void)
 {
@@ -61,6 +91,7 @@ static void picture(void)
     printf(" %u\n", (unsigned)stand_growth(colours, 3 * PIXELS, background, PIXELS, SIDE, SIDE,
                                            ground.reference, 1, nearest, room, shallow, room,
                                            deep, room, marks, room, mask, PIXELS));
+    with_colour(colours, alpha);
 }
 
 int main(void)

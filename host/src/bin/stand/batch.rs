@@ -179,7 +179,7 @@ fn sentence(done: &Done) -> String {
 
 /// What is said of results that were there already.
 fn kept(work: &Work, record: &Record) -> &'static str {
-    if record.settings == work.settings {
+    if record.chosen == work.chosen {
         "its results are there already, and are kept"
     } else {
         "its results are there already, cut with OTHER SETTINGS, and are kept; --force replaces them"

@@ -170,8 +170,8 @@ impl Found {
     /// Cuts a picture with the recorded settings, and compares what comes of it.
     fn again(&mut self, path: &Path, given: &Given, record: &Record) -> Result<(), Failure> {
         let step = Step::begin(format!("cutting {}", path.display()), self.quiet);
-        let cut = given.image.cut(&record.settings)?;
-        let again = filing::filed(given, &record.settings, &cut).record;
+        let cut = given.image.cut_by(&record.chosen)?;
+        let again = filing::filed(given, &record.chosen, &cut).record;
         drop(step);
         let alike = [
             ("sides", (again.h, again.w) == (record.h, record.w)),

@@ -128,7 +128,7 @@ fn write(work: &Work, path: &Path, place: &Place) -> Result<Done, Failure> {
         .as_mut()
         .map(|decoded| std::mem::take(&mut decoded.done));
     let step = begin("cutting");
-    let results = filing::results(given, &work.settings, work.small_weights)?;
+    let results = filing::results(given, &work.chosen, work.small_weights)?;
     drop(step);
     let _step = begin("writing the results of");
     place.write(&results.files, work.force)?;

@@ -2,7 +2,7 @@
 
 use stand::filing;
 use stand::placing::Place;
-use stand::Settings;
+use stand::{CardColour, Chosen};
 use std::ffi::{OsStr, OsString};
 use std::path::{Path, PathBuf};
 
@@ -20,7 +20,7 @@ pub enum Asked {
 /// Pictures to be cut, and how.
 #[derive(Debug, Default, PartialEq)]
 pub struct Work {
-    pub settings: Settings,
+    pub chosen: Chosen,
     /// Each picture with the place of its results; `-` is standard input.
     pub pictures: Vec<(PathBuf, Place)>,
     /// The folder that all results go to, where one was named.
@@ -88,10 +88,11 @@ pub fn read(words: impl IntoIterator<Item = OsString>) -> Result<Asked, String> 
 }
 
 /// The options that have a value.
-const OPTIONS: [&str; 7] = [
+const OPTIONS: [&str; 8] = [
     "--alpha-threshold",
     "--fringe",
     "--tolerance",
+    "--card-colour",
     "--out",
     "--name",
     "--jobs",
@@ -130,9 +131,10 @@ fn jobs(option: &str, value: &OsStr) -> Result<usize, String> {
 impl Reading {
     /// Takes a word without a value; says whether it is one.
     fn flag(&mut self, text: &str) -> bool {
+        let settings = &mut self.work.chosen.settings;
         match text {
-            "--no-key" => self.work.settings.key_bg = false,
-            "--no-crop" => self.work.settings.crop_to_alpha = false,
+            "--no-key" => settings.key_bg = false,
+            "--no-crop" => settings.crop_to_alpha = false,
             "--force" => self.work.force = true,
             "--quiet" => self.work.quiet = true,
             "--small-weights" => self.work.small_weights = true,
@@ -145,11 +147,16 @@ impl Reading {
 
     /// Takes an option with its value.
     fn option(&mut self, option: &str, value: OsString) -> Result<(), String> {
-        let settings = &mut self.work.settings;
+        let Chosen {
+            settings,
+            card_colour,
+        } = &mut self.work.chosen;
         match option {
             "--alpha-threshold" => settings.alpha_threshold = whole(option, &value)?,
             "--fringe" => settings.key_bg_fringe = whole(option, &value)?,
             "--tolerance" => settings.key_bg_tolerance = real(option, &value)?,
+            // What is no colour is left to the cut, which refuses it with 11.
+            "--card-colour" => *card_colour = Some(CardColour::new(value.as_encoded_bytes())),
             "--out" => self.work.out = Some(value.into()),
             "--name" => self.name = Some(value),
             "--jobs" => self.work.jobs = jobs(option, &value)?,
@@ -292,6 +299,7 @@ fn pairs(files: Vec<OsString>) -> Result<Vec<(PathBuf, Option<PathBuf>)>, String
 #[cfg(test)]
 mod tests {
     use super::*;
+    use stand::Settings;
 
     fn words(text: &str) -> Result<Asked, String> {
         read(text.split_whitespace().map(OsString::from))
@@ -313,7 +321,8 @@ mod tests {
 
     #[test]
     fn settings() {
-        assert_eq!(work("a.pam").settings, Settings::default());
+        let settings = |text: &str| work(text).chosen.settings;
+        assert_eq!(work("a.pam").chosen, Chosen::from(Settings::default()));
         let all = "--alpha-threshold -7 --no-key --fringe=3 a.pam --tolerance 1e-3 --no-crop";
         let want = Settings {
             alpha_threshold: -7,
@@ -322,14 +331,29 @@ mod tests {
             key_bg_tolerance: 0.001,
             crop_to_alpha: false,
         };
-        assert_eq!(work(all).settings, want);
-        assert!(work("--tolerance inf a")
-            .settings
-            .key_bg_tolerance
-            .is_infinite());
-        assert!(work("--tolerance NaN a").settings.key_bg_tolerance.is_nan());
+        assert_eq!(work(all).chosen, Chosen::from(want));
+        assert!(settings("--tolerance inf a").key_bg_tolerance.is_infinite());
+        assert!(settings("--tolerance NaN a").key_bg_tolerance.is_nan());
         let most = format!("a --alpha-threshold {}", i64::MIN);
-        assert_eq!(work(&most).settings.alpha_threshold, i64::MIN);
+        assert_eq!(settings(&most).alpha_threshold, i64::MIN);
+    }
+
+    /// Any text is taken, and letters of either case are one colour.
+    #[test]
+    fn card_colour() {
+        let given = |text: &str| work(text).chosen.card_colour;
+        assert_eq!(given("a"), None);
+        let colour = Some(CardColour::from([0xc0, 0xff, 0xee]));
+        assert_eq!(given("a --card-colour C0FFee"), colour);
+        assert_eq!(given("--card-colour=c0ffee a"), colour);
+        for text in ["", "#c0ffee", "white", "--force"] {
+            let own = read(["--card-colour", text, "a"].map(OsString::from));
+            let Ok(Asked::Cut(work)) = own else {
+                panic!("{text}: {own:?}")
+            };
+            assert_eq!(work.chosen.card_colour, Some(CardColour::new(text)));
+            assert!(!work.force);
+        }
     }
 
     #[test]
@@ -381,6 +405,11 @@ mod tests {
             ("--no-key=1 a", "no option --no-key=1"),
             ("-x a", "no option -x"),
             ("a --fringe", "needs a value"),
+            ("a --card-colour", "needs a value"),
+            (
+                "--check a.record.txt --card-colour c0ffee",
+                "--card-colour means nothing",
+            ),
             ("a --fringe 1.5", "whole number"),
             ("a --fringe=", "whole number"),
             ("a --alpha-threshold 9223372036854775808", "whole number"),

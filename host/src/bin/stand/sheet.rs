@@ -184,7 +184,7 @@ pub fn run(folder: &Path) -> u8 {
 fn table(tiles: &[Tile]) -> String {
     const HEAD: &str = "name,state,refusal,rows,columns,crop_first_row,crop_end_row,\
                         crop_first_column,crop_end_column,tolerance,fringe,least_tolerance,\
-                        parts,largest_part,specks,remark\r\n";
+                        parts,largest_part,specks,remark,card_colour\r\n";
     let line = |tile: &Tile| {
         let mut fields = vec![field(&tile.name), field(&tile.state)];
         fields.push(
@@ -199,12 +199,16 @@ fn table(tiles: &[Tile]) -> String {
                     record.h, record.w, rows.start, rows.end, cols.start, cols.end,
                 ];
                 fields.extend(sides.map(|n| n.to_string()));
-                fields.push(record.settings.key_bg_tolerance.to_string());
-                fields.push(record.settings.key_bg_fringe.to_string());
+                let settings = &record.chosen.settings;
+                fields.push(settings.key_bg_tolerance.to_string());
+                fields.push(settings.key_bg_fringe.to_string());
             }
         }
         fields.extend(tile.values.iter().map(|value| field(value)));
         fields.push(field(&tile.words));
+        let chosen = tile.record.as_ref().map(|record| &record.chosen);
+        let colour = chosen.and_then(|chosen| chosen.card_colour.as_ref());
+        fields.push(colour.map_or(String::new(), |colour| colour.to_string()));
         fields.join(",") + "\r\n"
     };
     HEAD.to_string() + &tiles.iter().map(line).collect::<String>()
