@@ -11,8 +11,10 @@
 // `0` is the palette's first entry, and each entry has the character after the one before. The answer is the same line, and then
 // for G `found` and h lines of w digits, or `absent`; for C `keyed` and `crop` with their numbers, the mask as h lines of w
 // digits, and the weights in order, as lines of a count and the bits that so many weights have; for P two lines that say whether
-// the pictures agree on the border and within p + 3, p + 4 of the first one's ground, the answers of both cuts, and a line that
-// says whether the masks are the same. A refusal is `refused` and its number.
+// the pictures agree on the border and within p + 3, p + 4 of the first one's ground, or `absent` where it has none, the answers
+// of both cuts, and a line that says whether the masks are the same. A refusal is `refused` and its number.
+//
+// g, c and p are G, C and P with the card's colour: the line has the text of it as one more word, its last, which may be empty.
 ghost use Prim.Native.Nat.{_≤_};
 use colour::Settings;
 use geometry::Labelled;
@@ -50,6 +52,19 @@ fn skip(input: &[u8], from: usize, last: u8, count: usize) -> usize {
 // Word k of the line that starts here; it is read as a number, a flag, a signed number or a float.
 fn word(input: &[u8], from: usize, k: usize) -> usize {
     skip(input, from, b' ', k)
+}
+
+// The bytes of that word, which may be none, up to the space or newline that ends it.
+fn word_bytes(input: &[u8], from: usize, k: usize) -> &[u8] {
+    let at = word(input, from, k);
+    let end = skip(input, at, b' ', 1);
+    if input.len() < end {
+        return &input[0..0];
+    }
+    if end <= at {
+        return &input[0..0];
+    }
+    &input[at..end - 1]
 }
 
 fn number(input: &[u8], from: usize, k: usize) -> u64 {
@@ -472,10 +487,44 @@ fn settings(input: &[u8], from: usize) -> Settings {
     }
 }
 
-// The ground, or that there is none.
-fn say_ground(colours: &[f64], h: usize, w: usize, tolerance: f64, mask: &mut [u8]) {
+// Whether a kind of case has the card's colour: g, c and p.
+fn has_colour(op: u8) -> bool {
+    b'a' <= op
+}
+
+// The text of the card's colour on the line of a case that has it.
+fn card_text(input: &[u8], from: usize, op: u8) -> &[u8] {
+    word_bytes(input, from, if op == b'g' { 5 } else { 9 })
+}
+
+// The ground, by the card's colour for a case that has it.
+fn ground(
+    op: u8,
+    colours: &[f64],
+    h: usize,
+    w: usize,
+    card: &[u8],
+    tolerance: f64,
+    mask: &mut [u8],
+) -> Ground {
     let mut work = [0u32; WORK];
-    let answer = keying::flat_background(colours, h, w, tolerance, &mut work, mask);
+    if has_colour(op) {
+        return keying::flat_background_with_colour(colours, h, w, card, tolerance, &mut work, mask);
+    }
+    keying::flat_background(colours, h, w, tolerance, &mut work, mask)
+}
+
+// The ground, or that there is none.
+fn say_ground(
+    op: u8,
+    colours: &[f64],
+    h: usize,
+    w: usize,
+    card: &[u8],
+    tolerance: f64,
+    mask: &mut [u8],
+) {
+    let answer = ground(op, colours, h, w, card, tolerance, mask);
     match answer {
         Ground::Found(_) => {
             say(b"found\n");
@@ -498,21 +547,39 @@ fn say_crop(keyed: bool, crop: plane::Box) {
     say(b"\n");
 }
 
-// The cut: flag, crop, mask and weights.
-fn say_cut(
+// The cut, by the card's colour for a case that has it.
+fn cut(
+    op: u8,
     colours: &[f64],
     alpha: &[u8],
     h: usize,
     w: usize,
+    card: &[u8],
     s: Settings,
     mask: &mut [u8],
     weights: &mut [f64],
-) {
+) -> Outcome {
     let mut nearest = [0u32; WORK];
     let mut shallow = [0u8; WORK];
     let mut deep = [0u8; WORK];
     let mut marks = [0u8; WORK];
-    let answer = keying::subject(
+    if has_colour(op) {
+        return keying::subject_with_colour(
+            colours,
+            alpha,
+            h,
+            w,
+            card,
+            s,
+            &mut nearest,
+            &mut shallow,
+            &mut deep,
+            &mut marks,
+            mask,
+            weights,
+        );
+    }
+    keying::subject(
         colours,
         alpha,
         h,
@@ -524,7 +591,22 @@ fn say_cut(
         &mut marks,
         mask,
         weights,
-    );
+    )
+}
+
+// The cut: flag, crop, mask and weights.
+fn say_cut(
+    op: u8,
+    colours: &[f64],
+    alpha: &[u8],
+    h: usize,
+    w: usize,
+    card: &[u8],
+    s: Settings,
+    mask: &mut [u8],
+    weights: &mut [f64],
+) {
+    let answer = cut(op, colours, alpha, h, w, card, s, mask, weights);
     match answer {
         Outcome::Done(keyed, crop) => {
             say_crop(keyed, crop);
@@ -587,23 +669,24 @@ fn agree_within(
 
 // Where two pictures agree: within p + 3 and p + 4 of the first one's ground.
 fn say_agreement(
+    op: u8,
     a: &[f64],
     b: &[f64],
     h: usize,
     w: usize,
+    card: &[u8],
     s: Settings,
-    ground: &mut [u8],
+    first: &mut [u8],
     near: &mut [u8],
 ) {
-    let mut work = [0u32; WORK];
-    let answer = keying::flat_background(a, h, w, s.key_bg_tolerance, &mut work, ground);
+    let answer = ground(op, a, h, w, card, s.key_bg_tolerance, first);
     let Ground::Found(_) = answer else {
         say(b"absent\n");
         return;
     };
     let p = colour::passes(s) % 4096;
-    let three = agree_within(a, b, ground, h, w, p + 3, near);
-    let four = agree_within(a, b, ground, h, w, p + 4, near);
+    let three = agree_within(a, b, first, h, w, p + 3, near);
+    let four = agree_within(a, b, first, h, w, p + 4, near);
     say_whether(b"agree within p + 3:", three);
     say_whether(b"agree within p + 4:", four);
 }
@@ -621,46 +704,69 @@ fn same(a: &[u8], b: &[u8]) -> bool {
 
 // Where two pictures agree, both cuts, and whether their masks are the same.
 fn say_pair(
+    op: u8,
     a: &[f64],
     b: &[f64],
     alpha: &[u8],
     h: usize,
     w: usize,
+    card: &[u8],
     s: Settings,
     first: &mut [u8],
     second: &mut [u8],
     weights: &mut [f64],
 ) {
-    say_agreement(a, b, h, w, s, first, second);
-    say_cut(a, alpha, h, w, s, first, weights);
-    say_cut(b, alpha, h, w, s, second, weights);
+    say_agreement(op, a, b, h, w, card, s, first, second);
+    say_cut(op, a, alpha, h, w, card, s, first, weights);
+    say_cut(op, b, alpha, h, w, card, s, second, weights);
     say_whether(b"same mask:", same(first, second));
 }
 
 // The answer for one picture: ground or cut.
-fn answer(op: u8, colours: &[f64], alpha: &[u8], h: usize, w: usize, s: Settings) {
+fn answer(op: u8, colours: &[f64], alpha: &[u8], h: usize, w: usize, card: &[u8], s: Settings) {
     let n = area(h, w);
     let mut mask = [0u8; MOST_PIXELS];
-    if op == b'G' {
-        say_ground(colours, h, w, s.key_bg_tolerance, &mut mask[0..n]);
+    if (op == b'G') | (op == b'g') {
+        say_ground(op, colours, h, w, card, s.key_bg_tolerance, &mut mask[0..n]);
         return;
     }
     let mut weights = [0.0f64; MOST_PIXELS];
-    say_cut(colours, alpha, h, w, s, &mut mask[0..n], &mut weights[0..n]);
+    say_cut(
+        op,
+        colours,
+        alpha,
+        h,
+        w,
+        card,
+        s,
+        &mut mask[0..n],
+        &mut weights[0..n],
+    );
 }
 
 // The answer for two pictures.
-fn answer_pair(a: &[f64], b: &[f64], alpha: &[u8], h: usize, w: usize, s: Settings) {
+fn answer_pair(
+    op: u8,
+    a: &[f64],
+    b: &[f64],
+    alpha: &[u8],
+    h: usize,
+    w: usize,
+    card: &[u8],
+    s: Settings,
+) {
     let n = area(h, w);
     let mut first = [0u8; MOST_PIXELS];
     let mut second = [0u8; MOST_PIXELS];
     let mut weights = [0.0f64; MOST_PIXELS];
     say_pair(
+        op,
         a,
         b,
         alpha,
         h,
         w,
+        card,
         s,
         &mut first[0..n],
         &mut second[0..n],
@@ -683,14 +789,15 @@ fn keying_pictures(
     alpha: &mut [u8],
 ) -> usize {
     let s = settings(input, from);
+    let card = card_text(input, from, op);
     say_line(input, from);
     let next = picture(input, body, shades, levels, colours, alpha);
-    if op != b'P' {
-        answer(op, colours, alpha, h, w, s);
+    if (op != b'P') & (op != b'p') {
+        answer(op, colours, alpha, h, w, card, s);
         return next;
     }
     let end = picture(input, next, shades, levels, other, alpha);
-    answer_pair(colours, other, alpha, h, w, s);
+    answer_pair(op, colours, other, alpha, h, w, card, s);
     end
 }
 

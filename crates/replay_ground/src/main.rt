@@ -1,4 +1,5 @@
-// Replays mask.rs's answers of ground: stdin has the cases, stdout what mask.rs answered.
+// Replays mask.rs's answers of ground: stdin has the cases, stdout what mask.rs answered. The last cases have the card's colour,
+// and were answered by mask.rs's label4 with that colour for the median.
 fn main() {
     replay::run();
 }
