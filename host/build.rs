@@ -163,7 +163,7 @@ fn the_digits(mask_rs: &Path, out: &Path) {
     );
     let (Some(rgb), Some(hex)) = cut else {
         println!(
-            "cargo:warning={} and {} do not have the functions that read a colour: the comparison of \
+            "cargo:warning=the functions that read a colour are not in {} and {}: the comparison of \
              its text with them is left out",
             log.display(),
             color.display()

@@ -7,8 +7,10 @@
 //! CUTS pictures of at most MOST pixels go to `subject`, GROWTHS lines and strips to `unmix_fringe`
 //! (300, 100, 25 and 1 by default). The text on standard output is a module for
 //! crates/outline/proofs: test after test, each that the definitions of crates/outline give mask,
-//! weights by bits, keyed flag and crop box of mask.rs, or the refusal. The prover computes each of
-//! them; one declaration for all would be more than it computes at once.
+//! weights by bits, keyed flag and crop box of mask.rs, or the refusal. Every other picture has the
+//! card's colour given, and its second reading of mask.rs (support/reading.rs), or a text that names
+//! none. The prover computes each of them; one declaration for all would be more than it computes at
+//! once.
 
 include!(concat!(env!("OUT_DIR"), "/the_rust.rs"));
 
@@ -16,6 +18,9 @@ include!(concat!(env!("OUT_DIR"), "/the_rust.rs"));
 mod masks;
 #[path = "../../support/pictures.rs"]
 mod pictures;
+#[cfg(mask_rs)]
+#[path = "../../support/reading.rs"]
+mod reading;
 
 #[cfg(not(mask_rs))]
 fn main() {
@@ -30,10 +35,11 @@ fn main() {
 
 #[cfg(mask_rs)]
 mod with {
-    use crate::config::Config;
-    use crate::mask;
+    use crate::mask::{self, Subject};
     use crate::masks::{bools, Random};
-    use crate::pictures;
+    use crate::pictures::{self, Drawn};
+    use crate::reading;
+    use stand::Settings;
 
     const HEAD: &str = "\
 -- Small pictures, and what mask.rs says of them: the definitions say the same.
@@ -61,6 +67,10 @@ use Rattle.colour.specs.Colour.{differenceOf, closeTo, colourOk, coloursOk, rgb
 use Rattle.colour.specs.Join.{joinsOf}
 use Rattle.colour.specs.Settings.{passesOf, onOf}
 use Rattle.colour.specs.Weight.{weightOf}
+use Rattle.card.specs.declared.Card.{Card}
+use Rattle.card.specs.declared.Card.the-variants.{Border}
+use Rattle.card.specs.Hex.{hexOf, allHex}
+use Rattle.card.specs.Card.{isColourText, textChannel, textColour, cardOf}
 use Rattle.median.specs.Median.{insert, sorted, placed, lowerMiddle, upperMiddle, medianOf}
 use Rattle.outline.specs.Border.{rowPixels, innerColumn, borderList, listed, onBorder}
 use Rattle.outline.specs.Border.{channelAt, colourAt, referenceChannel, referenceOf}
@@ -68,7 +78,8 @@ use Rattle.outline.specs.Ground.{isClose, closePlane, isGround, groundFr
 use Rattle.outline.specs.Growth.{nearGround, isEdge, isShallow, isDeep, isReach, bodyFrom, joinsFrom}
 use Rattle.outline.specs.Growth.{isJoining, passOf, growthOf}
 use Rattle.outline.specs.Cut.{Cut, alphaMask, isSought, isKeyed, grownGround, cutMask, weightAt, weightsOf, cropOf, cutOf}
-use Rattle.outline.specs.Refusal.{workTests, pictureTests, cutLengths, cutRefusal}
+use Rattle.outline.specs.Refusal.{workTests, pictureTests, cutLengths, cutContents, cutRefusal}
+use Rattle.outline.specs.Calls.{cutIn}
 
 same : List ℕ → List ℕ → Bool
 same [] [] = true
@@ -96,9 +107,9 @@ rgb : ℕ → ℕ → ℕ → Rgb
 rgb r g b = record { r = f64 r; g = f64 g; b = f64 b }
 
 -- the refusal, with buffers that fit
-refused : List Float → List ℕ → ℕ → ℕ → Settings → ℕ → Bool
-refused colours alpha h w s number =
-    eqb (cutRefusal colours alpha h w s (h * w) (h * w) (roomFor h w) (roomFor h w) (roomFor h w) (roomFor h w)) number
+refused : List Float → List ℕ → ℕ → ℕ → Card → Settings → ℕ → Bool
+refused colours alpha h w card s number =
+    eqb (cutRefusal colours alpha h w card s (h * w) (h * w) (roomFor h w) (roomFor h w) (roomFor h w) (roomFor h w)) number
 
 -- a cut with this mask, these weights, this flag and this box
 isCut : Cut → List ℕ → List ℕ → Bool → List ℕ → Bool
@@ -109,9 +120,9 @@ isCut c mask weights keyed box =
     && same (c .box .y0 ∷ c .box .y1 ∷ c .box .x0 ∷ c .box .x1 ∷ []) box
 
 -- accepted, with these
-cutIs : List Float → List ℕ → ℕ → ℕ → Settings → List ℕ → List ℕ → Bool → List ℕ → Bool
-cutIs colours alpha h w s mask weights keyed box =
-    refused colours alpha h w s 0 && isCut (cutOf colours alpha h w (referenceOf colours h w) s) mask weights keyed box
+cutIs : List Float → List ℕ → ℕ → ℕ → Card → Settings → List ℕ → List ℕ → Bool → List ℕ → Bool
+cutIs colours alpha h w card s mask weights keyed box =
+    refused colours alpha h w card s 0 && isCut (cutIn colours alpha h w card s) mask weights keyed box
 
 growthIs : List Float → Rgb → ℕ → ℕ → ℕ → List ℕ → List ℕ → Bool
 growthIs colours reference h w p back grown = same (growthOf colours reference h w p back) grown
@@ -126,7 +137,8 @@ growthIs colours reference h w p back grown = same (growthOf colours reference h
         rowPixels innerColumn borderList listed onBorder channelAt colourAt referenceChannel referenceOf isClose \
         closePlane isGround groundFrom groundOf countOn foundFrom isFound nearGround isEdge isShallow isDeep isReach \
         bodyFrom joinsFrom isJoining passOf growthOf alphaMask isSought isKeyed grownGround cutMask weightAt weightsOf \
-        cropOf cutOf workTests pictureTests cutLengths cutRefusal lt le eq add sub mul div neg ofInt ofBits toBits";
+        cropOf cutOf workTests pictureTests cutLengths cutContents cutRefusal hexOf allHex isColourText textChannel \
+        textColour cardOf lt le eq add sub mul div neg ofInt ofBits toBits";
 
     fn list<T: std::fmt::Display>(of: impl IntoIterator<Item = T>) -> String {
         let mut text = String::from("(");
@@ -164,6 +176,8 @@ growthIs colours reference h w p back grown = same (growthOf colours reference h
         joined: u32,
         deep: u32,
         beyond: u32,
+        colours: u32,
+        texts: u32,
     }
 
     /// An object of few colours on a card, opaque for the most part.
@@ -191,8 +205,8 @@ growthIs colours reference h w p back grown = same (growthOf colours reference h
         drawn.settings.key_bg_tolerance = [0.0, -0.0, 0.03125, 0.0625][random.below(4)];
     }
 
-    /// Settings with small numbers of passes; any of the others.
-    fn cut(random: &mut Random, most: usize, count: &mut Count) -> String {
+    /// A picture with small numbers of passes and any other settings.
+    fn picture(random: &mut Random, most: usize) -> Drawn {
         let object = random.below(2) == 0;
         let (h, w) = loop {
             let least = if object { 5 } else { 1 };
@@ -212,49 +226,101 @@ growthIs colours reference h w p back grown = same (growthOf colours reference h
         if random.below(2) == 0 && !settings.key_bg_tolerance.is_finite() {
             settings.key_bg_tolerance = 0.03125;
         }
-        let config = Config {
-            alpha_threshold: settings.alpha_threshold,
-            key_bg: settings.key_bg,
-            key_bg_fringe: settings.key_bg_fringe,
-            key_bg_tolerance: settings.key_bg_tolerance,
-            crop_to_alpha: settings.crop_to_alpha,
+        drawn
+    }
+
+    /// A text for the card's colour, in one picture of eight one that names none.
+    fn text(random: &mut Random, drawn: &Drawn) -> String {
+        let bytes = pictures::card_colour(random, &drawn.colours, drawn.h, drawn.w);
+        let good = pictures::text_of(random, bytes);
+        match random.below(8) {
+            0 => match random.below(4) {
+                0 => String::new(),
+                1 => good[1..].into(),
+                2 => format!("#{good}"),
+                _ => format!("{}g", &good[1..]),
+            },
+            _ => good,
+        }
+    }
+
+    /// The arguments that a picture, its card and its settings are.
+    fn arguments(drawn: &Drawn, given: Option<&str>) -> String {
+        let Settings {
+            alpha_threshold,
+            key_bg,
+            key_bg_fringe,
+            key_bg_tolerance,
+            crop_to_alpha,
+        } = drawn.settings;
+        let card = match given {
+            Some(text) => format!("(cardOf {})", list(text.bytes())),
+            None => "Border".into(),
         };
-        let given = format!(
-            "{} {} {h} {w} (settings {} {} {} {} {})",
+        format!(
+            "{} {} {} {} {card} (settings {} {key_bg} {} {} {crop_to_alpha})",
             floats(&drawn.colours),
             list(&drawn.alpha),
-            integer(config.alpha_threshold),
-            config.key_bg,
-            integer(config.key_bg_fringe),
-            config.key_bg_tolerance.to_bits(),
-            config.crop_to_alpha
-        );
-        match mask::subject(&drawn.colours, &drawn.alpha, h, w, &config) {
-            Err(_) => {
-                count.refused += 1;
-                format!("refused {given} 6")
-            }
-            Ok(theirs) => {
-                let ground = pictures::ground(&drawn.colours, h, w, config.key_bg_tolerance);
-                let grown = (0..h * w).any(|i| !theirs.mask[i] && ground[i] == 0);
-                count.keyed += theirs.background_keyed as u32;
-                count.grown += (theirs.background_keyed && grown) as u32;
-                count.full += theirs.mask.iter().all(|&m| m) as u32;
-                count.partial += drawn
-                    .alpha
-                    .iter()
-                    .any(|&a| (a as i64) < config.alpha_threshold)
-                    as u32;
-                let (y0, y1, x0, x1) = theirs.crop;
-                format!(
-                    "cutIs {given} {} {} {} {}",
-                    masked(&theirs.mask),
-                    list(theirs.weight.iter().map(|w| w.to_bits())),
-                    theirs.background_keyed,
-                    list([y0, y1, x0, x1])
-                )
-            }
+            drawn.h,
+            drawn.w,
+            integer(alpha_threshold),
+            integer(key_bg_fringe),
+            key_bg_tolerance.to_bits(),
+        )
+    }
+
+    fn counted(count: &mut Count, drawn: &Drawn, given: Option<&str>, theirs: &Subject) {
+        let Drawn { colours, h, w, .. } = drawn;
+        let reference = pictures::reference_by(given, colours, *h, *w);
+        let tolerance = drawn.settings.key_bg_tolerance;
+        let ground = pictures::ground_by(reference, colours, *h, *w, tolerance);
+        let grown = (0..h * w).any(|i| !theirs.mask[i] && ground[i] == 0);
+        let partial = |&a: &u8| (a as i64) < drawn.settings.alpha_threshold;
+        count.keyed += theirs.background_keyed as u32;
+        count.grown += (theirs.background_keyed && grown) as u32;
+        count.full += theirs.mask.iter().all(|&m| m) as u32;
+        count.partial += drawn.alpha.iter().any(partial) as u32;
+        count.colours += (given.is_some() && theirs.background_keyed) as u32;
+    }
+
+    /// What mask.rs says of a picture, or of one with a given colour its second reading; nothing where
+    /// no alpha reaches the threshold.
+    fn subject(drawn: &Drawn, given: Option<&str>) -> Option<Subject> {
+        let Drawn {
+            colours,
+            alpha,
+            h,
+            w,
+            settings,
+        } = drawn;
+        match given {
+            Some(text) => reading::subject(pictures::colour_of(text), &drawn.picture(), settings),
+            None => mask::subject(colours, alpha, *h, *w, &reading::config(settings)).ok(),
         }
+    }
+
+    fn cut(random: &mut Random, most: usize, with_colour: bool, count: &mut Count) -> String {
+        let drawn = picture(random, most);
+        let given = with_colour.then(|| text(random, &drawn));
+        let given = given.as_deref();
+        let arguments = arguments(&drawn, given);
+        if given.is_some_and(|text| stand::CardColour::new(text).bytes().is_none()) {
+            count.texts += 1;
+            return format!("refused {arguments} 11");
+        }
+        let Some(theirs) = subject(&drawn, given) else {
+            count.refused += 1;
+            return format!("refused {arguments} 6");
+        };
+        counted(count, &drawn, given, &theirs);
+        let (y0, y1, x0, x1) = theirs.crop;
+        format!(
+            "cutIs {arguments} {} {} {} {}",
+            masked(&theirs.mask),
+            list(theirs.weight.iter().map(|w| w.to_bits())),
+            theirs.background_keyed,
+            list([y0, y1, x0, x1])
+        )
     }
 
     /// A line or a strip that has room for deep pixels, with the background at its left end and
@@ -312,20 +378,22 @@ growthIs colours reference h w p back grown = same (growthOf colours reference h
         print!("{HEAD}");
         for i in 0..cuts + growths {
             let test = match i < cuts {
-                true => cut(&mut random, most, &mut count),
+                true => cut(&mut random, most, i % 2 == 1, &mut count),
                 false => growth(&mut random, &mut count),
             };
             println!("\nt{i} : T ({test})\n{UNFOLDING}\nt{i} = tt");
         }
         eprintln!(
             "{cuts} pictures of at most {most} pixels: {} refused for alpha, {} of partial alpha, {} \
-             keyed, of which {} grown, {} full; {} growths: {} with a join, {} with deep pixels, {} \
+             keyed, of which {} grown, {} full; {} keyed by a given colour, {} refused for its text; {} growths: {} with a join, {} with deep pixels, {} \
              with an edge pixel beyond 36 of them",
             count.refused,
             count.partial,
             count.keyed,
             count.grown,
             count.full,
+            count.colours,
+            count.texts,
             count.growths,
             count.joined,
             count.deep,
