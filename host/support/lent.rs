@@ -148,7 +148,24 @@ impl CutLent {
         out
     }
 
-    /// The answer, refused or not, with mask and weights.
+    /// What a call of the cut answers, refused or not, with mask and weights.
+    fn cut_by(
+        &mut self,
+        n: usize,
+        call: impl FnOnce(&mut Work, &mut [u8], &mut [f64]) -> StandCut,
+    ) -> (StandCut, &[u8], &[f64]) {
+        let (mask, weights) = (&mut self.mask[..n], &mut self.weights[..n]);
+        let mut work = Work {
+            nearest: &mut self.nearest,
+            shallow: &mut self.shallow,
+            deep: &mut self.deep,
+            marks: &mut self.marks,
+        };
+        let answer = call(&mut work, mask, weights);
+        (answer, mask, weights)
+    }
+
+    /// The answer of the cut.
     pub fn cut(
         &mut self,
         colours: &[f64],
@@ -157,15 +174,9 @@ impl CutLent {
         w: usize,
         settings: Settings,
     ) -> (StandCut, &[u8], &[f64]) {
-        let (mask, weights) = (&mut self.mask[..h * w], &mut self.weights[..h * w]);
-        let mut work = Work {
-            nearest: &mut self.nearest,
-            shallow: &mut self.shallow,
-            deep: &mut self.deep,
-            marks: &mut self.marks,
-        };
-        let answer = raw::cut(colours, alpha, h, w, settings, &mut work, mask, weights);
-        (answer, mask, weights)
+        self.cut_by(h * w, |work, mask, weights| {
+            raw::cut(colours, alpha, h, w, settings, work, mask, weights)
+        })
     }
 
     /// The same with the card's colour.
@@ -178,17 +189,9 @@ impl CutLent {
         text: impl AsRef<[u8]>,
         settings: Settings,
     ) -> (StandCut, &[u8], &[f64]) {
-        let (mask, weights) = (&mut self.mask[..h * w], &mut self.weights[..h * w]);
-        let mut work = Work {
-            nearest: &mut self.nearest,
-            shallow: &mut self.shallow,
-            deep: &mut self.deep,
-            marks: &mut self.marks,
-        };
         let text = text.as_ref();
-        let answer = raw::cut_with_colour(
-            colours, alpha, h, w, text, settings, &mut work, mask, weights,
-        );
-        (answer, mask, weights)
+        self.cut_by(h * w, |work, mask, weights| {
+            raw::cut_with_colour(colours, alpha, h, w, text, settings, work, mask, weights)
+        })
     }
 }

@@ -143,27 +143,8 @@ fn calls_on_pictures() {
                 (refusal, out)
             });
             assert_eq!(refusal, 0);
-            let (cut, ..) = same_in_little(&shown("cut"), || {
-                let mut nearest = room(h, w, 7);
-                let [mut shallow, mut deep, mut marks] = [1, 2, 3].map(|i| room(h, w, i));
-                let mut work = Work {
-                    nearest: &mut nearest,
-                    shallow: &mut shallow,
-                    deep: &mut deep,
-                    marks: &mut marks,
-                };
-                let (mut mask, mut weights) = (vec![7; n], vec![7.5; n]);
-                let answer = raw::cut(
-                    colours,
-                    &alpha,
-                    h,
-                    w,
-                    settings,
-                    &mut work,
-                    &mut mask,
-                    &mut weights,
-                );
-                (answer, mask, weights)
+            let cut = cut_in_little(&shown("cut"), h, w, |work, mask, weights| {
+                raw::cut(colours, &alpha, h, w, settings, work, mask, weights)
             });
             assert_eq!(cut.refusal, 0);
             keyed += cut.keyed as u32;
@@ -177,6 +158,29 @@ fn calls_on_pictures() {
     );
     std::io::stderr().write_all(line.as_bytes()).unwrap();
     assert!(keyed.min(coloured) >= 4, "hardly a picture was keyed");
+}
+
+/// What a call of the cut answers in little stack, with mask and weights as in plenty.
+fn cut_in_little(
+    what: &str,
+    h: usize,
+    w: usize,
+    call: impl Fn(&mut Work, &mut [u8], &mut [f64]) -> StandCut + Sync,
+) -> StandCut {
+    let (answer, ..) = same_in_little(what, || {
+        let mut nearest = room(h, w, 7);
+        let [mut shallow, mut deep, mut marks] = [1, 2, 3].map(|i| room(h, w, i));
+        let mut work = Work {
+            nearest: &mut nearest,
+            shallow: &mut shallow,
+            deep: &mut deep,
+            marks: &mut marks,
+        };
+        let (mut mask, mut weights) = (vec![7; h * w], vec![7.5; h * w]);
+        let answer = call(&mut work, &mut mask, &mut weights);
+        (answer, mask, weights)
+    });
+    answer
 }
 
 /// Ground and cut with the card's colour, which is the white of the pictures here.
@@ -196,28 +200,8 @@ fn with_colour(
         (answer, out)
     });
     assert_eq!(ground.refusal, 0);
-    let (cut, ..) = same_in_little(&shown("cut with colour"), || {
-        let mut nearest = room(h, w, 7);
-        let [mut shallow, mut deep, mut marks] = [1, 2, 3].map(|i| room(h, w, i));
-        let mut work = Work {
-            nearest: &mut nearest,
-            shallow: &mut shallow,
-            deep: &mut deep,
-            marks: &mut marks,
-        };
-        let (mut mask, mut weights) = (vec![7; n], vec![7.5; n]);
-        let answer = raw::cut_with_colour(
-            colours,
-            &alpha,
-            h,
-            w,
-            text,
-            settings,
-            &mut work,
-            &mut mask,
-            &mut weights,
-        );
-        (answer, mask, weights)
+    let cut = cut_in_little(&shown("cut with colour"), h, w, |work, mask, weights| {
+        raw::cut_with_colour(colours, &alpha, h, w, text, settings, work, mask, weights)
     });
     assert_eq!(cut.refusal, 0);
     assert_eq!(cut.keyed, ground.found);

@@ -42,9 +42,8 @@ asked c = c .before .before
 
 reference-on-requires : tie.Need-reference-on-requires
 reference-on-requires c κs =
-    let p = at-start (asked (c .before .before)) .pre in
-    let k = p .0 in
-    (record { sides = k .sides; input = k .colours-long; range = k .range; room = k .nearest-long }, p .1 .1)
+    let k = at-start (asked (c .before .before)) .pre .0 in
+    (record { sides = k .sides; input = k .colours-long; range = k .range; room = k .nearest-long }, search needs)
 
 key-requires : tie.Need-key-requires
 key-requires c κs =

@@ -1,6 +1,5 @@
 -- `keying::flat_background` meets its contract.
 -- Assumes nothing.
-use mathlib.Core.Path.{refl, sym, _∙_}
 use borrow.Author.Needs.{needs}
 use Rattle.keying.proofs.Accepted.{ground-wrong-lengths}
 use Rattle.keying.proofs.flat_background.Statement.{statement}
@@ -13,18 +12,13 @@ returns c =
     ground-wrong-lengths (a .colours .now) (a .h) (a .w) _ (a .tolerance) (a .work .now) (a .out .now) _
     (n .ground-lengths .ensures) (c .if1 .taken)
 
-ground-on-requires : tie.Need-ground-on-requires
-ground-on-requires c κs =
-    let accepted = c .before .before in
-    (sym (accepted .before .ground-lengths .ensures) ∙ accepted .if1 .left, refl)
-
 pub flat-background-spec : {M : Type 1} → statement M
 flat-background-spec =
     tie.close
     (tie.spec
     (λ c κs. search needs)
     returns
-    ground-on-requires
+    (λ c κs. search needs)
     (λ c. search needs)
     (λ c. search needs)
-    (λ c. c .before .before .before .before .ground-on .ensures))
+    (λ c. search needs))

@@ -1,6 +1,5 @@
 -- `keying::subject` meets its contract.
 -- Assumes nothing.
-use mathlib.Core.Path.{refl, sym, _∙_}
 use borrow.Author.Needs.{needs}
 use Rattle.colour.proofs.Range.{is}
 use Rattle.keying.proofs.Accepted.{cut-wrong-lengths}
@@ -24,18 +23,13 @@ returns c =
     }) _ (n .cut-lengths .ensures) (c .if1 .taken)
     (record { picture = λ i l. known .shared-slice-known .given i; tolerance = is _ (start .good .1 .1 .1 .1 .0 .1 .1 .1 .1 .1 .0 .1) })
 
-cut-on-requires : tie.Need-cut-on-requires
-cut-on-requires c κs =
-    let accepted = c .before .before .before .before .before .before in
-    (sym (accepted .before .cut-lengths .ensures) ∙ accepted .if1 .left, refl)
-
 pub subject-spec : {M : Type 1} → statement M
 subject-spec =
     tie.close
     (tie.spec
     (λ c κs. search needs)
     returns
-    cut-on-requires
+    (λ c κs. search needs)
     (λ c. search needs)
     (λ c. search needs)
     (λ c. search needs)
