@@ -10,6 +10,7 @@ use Rattle.plane.specs.Refusal.{after}
 use Rattle.nearest.specs.Nearest.{rowsPlane, columnsPlane, distancePlane}
 use Rattle.labels.specs.Labels.{parts, labelsPlane}
 use Rattle.squares.specs.Squares.{squaresPlane}
+use Rattle.squares.specs.Work.{BitOrOld}
 use Rattle.geometry.specs.declared.Answer.{Answer}
 use Rattle.geometry.specs.declared.Labelled.{Labelled}
 use Rattle.geometry.specs.Answer.{answerFor, labelledFor}
@@ -46,9 +47,10 @@ pub record PlaneCalled (refusal : ℕ) (new work out : List ℕ) (r : Answer) (w
   pub out-is : out′ ≡ after refusal new out
   pub kept : (refusal ≡ 0 → ⊥) → work′ ≡ work
 
--- binary_dilation8: the mask dilated by a square (R8, R9)
-abbrev pub SquaresCalled : List ℕ → ℕ → ℕ → ℕ → List ℕ → List ℕ → Answer → List ℕ → List ℕ → Type 0
-SquaresCalled mask h w iterations work out = PlaneCalled (planeRefusalIn mask h w work out) (squaresPlane mask h w iterations) work out
+-- binary_dilation8: the mask dilated by a square (R8, R9); every place of the work buffer holds afterwards 0, 1 or its old number (R88)
+pub record SquaresCalled (mask : List ℕ) (h w iterations : ℕ) (work out : List ℕ) (r : Answer) (work′ out′ : List ℕ) : Type 0 where
+  pub called : PlaneCalled (planeRefusalIn mask h w work out) (squaresPlane mask h w iterations) work out r work′ out′
+  pub places : BitOrOld work work′
 
 -- square_distance: dy² + dx² of each pixel from its nearest on-pixel (R13)
 abbrev pub DistanceCalled : List ℕ → ℕ → ℕ → List ℕ → List ℕ → Answer → List ℕ → List ℕ → Type 0

@@ -15,7 +15,7 @@ use Rattle.plane.proofs.Search.{which, some-found, some-is, and-is}
 use Rattle.plane.proofs.Plane.{plane-length}
 use Rattle.plane.proofs.Refusal.{and-true}
 use Rattle.squares.specs.Squares.{larger, reach, inSquare, squaresPlane}
-use Rattle.squares.specs.steps.Window.{radiusOf}
+use Rattle.squares.specs.steps.Radius.{radiusOf}
 
 -- ---- the larger side and the k that is used
 

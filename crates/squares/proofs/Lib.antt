@@ -1,5 +1,3 @@
 pub mod Cases
-pub mod Count
 pub mod Laws
-pub mod Line
 pub mod Passes

@@ -1,2 +1,3 @@
 pub mod Squares
+pub mod Work
 pub mod steps

@@ -7,7 +7,7 @@ use lib.ListN.{drop}
 use borrow.Author.Needs.{needs}
 use Rattle.plane.specs.steps.Sides.{longestSide}
 use Rattle.squares.proofs.Laws.{larger-least, radius-most}
-use Rattle.squares.proofs.Passes.{between-bits, passes-are}
+use Rattle.squares.proofs.Passes.{passes-are, work-kept}
 use Rattle.squares.proofs.dilate.Statement.{statement}
 use Rattle.squares.proofs.dilate.Tie as tie
 
@@ -20,41 +20,34 @@ near c =
     omega (arith, c .radius .ensures, radius-most (a .h) (a .w) (a .iterations))
 
 abbrev at-start : tie.After-dilate-rows → tie.Start
-at-start c = c .before .before .before .before .before .before .before
+at-start c = c .before .before .before .before .before .before
 
 dilate-rows-requires : tie.Need-dilate-rows-requires
 dilate-rows-requires c κs =
-    let o = c .before .before .before .before .before .before in
-    record {
-      sides = o .pre .sides;
-      near = near (c .before .before);
-      mask-size = o .pre .mask-size;
-      out-size = o .pre .out-size;
-      work-size = o .pre .work-size;
-    }
+    let o = c .before .before .before .before .before in
+    record { sides = o .pre .sides; near = near (c .before); mask-size = o .pre .mask-size; out-size = o .pre .work-size }
 
 dilate-columns-requires : tie.Need-dilate-columns-requires
 dilate-columns-requires c κs =
-    let r = c .before .before .before .before .before .before in
+    let r = c .before .before .before .before in
     let o = at-start r in
-    let a = o .args in
-    let call = r .dilate-rows in (
-      record {
-        tall = o .pre .sides .tall;
-        size = omega (arith, call .kept .1 .1 .1 .1 .1 .0, o .pre .work-size);
-        bits =
-            between-bits (a .mask .now) (drop (a .h * a .w) (a .work .now)) (a .h) (a .w) _ (call .ensures)
-            (o .pre .sides .some-columns);
-      },
-      (near (r .before .before .before), call .kept .1 .1 .1 .1 .0 ∙ o .pre .out-size),
-    )
+    record {
+      sides = o .pre .sides;
+      near = near (r .before .before);
+      size = omega (arith, r .dilate-rows .kept .1 .1 .1 .1 .0, o .pre .work-size);
+      out-size = o .pre .out-size;
+    }
 
 returns : tie.Need-returns
 returns c =
-    let r = c .before .before .before .before .before .before .before .before .before in
-    let a = at-start r .args in
-    passes-are (a .mask .now) (drop (a .h * a .w) (a .work .now)) (a .h) (a .w) (a .iterations)
-    (r .before .before .before .radius .ensures) (r .dilate-rows .ensures) (c .before .before .dilate-columns .ensures)
+    let r = c .before .before .before .before .before .before .before in
+    let o = at-start r in
+    let a = o .args in
+    let rows = r .dilate-rows in (
+      passes-are (a .mask .now) (drop (a .h * a .w) (a .work .now)) (a .h) (a .w) (a .iterations) (r .before .before .radius .ensures)
+          (rows .ensures) (c .before .before .dilate-columns .ensures),
+      work-kept (a .mask .now) (a .h) (a .w) _ (rows .ensures) (rows .kept .1 .1 .1 .1 .0) (o .pre .sides .some-columns),
+    )
 
 pub dilate-spec : {M : Type 1} → statement M
 dilate-spec =

@@ -1,0 +1,175 @@
+-- Laws of the pass down the columns: the counts of a strip, and the plane that is written.
+-- Assumes nothing.
+use mathlib.Core.Path.{_≡_, refl, sym, ap, _∙_}
+use mathlib.Core.Bool.{Bool, true, false, _&&_}
+use mathlib.Core.List.{List}
+use mathlib.Core.Logic.{⊎-elim}
+use Prim.Native.Nat.{ℕ, zero, suc, _+_, _*_, _-_, _≤_, _<_}
+use native.Mathlib.Numerals.{add-one}
+use native.Mathlib.Omega.{arith}
+use lib.Dec.{ltb}
+use lib.ListN.{length, getD, take, drop}
+use borrow.Rule.Slice.PartMut.{putMid}
+use Rattle.plane.specs.Plane.{on, bit, onAt, table}
+use Rattle.plane.specs.Mask.{isOn, maskOf}
+use Rattle.plane.specs.steps.Sides.{longestSide}
+use Rattle.plane.proofs.Search.{which}
+use Rattle.plane.proofs.Plane.{row-in, table-length, table-at, plane-is}
+use Rattle.plane.proofs.Mask.{mask-at}
+use Rattle.counts.specs.Running.{enters, leaves, running}
+use Rattle.counts.specs.steps.Parts.{fullByte, restOf, changed, movedLine, Split}
+use Rattle.column_counts.specs.steps.Columns.{onDown, columnByte, dilatedColumns, balancedLow, balancedRest}
+use Rattle.column_counts.specs.steps.Columns.{Balanceable, Counted, Swept}
+use Rattle.counts.proofs.Counting.{leaves-held, running-count, window-some}
+use Rattle.counts.proofs.Parts.{split-new, split-later, split-enter, split-leave, split-test}
+use Rattle.counts.proofs.Put.{part-at, put-length, put-front, put-part, put-back}
+
+-- ---- rows that enter and leave
+
+-- n columns of row j from column c on end within the plane
+pub strip-in : (j c n h w : ℕ) → j < h → c + n ≤ w → j * w + c + n ≤ h * w
+strip-in j c n h w a b = omega (arith, row-in j h w a)
+
+-- the bytes after row j has moved: its part from column c on has the pixels of these columns
+pub row-moved : (plane low : List ℕ) (j w c change x : ℕ) → x < length low
+    → let s = j * w + c in
+    getD (movedLine (take (s + length low - s) (drop s plane)) change low) x 0
+    ≡ changed (getD low x 0) (onDown plane w (c + x) j) change
+unfolding movedLine isOn onAt
+row-moved plane low j w c change x l =
+    let s = j * w + c in
+    let line = take (s + length low - s) (drop s plane) in
+    let i : s + x ≡ j * w + (c + x) = omega arith in
+    let pixel : getD line x 0 ≡ getD plane (j * w + (c + x)) 0 =
+    part-at plane s (s + length low - s) x (omega arith) ∙ ap (λ (y : ℕ). getD plane y 0) i in
+    table-at (λ (y : ℕ). changed (getD low y 0) (on (getD line y 0)) change) (length low) x 0 l
+    ∙ ap (λ (v : ℕ). changed (getD low x 0) (on v) change) pixel
+
+-- ---- the counts of a strip
+
+module _ {value : ℕ → ℕ} {t : ℕ} {low rest : List ℕ} (n : Counted value t low rest) where
+  pub counted-later : {u : ℕ} → t ≤ u → Counted value u low rest
+  counted-later {u} l = record { size = n .size; each = λ x g. split-later (n .each x g) u l }
+
+  -- the same counts under another name
+  pub counted-as : {other : ℕ → ℕ} → ((x : ℕ) → x < length low → value x ≡ other x) → Counted other t low rest
+  counted-as e = record { size = n .size; each = λ x g. rw (sym (e x g)) (n .each x g) }
+
+  -- where no count is above the longest side, they can be balanced
+  pub counted-small : ((x : ℕ) → x < length low → value x ≤ longestSide) → Balanceable low rest
+  counted-small f = record { size = n .size; small = λ x l. omega (arith, n .each x l .sum, f x l) }
+
+  -- balanced
+  pub counted-new : {low′ rest′ : List ℕ} → low′ ≡ balancedLow low rest → rest′ ≡ balancedRest low rest → Counted value 0 low′ rest′
+  unfolding balancedLow balancedRest
+  counted-new {low′} {rest′} p q =
+      let f : ℕ → ℕ = λ (x : ℕ). fullByte (getD low x 0 + getD rest x 0) in
+      let g : ℕ → ℕ = λ (x : ℕ). restOf (getD low x 0 + getD rest x 0) in
+      let a : length low′ ≡ length low = ap length p ∙ table-length f 0 (length low) in
+      record {
+        size = ap length q ∙ table-length g 0 (length low) ∙ sym a;
+        each =
+            λ x l.
+            let i : x < length low = omega arith in
+            let u : getD low′ x 0 ≡ f x = ap (λ (v : List ℕ). getD v x 0) p ∙ table-at f (length low) x 0 i in
+            let v : getD rest′ x 0 ≡ g x = ap (λ (v : List ℕ). getD v x 0) q ∙ table-at g (length low) x 0 i in
+            rw (u, v, n .each x i .sum) (split-new (value x));
+      }
+
+  module _ (moves : ℕ → Bool) {low′ : List ℕ} (size : length low′ ≡ length low) (few : t ≤ 126) where
+    -- a row enters,
+    pub counted-enter : ((x : ℕ) → x < length low → getD low′ x 0 ≡ changed (getD low x 0) (moves x) 1)
+        → Counted (λ (x : ℕ). value x + bit (moves x)) (t + 1) low′ rest
+    counted-enter e =
+        record {
+          size = n .size ∙ sym size;
+          each = λ x l. (let i : x < length low = omega arith in rw (e x i) (split-enter (n .each x i) (moves x) few));
+        }
+
+    -- or leaves
+    pub counted-leave : ((x : ℕ) → x < length low → getD low′ x 0 ≡ changed (getD low x 0) (moves x) 255)
+        → ((x : ℕ) → x < length low → bit (moves x) ≤ value x) → Counted (λ (x : ℕ). value x - bit (moves x)) (t + 1) low′ rest
+    counted-leave e held =
+        record {
+          size = n .size ∙ sym size;
+          each = λ x l. (let i : x < length low = omega arith in rw (e x i) (split-leave (n .each x i) (moves x) few (held x i)));
+        }
+
+-- the bytes tell whether the window of row y has an on-pixel
+pub column-tested : (plane : List ℕ) (h w k c y : ℕ) {low rest : List ℕ} {t : ℕ}
+    → Counted (λ (x : ℕ). running h k (onDown plane w (c + x)) (y + 1)) t low rest → t ≤ 127 → y < h → (x : ℕ) → x < length low
+    → getD (maskOf (length low) (isOn low)) x 0 ≡ columnByte plane h w k y (c + x)
+unfolding isOn
+column-tested plane h w k c y {low} n l m x g =
+    let p = onDown plane w (c + x) in
+    mask-at (length low) (isOn low) x g
+    ∙ ap bit (split-test (n .each x g) l ∙ ap (ltb 0) (ap (running h k p) (add-one y) ∙ running-count h k p y m) ∙ window-some k y p h)
+
+-- ---- the plane that is written, row by row of a strip
+
+-- row y of the strip is put into its place
+module _ {plane new : List ℕ} {h w k c n y : ℕ} (t : Swept plane h w k c (c + n) y new) (inside : c + n ≤ w) (low : y < h) (row : List ℕ)
+    (long : length row ≡ n) (each : (x : ℕ) → x < n → getD row x 0 ≡ columnByte plane h w k y (c + x)) where
+  abbrev s : ℕ
+  s = y * w + c
+
+  abbrev put : List ℕ
+  put = putMid s (s + n - s) new row
+
+  -- elsewhere the plane is as it was
+  elsewhere : (j x : ℕ) → x < w → (j ≡ y → x < c) → getD put (j * w + x) 0 ≡ getD new (j * w + x) 0
+  elsewhere j x l d =
+      let room = strip-in y c n h w low inside in
+      let fits : s + n ≤ length new = omega (arith, t .size) in
+      ⊎-elim {C = getD put (j * w + x) 0 ≡ getD new (j * w + x) 0}
+      (λ (a : y < j). (let r = row-in y j w a in put-back s (s + n) new row fits (omega arith) (j * w + x) (omega arith)))
+      (λ (a : j ≤ y).
+      put-front s (s + n) new row fits (omega arith) (j * w + x)
+      (⊎-elim {C = j * w + x < s}
+      (λ (b : j < y). (let r = row-in j y w b in omega arith))
+      (λ (b : y ≤ j). (let e : j ≡ y = omega arith in let g = d e in rw e (omega arith)))
+      (which j y)))
+      (which y j)
+
+  pub row-swept : Swept plane h w k c (c + n) (y + 1) put
+  row-swept =
+      let fits : s + n ≤ length new = omega (arith, strip-in y c n h w low inside, t .size) in
+      record {
+        size = put-length s (s + n) new row fits (omega arith) ∙ t .size;
+        before = λ j x l g. elsewhere j x (omega arith) (λ e. g) ∙ t .before j x l g;
+        done = λ j x l g. done j x (omega arith) g;
+      }
+    where
+      done : (j x : ℕ) → j ≤ y → x < c + n → getD put (j * w + x) 0 ≡ columnByte plane h w k j x
+      done j x l g =
+          ⊎-elim {C = getD put (j * w + x) 0 ≡ columnByte plane h w k j x}
+          (λ (a : x < c). elsewhere j x (omega arith) (λ e. a) ∙ t .before j x (omega arith) a)
+          (λ (a : c ≤ x).
+          ⊎-elim {C = getD put (j * w + x) 0 ≡ columnByte plane h w k j x}
+          (λ (b : j < y). elsewhere j x (omega arith) (λ e. absurd (omega arith)) ∙ t .done j x b g)
+          (λ (b : y ≤ j).
+          let e : j ≡ y = omega arith in
+          let i : c + (x - c) ≡ x = omega arith in
+          let q : s + (x - c) ≡ y * w + x = omega arith in
+          let fits : s + n ≤ length new = omega (arith, strip-in y c n h w low inside, t .size) in
+          let z = put-part s (s + n) new row fits (omega arith) (x - c) (omega arith) ∙ each (x - c) (omega arith) in
+          rw e (rw (q, i) at z))
+          (which j y))
+          (which x c)
+
+-- before the first strip
+pub none-swept : {plane new : List ℕ} {h w k : ℕ} → length new ≡ h * w → Swept plane h w k 0 0 0 new
+none-swept e = record { size = e; before = λ y x l m. absurd (omega arith); done = λ y x l m. absurd (omega arith) }
+
+-- a strip is written, so the columns to its end are
+pub strip-swept : {plane new : List ℕ} {h w k c d e : ℕ} → Swept plane h w k c d h new → d ≡ e → Swept plane h w k e e 0 new
+strip-swept {e = e} t q = record {
+  size = t .size;
+  before = λ y x l m. t .done y x l (omega arith);
+  done = λ y x l m. absurd (omega arith);
+}
+
+pub all-swept : {plane new : List ℕ} {h w k c : ℕ} → Swept plane h w k c c 0 new → w ≤ c → new ≡ dilatedColumns plane h w k
+unfolding dilatedColumns
+all-swept {plane} {new} {h} {w} {k} t l =
+    plane-is h w (λ (y x : ℕ). columnByte plane h w k y x) new 0 (t .size) (λ y x a b. t .before y x a (omega arith))

@@ -1,0 +1,55 @@
+-- `column_counts::enter_row` meets its contract.
+-- Assumes nothing.
+use mathlib.Core.Path.{sym, ap, _∙_}
+use mathlib.Core.List.{List}
+use Prim.Native.Nat.{ℕ, _+_, _*_, _≤_}
+use native.Mathlib.Omega.{arith}
+use lib.ListN.{length, getD}
+use borrow.Author.Needs.{needs}
+use borrow.Author.Tests.{lt-ltb, le-ltb}
+use Rattle.counts.proofs.Parts.{not-moved}
+use Rattle.column_counts.proofs.Strips.{strip-in, row-moved}
+use Rattle.column_counts.proofs.enter_row.Statement.{statement}
+use Rattle.column_counts.proofs.enter_row.Tie as tie
+
+-- the row lies within the plane
+row-here : (c : tie.Else1) → let a = c .before .before .before .args in a .j * a .w + a .c + length (a .low .now) ≤ length (a .plane .now)
+row-here c =
+    let o = c .before .before .before in
+    omega (arith, strip-in _ _ _ _ _ (c .if1 .left) (o .pre .inside), o .pre .size)
+
+returns : tie.Need-returns
+returns c =
+    let a = c .before .before .before .args in
+    record {
+      each =
+          λ x l.
+          rw (le-ltb (a .j) (a .h) (c .if1 .taken)) (sym (not-moved (getD (a .low .now) x 0) 1 (omega (arith, c .before .slice-known .given x))));
+    }
+
+returns-2 : tie.Need-returns-2
+returns-2 c =
+    let e = c .before .before .before .before .before in
+    let a = e .before .before .before .args in
+    let call = c .before .before .move-line in
+    record {
+      each =
+          λ x l.
+          rw (lt-ltb (a .j) (a .h) (e .if1 .left))
+          (ap (λ (u : List ℕ). getD u x 0) (call .ensures) ∙ row-moved (a .plane .now) (a .low .now) (a .j) (a .w) (a .c) 1 x l);
+    }
+
+pub enter-row-spec : {M : Type 1} → statement M
+enter-row-spec =
+    tie.close
+    (tie.spec
+    returns
+    (λ c. omega (arith, row-here c))
+    (λ c. omega (arith, row-here c))
+    (λ c. omega (arith, row-here c))
+    (λ c. search needs)
+    (λ c. search needs)
+    (λ c. omega (arith, row-here c))
+    (λ c κs. search needs)
+    (λ c. search needs)
+    returns-2)

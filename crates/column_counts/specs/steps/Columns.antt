@@ -1,0 +1,100 @@
+-- The pass down the columns, strip by strip: a running count for each column, in two parts.
+-- Assumes nothing.
+use mathlib.Core.Path.{_≡_}
+use Prim.Native.Nat.{ℕ, _+_, _*_, _≤_, _<_}
+use mathlib.Core.Bool.{Bool, _&&_}
+use mathlib.Core.List.{List}
+use lib.Dec.{ltb}
+use lib.ListN.{length, getD}
+use Rattle.plane.specs.Search.{countBelow}
+use Rattle.plane.specs.Plane.{bit, onAt, table, planeOf}
+use Rattle.plane.specs.steps.Sides.{longestSide, Sides}
+use Rattle.counts.specs.Running.{leaves}
+use Rattle.counts.specs.steps.Parts.{inWindow, fullByte, restOf, changed, Split}
+
+-- whether pixel j of column x of a plane is on
+abbrev pub onDown : List ℕ → ℕ → ℕ → ℕ → Bool
+onDown plane w x j = onAt plane w j x
+
+-- whether the window of row y holds an on-pixel in column x, as a byte
+abbrev pub columnByte : List ℕ → ℕ → ℕ → ℕ → ℕ → ℕ → ℕ
+columnByte plane h w k y x = bit (inWindow h k y (onDown plane w x))
+
+-- a plane after the pass down its columns
+unfoldable pub dilatedColumns : List ℕ → ℕ → ℕ → ℕ → List ℕ
+dilatedColumns plane h w k = planeOf h w (λ (y x : ℕ). columnByte plane h w k y x)
+
+-- ---- the counts of a strip
+
+-- n columns from column c on of the first h rows of w
+pub record Strip (plane : List ℕ) (h w c n : ℕ) : Type 0 where
+  pub tall : h ≤ longestSide
+  pub wide : w ≤ longestSide
+  pub size : h * w ≤ length plane
+  pub inside : c + n ≤ w
+
+-- bytes and rests that are the counts `value`, t moves after they were balanced
+pub record Counted (value : ℕ → ℕ) (t : ℕ) (low rest : List ℕ) : Type 0 where
+  pub size : length rest ≡ length low
+  pub each : (x : ℕ) → x < length low → Split (value x) t (getD low x 0) (getD rest x 0)
+
+-- bytes and rests that are counts of windows
+pub record Balanceable (low rest : List ℕ) : Type 0 where
+  pub size : length rest ≡ length low
+  pub small : (x : ℕ) → x < length low → getD low x 0 + getD rest x 0 ≤ longestSide
+
+-- they balanced
+unfoldable pub balancedLow : List ℕ → List ℕ → List ℕ
+balancedLow low rest = table (λ (x : ℕ). fullByte (getD low x 0 + getD rest x 0)) 0 (length low)
+
+unfoldable pub balancedRest : List ℕ → List ℕ → List ℕ
+balancedRest low rest = table (λ (x : ℕ). restOf (getD low x 0 + getD rest x 0)) 0 (length low)
+
+-- the same counts, with few enough moves for two more
+pub record Balanced (t : ℕ) (low rest : List ℕ) (u : ℕ) (low′ rest′ : List ℕ) : Type 0 where
+  pub few : u ≤ 125
+  pub kept : (value : ℕ → ℕ) → Counted value t low rest → Counted value u low′ rest′
+
+-- the bytes after row j has entered,
+pub record Entered (plane : List ℕ) (h w c j : ℕ) (low low′ : List ℕ) : Type 0 where
+  pub each : (x : ℕ) → x < length low → getD low′ x 0 ≡ changed (getD low x 0) (ltb j h && onDown plane w (c + x) j) 1
+
+-- and after the one that leaves at the step to row y has left
+pub record Leavable (plane : List ℕ) (h w c y : ℕ) (low : List ℕ) : Type 0 where
+  pub strip : Strip plane h w c (length low)
+  pub row : y ≤ h
+
+pub record Left (plane : List ℕ) (w c k y : ℕ) (low low′ : List ℕ) : Type 0 where
+  pub each : (x : ℕ) → x < length low → getD low′ x 0 ≡ changed (getD low x 0) (leaves k (onDown plane w (c + x)) y) 255
+
+-- counts of 0, and the first m rows
+pub record Fillable (plane : List ℕ) (h w c m : ℕ) (low rest : List ℕ) : Type 0 where
+  pub strip : Strip plane h w c (length low)
+  pub rows : m ≤ h
+  pub zeros : Counted (λ (x : ℕ). 0) 0 low rest
+
+-- how many of them are on in each column
+pub record Filled (plane : List ℕ) (w c m : ℕ) (low rest : List ℕ) : Type 0 where
+  pub counted : Counted (λ (x : ℕ). countBelow m (onDown plane w (c + x))) 127 low rest
+
+-- ---- strips
+
+-- in a plane that is written, the first c columns are, and of the first d columns the first r rows
+pub record Swept (plane : List ℕ) (h w k c d r : ℕ) (new : List ℕ) : Type 0 where
+  pub size : length new ≡ h * w
+  pub before : (y x : ℕ) → y < h → x < c → getD new (y * w + x) 0 ≡ columnByte plane h w k y x
+  pub done : (y x : ℕ) → y < r → x < d → getD new (y * w + x) 0 ≡ columnByte plane h w k y x
+
+-- a strip with a count of 0 for each column; the columns before it are written
+pub record Start (plane : List ℕ) (h w k c : ℕ) (low rest out : List ℕ) : Type 0 where
+  pub strip : Strip plane h w c (length low)
+  pub near : k ≤ longestSide
+  pub zeros : Counted (λ (x : ℕ). 0) 0 low rest
+  pub written : Swept plane h w k c c 0 out
+
+-- a plane with its sides and a k, and the plane that is written
+pub record ColumnPlanes (plane : List ℕ) (h w k : ℕ) (out : List ℕ) : Type 0 where
+  pub sides : Sides h w
+  pub near : k ≤ longestSide
+  pub size : h * w ≤ length plane
+  pub out-size : length out ≡ h * w

@@ -1,0 +1,148 @@
+// The pass down the columns of a plane for the dilation by squares: row by row, so that memory is read in order, with a running count
+// for each column of a strip. A strip has a fixed number of columns, however wide the plane is.
+//
+// The count of each column stands in two parts, a byte that follows every row and the rest, and is their sum.
+ghost use mathlib.Core.Path.{_≡_};
+ghost use Prim.Native.Nat.{_+_};
+ghost use lib.ListN.{length};
+ghost use Rattle.plane.specs.Mask.{isOn, maskOf};
+ghost use Rattle.column_counts.specs.steps.Columns.{dilatedColumns, balancedLow, balancedRest, Balanceable, Balanced};
+ghost use Rattle.column_counts.specs.steps.Columns.{Strip, Entered, Leavable, Left, Fillable, Filled, Start, Swept, ColumnPlanes};
+
+// How many columns a strip has at most.
+const STRIP: usize = 4096;
+
+// The parts balanced: of each count as much as is at most 128 in the byte, and the rest of it.
+fn balance(low: &mut [u8], rest: &mut [u32])
+    requires { ⌜ Balanceable (now low) (now rest) ⌝ }
+    ensures { λ _. ⌜ now (low .exit) ≡ balancedLow (now (low .entry)) (now (rest .entry)) ⌝ }
+    ensures { λ _. ⌜ now (rest .exit) ≡ balancedRest (now (low .entry)) (now (rest .entry)) ⌝ }
+{
+    let mut x = 0usize;
+    while x < low.len() {
+        let n = rest[x] + low[x] as u32;
+        let b = if n < 128 { n } else { 128 };
+        low[x] = b as u8;
+        rest[x] = n - b;
+        x += 1;
+    }
+}
+
+// The same where t rows have moved since, and two more might be too many for a byte. How many have moved since, then.
+fn balance_after(t: usize, low: &mut [u8], rest: &mut [u32]) -> usize
+    requires { ⌜ Balanceable (now low) (now rest) ⌝ }
+    ensures { λ r. ⌜ Balanced t (now (low .entry)) (now (rest .entry)) r (now (low .exit)) (now (rest .exit)) ⌝ }
+{
+    if t <= 125 {
+        return t;
+    }
+    balance(low, rest);
+    0
+}
+
+// Row j of a plane, where there is one, enters the windows of the columns from column c on,
+fn enter_row(plane: &[u8], h: usize, w: usize, c: usize, j: usize, low: &mut [u8])
+    requires { ⌜ Strip (now plane) h w c (length (now low)) ⌝ }
+    ensures { λ _. ⌜ Entered (now (plane .entry)) h w c j (now (low .entry)) (now (low .exit)) ⌝ }
+{
+    if h <= j {
+        return;
+    }
+    let s = j * w + c;
+    let e = s + low.len();
+    counts::move_line(&plane[s..e], 1, low);
+}
+
+// and the row k + 1 rows above row y, where there is one, leaves them.
+fn leave_row(plane: &[u8], h: usize, w: usize, c: usize, k: usize, y: usize, low: &mut [u8])
+    requires { ⌜ Leavable (now plane) h w c y (now low) ⌝ }
+    ensures { λ _. ⌜ Left (now (plane .entry)) w c k y (now (low .entry)) (now (low .exit)) ⌝ }
+{
+    if y <= k {
+        return;
+    }
+    let s = (y - (k + 1)) * w + c;
+    let e = s + low.len();
+    counts::move_line(&plane[s..e], 255, low);
+}
+
+// The first m rows enter the windows.
+fn enter_rows(
+    plane: &[u8],
+    h: usize,
+    w: usize,
+    c: usize,
+    m: usize,
+    low: &mut [u8],
+    rest: &mut [u32],
+)
+    requires { ⌜ Fillable (now plane) h w c m (now low) (now rest) ⌝ }
+    ensures { λ _. ⌜ Filled (now (plane .entry)) w c m (now (low .exit)) (now (rest .exit)) ⌝ }
+{
+    let mut t = 0usize;
+    let mut j = 0usize;
+    while j < m {
+        t = balance_after(t, low, rest);
+        enter_row(plane, h, w, c, j, low);
+        t += 1;
+        j += 1;
+    }
+}
+
+// A pixel is 1 where the count of its column is above 0.
+fn test_line(low: &[u8], out: &mut [u8])
+    requires { ⌜ length (now out) ≡ length (now low) ⌝ }
+    ensures { λ _. ⌜ now (out .exit) ≡ maskOf (length (now (low .entry))) (isOn (now (low .entry))) ⌝ }
+{
+    let mut x = 0usize;
+    while x < out.len() {
+        out[x] = plane::byte(low[x] != 0);
+        x += 1;
+    }
+}
+
+// Row by row down the columns from column c on, as many as there are counts: the window slides, and its counts are tested.
+fn sweep(
+    plane: &[u8],
+    h: usize,
+    w: usize,
+    k: usize,
+    c: usize,
+    low: &mut [u8],
+    rest: &mut [u32],
+    out: &mut [u8],
+)
+    requires { ⌜ Start (now plane) h w k c (now low) (now rest) (now out) ⌝ }
+    ensures { λ _. ⌜ Swept (now (plane .entry)) h w k c (c + length (now (low .entry))) h (now (out .exit)) ⌝ }
+{
+    let n = low.len();
+    let first = counts::lesser(k, h);
+    enter_rows(plane, h, w, c, first, low, rest);
+    let mut t = 127usize;
+    let mut y = 0usize;
+    while y < h {
+        t = balance_after(t, low, rest);
+        enter_row(plane, h, w, c, y + k, low);
+        leave_row(plane, h, w, c, k, y, low);
+        t += 2;
+        let s = y * w + c;
+        let e = s + n;
+        test_line(low, &mut out[s..e]);
+        y += 1;
+    }
+}
+
+// The pass down the columns, strip by strip: each pixel is 1 where its column has an on-pixel at most k away.
+pub fn dilate_columns(plane: &[u8], h: usize, w: usize, k: usize, out: &mut [u8])
+    requires { ⌜ ColumnPlanes (now plane) h w k (now out) ⌝ }
+    ensures { λ _. ⌜ now (out .exit) ≡ dilatedColumns (now (plane .entry)) h w k ⌝ }
+{
+    let mut c = 0usize;
+    while c < w {
+        let n = counts::lesser(STRIP, w - c);
+        let mut low = [0u8; STRIP];
+        let mut rest = [0u32; STRIP];
+        sweep(plane, h, w, k, c, &mut low[0..n], &mut rest[0..n], out);
+        c += n;
+    }
+}
