@@ -28,8 +28,8 @@
  *   outputs       have exactly the length of their plane, and every element of
  *                 them is written;
  *   work buffers  hold at least stand_work_len(h, w) elements. What they hold
- *                 before the call has no effect, and after an accepted call it is
- *                 not defined.
+ *                 before the call has no effect on answers and outputs, and after an
+ *                 accepted call it is not defined, but for what stand_squares says.
  * Nothing is allocated and nothing is kept after the call returns. Every call runs
  * in a thread that has 64 KiB of stack, whatever the sides are.
  *
@@ -143,6 +143,9 @@ StandLabels stand_labels(
  * is at most k rows and at most k columns away, else 0. k is the number of iterations,
  * but never more than the larger side; 0 iterations mean the larger side. An
  * empty mask stays empty.
+ *
+ * After the call each byte of the work buffer, also beyond h * w, is 0, 1 or what it was
+ * before; after a refusal it is what it was.
  *
  *   mask   input, h * w bytes
  *   work   work buffer

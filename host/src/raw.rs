@@ -276,7 +276,8 @@ pub fn labels(
     }
 }
 
-/// `stand_squares`: `work` is a work buffer, `out` an output of h × w bytes.
+/// `stand_squares`: `work` is a work buffer, `out` an output of h × w bytes. After the call each byte
+/// of `work`, also beyond h × w, is 0, 1 or what it was before; after a refusal it is what it was.
 pub fn squares(
     mask: &[u8],
     h: usize,

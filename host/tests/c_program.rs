@@ -63,6 +63,11 @@ squares 0: 1 1 1 1
 distance 0: 1 0 0 1
 fill 0: 7 8 9 4 5 6 7 8 9 7 8 9
 refused 1 2 3, 1 0 1 2 3
+work 0: 95 of 95
+work 0: 95 of 95
+work 1: 95 of 95
+work 2: 95 of 95
+work 3: 95 of 95
 ground 0 1, 1 1 1: 24
 growth 0: 24
 cut 0, keyed 1, crop 1 4 1 4: 1, weight 1

@@ -14,12 +14,13 @@ use std::path::{Path, PathBuf};
 const CALLS: [&str; 4] = ["geometry", "keying", "stand", "cutfile"];
 
 /// Theorems, by crate and name; and every public statement of these files.
-const THEOREMS: [(&str, &str); 20] = [
+const THEOREMS: [(&str, &str); 21] = [
     ("nearest", "nearest-some"),
     ("nearest", "nearest-none"),
     ("nearest", "nearest-is"),
     ("labels", "label-joined"),
     ("labels", "joined-label"),
+    ("counts", "running-count"),
     ("outline", "cases-hold"),
     ("card", "same-digits"),
     ("keying", "ground-as-before"),

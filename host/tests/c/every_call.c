@@ -9,6 +9,7 @@
 #define SIDE 5
 #define PIXELS (SIDE * SIDE)
 #define ROOM (2 * PIXELS + 2 * (SIDE + SIDE) + 16)
+#define MORE 9
 
 /* Ground and cut with the card's colour, on the same card: white is found and grey is not. A NUL that
  * is counted makes the text too long. */
@@ -94,6 +95,26 @@ static void picture(void)
     with_colour(colours, alpha);
 }
 
+/* Squares with these numbers on a plane of SIDE by SIDE. Prints how many bytes of the work buffer, which
+ * is longer than it need be, are what they were, or, after an accepted call, 0 or 1. */
+static void work_of_squares(size_t h, size_t pixels, uint64_t iterations, size_t room)
+{
+    uint8_t mask[PIXELS], out[PIXELS], work[ROOM + MORE], before[ROOM + MORE];
+    unsigned answer;
+    int i, kept = 0;
+
+    for (i = 0; i < PIXELS; i++) mask[i] = i % 6 == 0 ? 0 : 9;
+    for (i = 0; i < ROOM + MORE; i++) before[i] = 7;
+    before[3] = before[ROOM] = 0;
+    before[4] = before[ROOM + 1] = 1;
+    for (i = 0; i < ROOM + MORE; i++) work[i] = before[i];
+
+    answer = stand_squares(mask, pixels, h, SIDE, iterations, work, room, out, PIXELS);
+    for (i = 0; i < ROOM + MORE; i++)
+        kept += work[i] == before[i] || (answer == STAND_ACCEPTED && work[i] <= 1);
+    printf("work %u: %d of %d\n", answer, kept, ROOM + MORE);
+}
+
 int main(void)
 {
     const uint8_t mask[N] = {0, 9, 1, 0};
@@ -134,6 +155,11 @@ int main(void)
     printf(" %u", (unsigned)stand_squares(mask, N - 1, H, W, 1, bytes, room, out, N));
     printf(" %u\n", (unsigned)stand_squares(mask, N, H, W, 1, bytes, room - 1, out, N));
 
+    work_of_squares(SIDE, PIXELS, 1, ROOM + MORE);
+    work_of_squares(SIDE, PIXELS, 0, ROOM + MORE);
+    work_of_squares(0, PIXELS, 1, ROOM + MORE);
+    work_of_squares(SIDE, PIXELS - 1, 1, ROOM + MORE);
+    work_of_squares(SIDE, PIXELS, 1, ROOM - 1);
     picture();
 
     /* Sides that every call declines need no room; the largest that none declines need some. */

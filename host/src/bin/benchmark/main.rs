@@ -3,17 +3,18 @@
 //!
 //! ```text
 //! cargo run --release --manifest-path host/Cargo.toml --bin benchmark \
-//!     [-- [before ARCHIVE] [wall] [planes | cut] [RUNS] [SIDE..]]
+//!     [-- [before ARCHIVE] [wall] [planes | squares | cut] [RUNS] [SIDE..]]
 //! ```
 //!
 //! The clock counts the processor time of this thread, the system's work for it included, where the
 //! system tells it (/proc/thread-self/schedstat): on an idle machine that is the time that passes,
 //! and on a busy one it leaves out the time of others. `wall` takes the time that passes.
 //! RUNS is how often each is timed (at least 5, which is the default), in turn; the median counts.
-//! `planes` leaves out ground, growth and cut, `cut` leaves out the rest.
-//! SIDE is the side of the square planes: 1024 2048 4096 by default. Ours writes into buffers that
-//! were made and touched before the clock starts; mask.rs allocates its planes, as it always does,
-//! and gives them back after the clock has stopped. Both are built for release.
+//! `planes` leaves out ground, growth and cut, `cut` leaves out the rest, `squares` all but squares.
+//! SIDE is the side of the square planes: 1024 2048 4096 by default. Squares are also timed on planes
+//! of 64 × 4096 and 4096 × 64, whatever the sides are; the summary leaves these out. Ours writes into
+//! buffers that were made and touched before the clock starts; mask.rs allocates its planes, as it
+//! always does, and gives them back after the clock has stopped. Both are built for release.
 //! `before` has the libstand.a of another version in the place of mask.rs (see `versions.rs`).
 //!
 //! Prints a Markdown page with ns per pixel, the ratio (mask.rs's time over ours), and the memory
@@ -71,7 +72,7 @@ impl Call {
 
     /// Seconds that one call of ours takes.
     fn ours(self, clock: Clock, lents: &mut Lents, p: &Plane) -> f64 {
-        let (h, w, mask) = (p.side, p.side, black_box(&p.mask[..]));
+        let (h, w, mask) = (p.h, p.w, black_box(&p.mask[..]));
         let Lents { planes: lent, cut } = lents;
         match self {
             Call::Nearest => clock.time(|| _ = black_box(lent.nearest(mask, h, w))).1,
@@ -106,7 +107,7 @@ impl Call {
     /// Seconds that the same takes mask.rs; its planes are given back after the clock is read.
     #[cfg(mask_rs)]
     fn theirs(self, clock: Clock, p: &Plane) -> Option<f64> {
-        let (h, w, mask) = (p.side, p.side, black_box(&p.bools[..]));
+        let (h, w, mask) = (p.h, p.w, black_box(&p.bools[..]));
         Some(match self {
             Call::Nearest => clock.time(|| mask::feature_transform(mask, h, w)).1,
             Call::Labels => clock.time(|| mask::label4(mask, h, w)).1,
@@ -163,15 +164,25 @@ fn settings(passes: i64) -> Settings {
     }
 }
 
-/// Buffers for a side.
+/// Buffers for a plane.
 struct Lents {
     planes: Lent,
     cut: CutLent,
 }
 
+impl Lents {
+    fn new(h: usize, w: usize) -> Lents {
+        Lents {
+            planes: Lent::new(h, w),
+            cut: CutLent::new(h, w),
+        }
+    }
+}
+
 /// A mask with any colours; or a picture with its ground as the mask, its alpha and reference.
 struct Plane<'a> {
-    side: usize,
+    h: usize,
+    w: usize,
     name: &'static str,
     mask: Vec<u8>,
     #[cfg_attr(not(mask_rs), allow(dead_code))]
@@ -182,9 +193,15 @@ struct Plane<'a> {
 }
 
 impl<'a> Plane<'a> {
-    fn mask(side: usize, name: &'static str, mask: Vec<u8>, colours: &'a [f64]) -> Plane<'a> {
+    fn mask(
+        (h, w): (usize, usize),
+        name: &'static str,
+        mask: Vec<u8>,
+        colours: &'a [f64],
+    ) -> Plane<'a> {
         Plane {
-            side,
+            h,
+            w,
             name,
             bools: masks::bools(&mask),
             mask,
@@ -201,7 +218,15 @@ impl<'a> Plane<'a> {
         Plane {
             alpha,
             reference: ground.reference,
-            ..Plane::mask(side, name, ground.plane, colours)
+            ..Plane::mask((side, side), name, ground.plane, colours)
+        }
+    }
+
+    /// What the table has in the column of the side.
+    fn sides(&self) -> String {
+        match (self.h, self.w) {
+            (h, w) if h == w => h.to_string(),
+            (h, w) => format!("{h} × {w}"),
         }
     }
 }
@@ -215,11 +240,13 @@ fn median(mut times: Vec<f64>) -> f64 {
 struct How {
     clock: Clock,
     runs: usize,
+    /// Whether all calls but squares are left out.
+    squares: bool,
     /// The earlier version and this one, where they are compared.
     versions: Option<[Version; 2]>,
 }
 
-/// One line of the table: ns per pixel.
+/// One line of the table, on a square plane: ns per pixel.
 struct Line {
     call: Call,
     mask: &'static str,
@@ -236,8 +263,11 @@ impl Line {
 
 /// One line of the table, printed.
 fn measure(call: Call, plane: &Plane, lents: &mut Lents, how: &How) -> Option<Line> {
-    let scale = 1e9 / (plane.side * plane.side) as f64;
-    let begin = format!("| {} | {} | {}", call.name(), plane.name, plane.side);
+    if how.squares && !matches!(call, Call::Squares(_)) {
+        return None;
+    }
+    let scale = 1e9 / (plane.h * plane.w) as f64;
+    let begin = format!("| {} | {} | {}", call.name(), plane.name, plane.sides());
     if let Some(versions) = &how.versions {
         let it = versions::compare(versions, call, (how.clock, how.runs), lents, plane)?;
         let (before, after) = (it.before * scale, it.after * scale);
@@ -255,7 +285,7 @@ fn measure(call: Call, plane: &Plane, lents: &mut Lents, how: &How) -> Option<Li
     let line = Line {
         call,
         mask: plane.name,
-        side: plane.side,
+        side: plane.h,
         theirs: (!theirs.is_empty()).then(|| median(theirs) * scale),
         ours: median(ours) * scale,
     };
@@ -433,14 +463,12 @@ fn planes(side: usize, random: &mut Random, lents: &mut Lents, how: &How, lines:
         ("spiral", masks::spiral(side, side)),
         ("checkerboard", masks::checkerboard(side, side)),
     ]
-    .map(|(name, mask)| Plane::mask(side, name, mask, &colours));
+    .map(|(name, mask)| Plane::mask((side, side), name, mask, &colours));
     for plane in &planes[..7] {
         lines.extend(measure(Call::Nearest, plane, lents, how));
     }
     for plane in [&planes[0], &planes[2]] {
-        for k in [1, 4, 64, 4096] {
-            lines.extend(measure(Call::Squares(k), plane, lents, how));
-        }
+        lines.extend(squares(plane, lents, how));
     }
     for plane in &planes {
         lines.extend(measure(Call::Labels, plane, lents, how));
@@ -448,6 +476,26 @@ fn planes(side: usize, random: &mut Random, lents: &mut Lents, how: &How, lines:
     for call in [Call::Distance, Call::Fill] {
         for plane in [&planes[0], &planes[2]] {
             lines.extend(measure(call, plane, lents, how));
+        }
+    }
+}
+
+/// Squares of four sizes.
+fn squares(plane: &Plane, lents: &mut Lents, how: &How) -> Vec<Line> {
+    let of = |k| measure(Call::Squares(k), plane, lents, how);
+    [1, 4, 64, 4096].into_iter().filter_map(of).collect()
+}
+
+/// Squares on a wide plane and on a high one. The summary is of square planes and leaves them out.
+fn wide(how: &How) {
+    let mut random = Random(64);
+    for (h, w) in [(64, 4096), (4096, 64)] {
+        let mut lents = Lents::new(h, w);
+        for (name, mask) in [
+            ("object", masks::object(h, w)),
+            ("random half", random.mask(h * w, 500)),
+        ] {
+            squares(&Plane::mask((h, w), name, mask, &[]), &mut lents, how);
         }
     }
 }
@@ -476,7 +524,7 @@ fn cuts(side: usize, random: &mut Random, lents: &mut Lents, how: &How, lines: &
     for (name, share) in [("3 % noise", 30), ("12 % noise", 120)] {
         let colours = pictures::noise(random, side, side, 1000 - share);
         let background = random.mask(side * side, share);
-        let picture = Plane::mask(side, name, background, &colours);
+        let picture = Plane::mask((side, side), name, background, &colours);
         for call in [Call::Growth(1), Call::Growth(3)] {
             lines.extend(measure(call, &picture, lents, how));
         }
@@ -488,6 +536,7 @@ struct Asked {
     before: Option<String>,
     wall: bool,
     planes: bool,
+    squares: bool,
     cut: bool,
     runs: usize,
     sides: Vec<usize>,
@@ -500,7 +549,8 @@ impl Asked {
         let named = taken("before");
         let before = if named { Some(words.next()?) } else { None };
         let mut taken = |word: &str| words.next_if(|next| next == word).is_some();
-        let (wall, planes) = (taken("wall"), taken("planes"));
+        let (wall, squares) = (taken("wall"), taken("squares"));
+        let planes = squares || taken("planes");
         let cut = !planes && taken("cut");
         let numbers: Option<Vec<usize>> = words.map(|word| word.parse().ok()).collect();
         let (runs, sides) = match numbers?[..] {
@@ -514,6 +564,7 @@ impl Asked {
             before,
             wall,
             planes: !cut,
+            squares,
             cut: !planes,
             runs,
             sides: if sides.is_empty() {
@@ -531,8 +582,9 @@ fn fail(sentence: &str) -> ! {
 }
 
 fn main() {
-    let usage = "usage: benchmark [before ARCHIVE] [wall] [planes | cut] [RUNS] [SIDE..]\n\
-                 RUNS is at least 5, a SIDE 32 to 4096";
+    let usage =
+        "usage: benchmark [before ARCHIVE] [wall] [planes | squares | cut] [RUNS] [SIDE..]\n\
+         RUNS is at least 5, a SIDE 32 to 4096";
     let asked = Asked::of(std::env::args().skip(1)).unwrap_or_else(|| fail(usage));
     let versions = asked.before.as_deref().map(|before| {
         versions::load([Path::new(before), Path::new(env!("STAND_ARCHIVE"))])
@@ -541,23 +593,27 @@ fn main() {
     let how = How {
         clock: Clock::of(asked.wall),
         runs: asked.runs,
+        squares: asked.squares,
         versions,
     };
     head(&how);
     let mut lines = Vec::new();
-    for &side in &asked.sides {
+    for (at, &side) in asked.sides.iter().enumerate() {
         let mut random = Random(side as u64);
-        let mut lents = Lents {
-            planes: Lent::new(side, side),
-            cut: CutLent::new(side, side),
-        };
+        let mut lents = Lents::new(side, side);
         if asked.planes {
             planes(side, &mut random, &mut lents, &how, &mut lines);
         }
         if asked.cut {
             cuts(side, &mut random, &mut lents, &how, &mut lines);
         }
-        if how.versions.is_none() && Some(&side) == asked.sides.last() {
+        if at + 1 < asked.sides.len() {
+            continue;
+        }
+        if asked.planes {
+            wide(&how);
+        }
+        if how.versions.is_none() {
             summary(&lines);
             memory(side, &lents);
         }

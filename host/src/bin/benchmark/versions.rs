@@ -170,7 +170,7 @@ impl Loaded {
                 })
             }};
         }
-        let (h, w, mask, colours) = (p.side, p.side, &p.mask[..], p.colours);
+        let (h, w, mask, colours) = (p.h, p.w, &p.mask[..], p.colours);
         let Lents { planes: l, cut: c } = lents;
         let (refusal, seconds) = match call {
             Call::Nearest => timed!(
