@@ -5,7 +5,6 @@ use mathlib.Core.Bool.{Bool, true, false, _&&_}
 use mathlib.Core.List.{List}
 use mathlib.Core.Logic.{⊎-elim}
 use Prim.Native.Nat.{ℕ, zero, suc, _+_, _*_, _-_, _≤_, _<_}
-use native.Mathlib.Numerals.{add-one}
 use native.Mathlib.Omega.{arith}
 use lib.Dec.{ltb}
 use lib.ListN.{length, getD, take, drop}
@@ -16,11 +15,11 @@ use Rattle.plane.specs.steps.Sides.{longestSide}
 use Rattle.plane.proofs.Search.{which}
 use Rattle.plane.proofs.Plane.{row-in, table-length, table-at, plane-is}
 use Rattle.plane.proofs.Mask.{mask-at}
-use Rattle.counts.specs.Running.{enters, leaves, running}
+use Rattle.counts.specs.Running.{windowCount}
 use Rattle.counts.specs.steps.Parts.{fullByte, restOf, changed, movedLine, Split}
 use Rattle.column_counts.specs.steps.Columns.{onDown, columnByte, dilatedColumns, balancedLow, balancedRest}
 use Rattle.column_counts.specs.steps.Columns.{Balanceable, Counted, Swept}
-use Rattle.counts.proofs.Counting.{leaves-held, running-count, window-some}
+use Rattle.counts.proofs.Counting.{window-some}
 use Rattle.counts.proofs.Parts.{split-new, split-later, split-enter, split-leave, split-test}
 use Rattle.counts.proofs.Put.{part-at, put-length, put-front, put-part, put-back}
 
@@ -76,7 +75,7 @@ module _ {value : ℕ → ℕ} {t : ℕ} {low rest : List ℕ} (n : Counted valu
             rw (u, v, n .each x i .sum) (split-new (value x));
       }
 
-  module _ (moves : ℕ → Bool) {low′ : List ℕ} (size : length low′ ≡ length low) (few : t ≤ 126) where
+  module _ (moves : ℕ → Bool) (low′ : List ℕ) (size : length low′ ≡ length low) (few : t ≤ 126) where
     -- a row enters,
     pub counted-enter : ((x : ℕ) → x < length low → getD low′ x 0 ≡ changed (getD low x 0) (moves x) 1)
         → Counted (λ (x : ℕ). value x + bit (moves x)) (t + 1) low′ rest
@@ -97,13 +96,11 @@ module _ {value : ℕ → ℕ} {t : ℕ} {low rest : List ℕ} (n : Counted valu
 
 -- the bytes tell whether the window of row y has an on-pixel
 pub column-tested : (plane : List ℕ) (h w k c y : ℕ) {low rest : List ℕ} {t : ℕ}
-    → Counted (λ (x : ℕ). running h k (onDown plane w (c + x)) (y + 1)) t low rest → t ≤ 127 → y < h → (x : ℕ) → x < length low
+    → Counted (λ (x : ℕ). windowCount h k y (onDown plane w (c + x))) t low rest → t ≤ 127 → (x : ℕ) → x < length low
     → getD (maskOf (length low) (isOn low)) x 0 ≡ columnByte plane h w k y (c + x)
 unfolding isOn
-column-tested plane h w k c y {low} n l m x g =
-    let p = onDown plane w (c + x) in
-    mask-at (length low) (isOn low) x g
-    ∙ ap bit (split-test (n .each x g) l ∙ ap (ltb 0) (ap (running h k p) (add-one y) ∙ running-count h k p y m) ∙ window-some k y p h)
+column-tested plane h w k c y {low} n l x g =
+    mask-at (length low) (isOn low) x g ∙ ap bit (split-test (n .each x g) l ∙ window-some k y (onDown plane w (c + x)) h)
 
 -- ---- the plane that is written, row by row of a strip
 

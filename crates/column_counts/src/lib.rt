@@ -7,7 +7,8 @@ ghost use Prim.Native.Nat.{_+_};
 ghost use lib.ListN.{length};
 ghost use Rattle.plane.specs.Mask.{isOn, maskOf};
 ghost use Rattle.column_counts.specs.steps.Columns.{dilatedColumns, balancedLow, balancedRest, Balanceable, Balanced};
-ghost use Rattle.column_counts.specs.steps.Columns.{Strip, Entered, Leavable, Left, Fillable, Filled, Start, Swept, ColumnPlanes};
+ghost use Rattle.column_counts.specs.steps.Columns.{Strip, Entered, Leavable, Left, Fillable, Filled, Slidable, Slid};
+ghost use Rattle.column_counts.specs.steps.Columns.{Start, Swept, ColumnPlanes};
 
 // How many columns a strip has at most.
 const STRIP: usize = 4096;
@@ -28,7 +29,8 @@ fn balance(low: &mut [u8], rest: &mut [u32])
     }
 }
 
-// The same where t rows have moved since, and two more might be too many for a byte. How many have moved since, then.
+// The same, where t rows have moved since they were balanced and two more might be too many for a byte. How many have moved since is
+// handed back.
 fn balance_after(t: usize, low: &mut [u8], rest: &mut [u32]) -> usize
     requires { ⌜ Balanceable (now low) (now rest) ⌝ }
     ensures { λ r. ⌜ Balanced t (now (low .entry)) (now (rest .entry)) r (now (low .exit)) (now (rest .exit)) ⌝ }
@@ -89,6 +91,27 @@ fn enter_rows(
     }
 }
 
+// The window slides to row y, and with it the counts: t rows have moved since they were balanced, and how many have since is handed back.
+fn slide(
+    plane: &[u8],
+    h: usize,
+    w: usize,
+    k: usize,
+    c: usize,
+    y: usize,
+    t: usize,
+    low: &mut [u8],
+    rest: &mut [u32],
+) -> usize
+    requires { ⌜ Slidable (now plane) h w k c y t (now low) (now rest) ⌝ }
+    ensures { λ r. ⌜ Slid (now (plane .entry)) h w k c y r (now (low .exit)) (now (rest .exit)) ⌝ }
+{
+    let u = balance_after(t, low, rest);
+    enter_row(plane, h, w, c, y + k, low);
+    leave_row(plane, h, w, c, k, y, low);
+    u + 2
+}
+
 // A pixel is 1 where the count of its column is above 0.
 fn test_line(low: &[u8], out: &mut [u8])
     requires { ⌜ length (now out) ≡ length (now low) ⌝ }
@@ -121,10 +144,7 @@ fn sweep(
     let mut t = 127usize;
     let mut y = 0usize;
     while y < h {
-        t = balance_after(t, low, rest);
-        enter_row(plane, h, w, c, y + k, low);
-        leave_row(plane, h, w, c, k, y, low);
-        t += 2;
+        t = slide(plane, h, w, k, c, y, t, low, rest);
         let s = y * w + c;
         let e = s + n;
         test_line(low, &mut out[s..e]);

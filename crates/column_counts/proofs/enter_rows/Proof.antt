@@ -55,7 +55,7 @@ loop-again c =
     let a = o .args in
     let on : ℕ → ℕ → Bool = λ (x : ℕ). onDown (a .plane .now) (a .w) (a .c + x) in
     let n = counted-enter (b .balance-after .ensures .kept _ (l .inv .3)) (λ (x : ℕ). ltb (l .j) (a .h) && on x (l .j))
-    (e .kept .1 .1 .1 .1 .1 .0) (omega (arith, b .balance-after .ensures .few)) (e .ensures .each) in (
+    (e .last .1 .1 .1 .1 .1 .0) (e .kept .1 .1 .1 .1 .1 .0) (omega (arith, b .balance-after .ensures .few)) (e .ensures .each) in (
       omega arith,
       omega (arith, b .balance-after .ensures .few),
       e .kept .1 .1 .1 .1 .1 .0 ∙ b .balance-after .kept .1 .0 ∙ l .inv .2,

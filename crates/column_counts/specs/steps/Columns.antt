@@ -9,7 +9,7 @@ use lib.ListN.{length, getD}
 use Rattle.plane.specs.Search.{countBelow}
 use Rattle.plane.specs.Plane.{bit, onAt, table, planeOf}
 use Rattle.plane.specs.steps.Sides.{longestSide, Sides}
-use Rattle.counts.specs.Running.{leaves}
+use Rattle.counts.specs.Running.{windowCount, leaves, running}
 use Rattle.counts.specs.steps.Parts.{inWindow, fullByte, restOf, changed, Split}
 
 -- whether pixel j of column x of a plane is on
@@ -76,6 +76,18 @@ pub record Fillable (plane : List ℕ) (h w c m : ℕ) (low rest : List ℕ) : T
 -- how many of them are on in each column
 pub record Filled (plane : List ℕ) (w c m : ℕ) (low rest : List ℕ) : Type 0 where
   pub counted : Counted (λ (x : ℕ). countBelow m (onDown plane w (c + x))) 127 low rest
+
+-- the running counts before the step to row y,
+pub record Slidable (plane : List ℕ) (h w k c y t : ℕ) (low rest : List ℕ) : Type 0 where
+  pub strip : Strip plane h w c (length low)
+  pub near : k ≤ longestSide
+  pub row : y < h
+  pub counted : Counted (λ (x : ℕ). running h k (onDown plane w (c + x)) y) t low rest
+
+-- and after it: in each column the count of row y's window
+pub record Slid (plane : List ℕ) (h w k c y t : ℕ) (low rest : List ℕ) : Type 0 where
+  pub few : t ≤ 127
+  pub counted : Counted (λ (x : ℕ). windowCount h k y (onDown plane w (c + x))) t low rest
 
 -- ---- strips
 
