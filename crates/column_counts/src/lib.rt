@@ -7,7 +7,7 @@ ghost use Prim.Native.Nat.{_+_};
 ghost use lib.ListN.{length};
 ghost use Rattle.plane.specs.Mask.{isOn, maskOf};
 ghost use Rattle.column_counts.specs.steps.Columns.{dilatedColumns, balancedLow, balancedRest, Balanceable, Balanced};
-ghost use Rattle.column_counts.specs.steps.Columns.{Strip, Entered, Leavable, Left, Fillable, Filled, Slidable, Slid};
+ghost use Rattle.column_counts.specs.steps.Columns.{MovableRow, MovedRow, Fillable, Filled, Slidable, Slid};
 ghost use Rattle.column_counts.specs.steps.Columns.{Start, Swept, ColumnPlanes};
 
 // How many columns a strip has at most.
@@ -42,30 +42,26 @@ fn balance_after(t: usize, low: &mut [u8], rest: &mut [u32]) -> usize
     0
 }
 
-// Row j of a plane, where there is one, enters the windows of the columns from column c on,
-fn enter_row(plane: &[u8], h: usize, w: usize, c: usize, j: usize, low: &mut [u8])
-    requires { ⌜ Strip (now plane) h w c (length (now low)) ⌝ }
-    ensures { λ _. ⌜ Entered (now (plane .entry)) h w c j (now (low .entry)) (now (low .exit)) ⌝ }
+// Row j of a plane, where there is one, enters the windows of the columns from column c on, or leaves them: by a change of 1 or of 255.
+fn move_row(
+    plane: &[u8],
+    h: usize,
+    w: usize,
+    c: usize,
+    there: bool,
+    j: usize,
+    change: u8,
+    low: &mut [u8],
+)
+    requires { ⌜ MovableRow (now plane) h w c there j (now low) ⌝ }
+    ensures { λ _. ⌜ MovedRow (now (plane .entry)) w c there j change (now (low .entry)) (now (low .exit)) ⌝ }
 {
-    if h <= j {
+    if !there {
         return;
     }
     let s = j * w + c;
     let e = s + low.len();
-    counts::move_line(&plane[s..e], 1, low);
-}
-
-// and the row k + 1 rows above row y, where there is one, leaves them.
-fn leave_row(plane: &[u8], h: usize, w: usize, c: usize, k: usize, y: usize, low: &mut [u8])
-    requires { ⌜ Leavable (now plane) h w c y (now low) ⌝ }
-    ensures { λ _. ⌜ Left (now (plane .entry)) w c k y (now (low .entry)) (now (low .exit)) ⌝ }
-{
-    if y <= k {
-        return;
-    }
-    let s = (y - (k + 1)) * w + c;
-    let e = s + low.len();
-    counts::move_line(&plane[s..e], 255, low);
+    counts::move_line(&plane[s..e], change, low);
 }
 
 // The first m rows enter the windows.
@@ -85,13 +81,13 @@ fn enter_rows(
     let mut j = 0usize;
     while j < m {
         t = balance_after(t, low, rest);
-        enter_row(plane, h, w, c, j, low);
+        move_row(plane, h, w, c, true, j, 1, low);
         t += 1;
         j += 1;
     }
 }
 
-// The window slides to row y, and with it the counts: t rows have moved since they were balanced, and how many have since is handed back.
+// The window slides to row y, and with it the counts: the row k rows below enters, and the one k + 1 rows above leaves. t rows have moved since they were balanced, and how many have since is handed back.
 fn slide(
     plane: &[u8],
     h: usize,
@@ -107,8 +103,8 @@ fn slide(
     ensures { λ r. ⌜ Slid (now (plane .entry)) h w k c y r (now (low .exit)) (now (rest .exit)) ⌝ }
 {
     let u = balance_after(t, low, rest);
-    enter_row(plane, h, w, c, y + k, low);
-    leave_row(plane, h, w, c, k, y, low);
+    move_row(plane, h, w, c, y + k < h, y + k, 1, low);
+    move_row(plane, h, w, c, k < y, counts::behind(y, k), 255, low);
     u + 2
 }
 

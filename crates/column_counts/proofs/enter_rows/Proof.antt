@@ -1,12 +1,10 @@
 -- `column_counts::enter_rows` meets its contract. The loop's invariant: the counts are those of the first j rows.
 -- Assumes nothing.
 use mathlib.Core.Path.{_≡_, refl, sym, ap, _∙_}
-use mathlib.Core.Bool.{Bool, _&&_}
+use mathlib.Core.Bool.{Bool}
 use Prim.Native.Nat.{ℕ, _+_, _-_, _≤_}
 use native.Mathlib.Omega.{arith}
-use lib.Dec.{ltb}
 use lib.ListN.{length}
-use borrow.Author.Tests.{lt-ltb}
 use Rattle.plane.specs.Search.{countBelow}
 use Rattle.plane.proofs.Search.{count-most}
 use Rattle.column_counts.specs.steps.Columns.{onDown, Counted}
@@ -38,28 +36,28 @@ balance-after-requires c κs =
     let o = at-start (c .before .before .before) in
     counted-small (l .inv .3) (λ x g. omega (arith, count-most (onDown (o .args .plane .now) (o .args .w) (o .args .c + x)) (l .j), l .inv .0, o .pre .rows, o .pre .strip .tall))
 
-enter-row-requires : tie.Need-enter-row-requires Inv-loop μ-loop
-enter-row-requires c κs =
+move-row-requires : tie.Need-move-row-requires Inv-loop μ-loop
+move-row-requires c κs =
     let b = c .before .before .before .before .before in
     let l = b .before .before .before .before .loop in
     let o = at-start (b .before .before .before .before) in
-    rw (b .balance-after .kept .1 .0 ∙ l .inv .2) (o .pre .strip)
+    record { strip = rw (b .balance-after .kept .1 .0 ∙ l .inv .2) (o .pre .strip); row = λ _. omega (arith, o .pre .rows) }
 
 loop-again : tie.Need-loop-again Inv-loop μ-loop
 loop-again c =
-    let e = c .before .before .enter-row in
+    let e = c .before .before .move-row in
     let b = c .before .before .before .before .before .before .before .before in
     let l = b .before .before .before .before .loop in
     let taken = b .before .before .before .loop-test .taken in
     let o = at-start (b .before .before .before .before) in
     let a = o .args in
     let on : ℕ → ℕ → Bool = λ (x : ℕ). onDown (a .plane .now) (a .w) (a .c + x) in
-    let n = counted-enter (b .balance-after .ensures .kept _ (l .inv .3)) (λ (x : ℕ). ltb (l .j) (a .h) && on x (l .j))
-    (e .last .1 .1 .1 .1 .1 .0) (e .kept .1 .1 .1 .1 .1 .0) (omega (arith, b .balance-after .ensures .few)) (e .ensures .each) in (
+    let n = counted-enter (b .balance-after .ensures .kept _ (l .inv .3)) (λ (x : ℕ). on x (l .j))
+    (e .last .1 .1 .1 .1 .1 .1 .1 .0) (e .kept .1 .1 .1 .1 .1 .1 .1 .0) (omega (arith, b .balance-after .ensures .few)) (e .ensures .each) in (
       omega arith,
       omega (arith, b .balance-after .ensures .few),
-      e .kept .1 .1 .1 .1 .1 .0 ∙ b .balance-after .kept .1 .0 ∙ l .inv .2,
-      counted-as n (λ x g. rw (lt-ltb (l .j) (a .h) (omega (arith, o .pre .rows))) (sym (count-more (l .j) (on x)))),
+      e .kept .1 .1 .1 .1 .1 .1 .1 .0 ∙ b .balance-after .kept .1 .0 ∙ l .inv .2,
+      counted-as n (λ x g. sym (count-more (l .j) (on x))),
     )
 
 returns : tie.Need-returns Inv-loop μ-loop
@@ -76,7 +74,7 @@ enter-rows-spec =
     μ-loop
     loop-holds
     balance-after-requires
-    enter-row-requires
+    move-row-requires
     (λ c. omega (arith, c .before .before .before .before .before .before .before .before .balance-after .ensures .few))
     (λ c. omega arith)
     (λ c. omega arith)

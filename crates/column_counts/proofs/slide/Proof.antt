@@ -1,11 +1,11 @@
 -- `column_counts::slide` meets its contract.
 -- Assumes nothing.
-use mathlib.Core.Path.{ap, _∙_}
-use mathlib.Core.Bool.{Bool, _&&_}
+use mathlib.Core.Path.{_∙_}
+use mathlib.Core.Bool.{Bool}
 use Prim.Native.Nat.{ℕ, _+_}
 use native.Mathlib.Omega.{arith}
-use lib.Dec.{ltb}
 use borrow.Author.Needs.{needs}
+use borrow.Author.Tests.{ltb-true}
 use Rattle.counts.specs.Running.{enters, leaves, running}
 use Rattle.counts.proofs.Counting.{leaves-held, running-most, running-count}
 use Rattle.column_counts.specs.steps.Columns.{onDown}
@@ -20,24 +20,43 @@ balance-after-requires c κs =
     counted-small (o .pre .counted)
     (λ x g. omega (arith, running-most (a .h) (a .k) (onDown (a .plane .now) (a .w) (a .c + x)) (a .y) (omega arith), o .pre .strip .tall))
 
+move-row-requires : tie.Need-move-row-requires
+move-row-requires c κs =
+    let b = c .before .before .before .before .before in
+    let o = b .before .before .before .before .before .before in
+    record {
+      strip = rw (b .balance-after .kept .1 .0) (o .pre .strip);
+      row = λ e. omega (arith, ltb-true (o .args .y + o .args .k) (o .args .h) e);
+    }
+
+move-row-requires-2 : tie.Need-move-row-requires-2
+move-row-requires-2 c κs =
+    let m = c .before .before .before .before in
+    let b = m .before .before .before .before .before .before in
+    let o = b .before .before .before .before .before .before in
+    record {
+      strip = rw (m .move-row .kept .1 .1 .1 .1 .1 .1 .1 .0 ∙ b .balance-after .kept .1 .0) (o .pre .strip);
+      row = λ _. omega (arith, c .before .behind .ensures, o .pre .row);
+    }
+
 returns : tie.Need-returns
-unfolding enters running
+unfolding enters leaves running
 returns c =
     let out = c .before .before in
-    let in′ = out .before .before .before .before in
+    let in′ = out .before .before .before .before .before in
     let b = in′ .before .before .before .before .before .before in
     let o = b .before .before .before .before .before .before in
     let a = o .args in
     let on : ℕ → ℕ → Bool = λ (x : ℕ). onDown (a .plane .now) (a .w) (a .c + x) in
-    let j = a .y + a .k in
     let few = b .balance-after .ensures .few in
     let entered =
-    counted-enter (b .balance-after .ensures .kept _ (o .pre .counted)) (λ (x : ℕ). ltb j (a .h) && on x j)
-    (in′ .enter-row .last .1 .1 .1 .1 .1 .0) (in′ .enter-row .kept .1 .1 .1 .1 .1 .0) (omega arith) (in′ .enter-row .ensures .each) in
+    counted-enter (b .balance-after .ensures .kept _ (o .pre .counted)) (λ (x : ℕ). enters (a .h) (a .k) (on x) (a .y))
+    (in′ .move-row .last .1 .1 .1 .1 .1 .1 .1 .0) (in′ .move-row .kept .1 .1 .1 .1 .1 .1 .1 .0) (omega arith) (in′ .move-row .ensures .each) in
     let left =
-    counted-leave entered (λ (x : ℕ). leaves (a .k) (on x) (a .y)) (out .leave-row .last .1 .1 .1 .1 .1 .1 .0)
-    (out .leave-row .kept .1 .1 .1 .1 .1 .1 .0) (omega arith)
-    (out .leave-row .ensures .each) (λ x g. leaves-held (a .h) (a .k) (on x) (a .y) (o .pre .row)) in
+    counted-leave entered (λ (x : ℕ). leaves (a .k) (on x) (a .y)) (out .move-row2 .last .1 .1 .1 .1 .1 .1 .1 .0)
+    (out .move-row2 .kept .1 .1 .1 .1 .1 .1 .1 .0) (omega arith)
+    (λ x g. out .move-row2 .ensures .each x g ∙ rw (out .before .before .behind .ensures))
+    (λ x g. leaves-held (a .h) (a .k) (on x) (a .y) (o .pre .row)) in
     record {
       few = omega arith;
       counted =
@@ -51,8 +70,10 @@ slide-spec =
     (tie.spec
     balance-after-requires
     (λ c. search needs)
+    (λ c. search needs)
+    move-row-requires
     (λ c κs. search needs)
-    (λ c κs. search needs)
+    move-row-requires-2
     (λ c. search needs)
     (λ c. search needs)
     (λ c. search needs)

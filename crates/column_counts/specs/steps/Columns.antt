@@ -2,14 +2,13 @@
 -- Assumes nothing.
 use mathlib.Core.Path.{_≡_}
 use Prim.Native.Nat.{ℕ, _+_, _*_, _≤_, _<_}
-use mathlib.Core.Bool.{Bool, _&&_}
+use mathlib.Core.Bool.{Bool, true, _&&_}
 use mathlib.Core.List.{List}
-use lib.Dec.{ltb}
 use lib.ListN.{length, getD}
 use Rattle.plane.specs.Search.{countBelow}
 use Rattle.plane.specs.Plane.{bit, onAt, table, planeOf}
 use Rattle.plane.specs.steps.Sides.{longestSide, Sides}
-use Rattle.counts.specs.Running.{windowCount, leaves, running}
+use Rattle.counts.specs.Running.{windowCount, running}
 use Rattle.counts.specs.steps.Parts.{inWindow, fullByte, restOf, changed, Split}
 
 -- whether pixel j of column x of a plane is on
@@ -55,17 +54,14 @@ pub record Balanced (t : ℕ) (low rest : List ℕ) (u : ℕ) (low′ rest′ : 
   pub few : u ≤ 125
   pub kept : (value : ℕ → ℕ) → Counted value t low rest → Counted value u low′ rest′
 
--- the bytes after row j has entered,
-pub record Entered (plane : List ℕ) (h w c j : ℕ) (low low′ : List ℕ) : Type 0 where
-  pub each : (x : ℕ) → x < length low → getD low′ x 0 ≡ changed (getD low x 0) (ltb j h && onDown plane w (c + x) j) 1
-
--- and after the one that leaves at the step to row y has left
-pub record Leavable (plane : List ℕ) (h w c y : ℕ) (low : List ℕ) : Type 0 where
+-- the bytes of a strip, and a row that is there or not,
+pub record MovableRow (plane : List ℕ) (h w c : ℕ) (there : Bool) (j : ℕ) (low : List ℕ) : Type 0 where
   pub strip : Strip plane h w c (length low)
-  pub row : y ≤ h
+  pub row : there ≡ true → j < h
 
-pub record Left (plane : List ℕ) (w c k y : ℕ) (low low′ : List ℕ) : Type 0 where
-  pub each : (x : ℕ) → x < length low → getD low′ x 0 ≡ changed (getD low x 0) (leaves k (onDown plane w (c + x)) y) 255
+-- and the bytes after it has entered, or left
+pub record MovedRow (plane : List ℕ) (w c : ℕ) (there : Bool) (j change : ℕ) (low low′ : List ℕ) : Type 0 where
+  pub each : (x : ℕ) → x < length low → getD low′ x 0 ≡ changed (getD low x 0) (there && onDown plane w (c + x) j) change
 
 -- counts of 0, and the first m rows
 pub record Fillable (plane : List ℕ) (h w c m : ℕ) (low rest : List ℕ) : Type 0 where

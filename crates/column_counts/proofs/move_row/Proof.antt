@@ -1,4 +1,4 @@
--- `column_counts::enter_row` meets its contract.
+-- `column_counts::move_row` meets its contract.
 -- Assumes nothing.
 use mathlib.Core.Path.{sym, ap, _∙_}
 use mathlib.Core.List.{List}
@@ -6,17 +6,17 @@ use Prim.Native.Nat.{ℕ, _+_, _*_, _≤_}
 use native.Mathlib.Omega.{arith}
 use lib.ListN.{length, getD}
 use borrow.Author.Needs.{needs}
-use borrow.Author.Tests.{lt-ltb, le-ltb}
+use borrow.Author.Tests.{not-true, not-false}
 use Rattle.counts.proofs.Parts.{not-moved}
 use Rattle.column_counts.proofs.Strips.{strip-in, row-moved}
-use Rattle.column_counts.proofs.enter_row.Statement.{statement}
-use Rattle.column_counts.proofs.enter_row.Tie as tie
+use Rattle.column_counts.proofs.move_row.Statement.{statement}
+use Rattle.column_counts.proofs.move_row.Tie as tie
 
 -- the row lies within the plane
 row-here : (c : tie.Else1) → let a = c .before .before .before .args in a .j * a .w + a .c + length (a .low .now) ≤ length (a .plane .now)
 row-here c =
     let o = c .before .before .before in
-    omega (arith, strip-in _ _ _ _ _ (c .if1 .left) (o .pre .inside), o .pre .size)
+    omega (arith, strip-in _ _ _ _ _ (o .pre .row (not-false _ (c .if1 .left))) (o .pre .strip .inside), o .pre .strip .size)
 
 returns : tie.Need-returns
 returns c =
@@ -24,7 +24,7 @@ returns c =
     record {
       each =
           λ x l.
-          rw (le-ltb (a .j) (a .h) (c .if1 .taken)) (sym (not-moved (getD (a .low .now) x 0) 1 (omega (arith, c .before .slice-known .given x))));
+          rw (not-true (a .there) (c .if1 .taken)) (sym (not-moved (getD (a .low .now) x 0) (a .change) (omega (arith, c .before .slice-known .given x))));
     }
 
 returns-2 : tie.Need-returns-2
@@ -35,12 +35,12 @@ returns-2 c =
     record {
       each =
           λ x l.
-          rw (lt-ltb (a .j) (a .h) (e .if1 .left))
-          (ap (λ (u : List ℕ). getD u x 0) (call .ensures) ∙ row-moved (a .plane .now) (a .low .now) (a .j) (a .w) (a .c) 1 x l);
+          rw (not-false (a .there) (e .if1 .left))
+          (ap (λ (u : List ℕ). getD u x 0) (call .ensures) ∙ row-moved (a .plane .now) (a .low .now) (a .j) (a .w) (a .c) (a .change) x l);
     }
 
-pub enter-row-spec : {M : Type 1} → statement M
-enter-row-spec =
+pub move-row-spec : {M : Type 1} → statement M
+move-row-spec =
     tie.close
     (tie.spec
     returns
