@@ -87,7 +87,8 @@ fn enter_rows(
     }
 }
 
-// The window slides to row y, and with it the counts: the row k rows below enters, and the one k + 1 rows above leaves. t rows have moved since they were balanced, and how many have since is handed back.
+// The window slides to row y, and with it the counts: the row k rows below enters, and the one k + 1 rows above leaves. t rows have moved
+// since the counts were balanced; how many have then is handed back.
 fn slide(
     plane: &[u8],
     h: usize,

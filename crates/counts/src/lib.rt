@@ -12,7 +12,7 @@ pub fn lesser(a: usize, b: usize) -> usize
     if a <= b { a } else { b }
 }
 
-// and the place that leaves the window at the step to x, or would be next to: the first, where x has no k + 1 places before it.
+// and the place that leaves the window at the step to x, k + 1 places back; the first where there are not so many.
 pub fn behind(x: usize, k: usize) -> usize
     ensures { λ r. ⌜ r ≡ x - (k + 1) ⌝ }
 {
@@ -22,8 +22,8 @@ pub fn behind(x: usize, k: usize) -> usize
     0
 }
 
-// Each of a line of counts, modulo 256, changed where the pixel beside it is on: by 1 where it enters a window, by 255, which is one less, where it
-// leaves.
+// Each of a line of counts, modulo 256, changed where the pixel beside it is on: by 1 where it enters a window, and by 255, which is one
+// less, where it leaves.
 pub fn move_line(line: &[u8], change: u8, counts: &mut [u8])
     requires { ⌜ length (now line) ≡ length (now counts) ⌝ }
     ensures { λ _. ⌜ now (counts .exit) ≡ movedLine (now (line .entry)) change (now (counts .entry)) ⌝ }
