@@ -14,7 +14,7 @@ use Rattle.plane.specs.Plane.{bit, apart}
 use Rattle.plane.proofs.Search.{which, either, and-no, or-no, or-right, count-most}
 use Rattle.plane.specs.Box.{lesserOf}
 use Rattle.counts.specs.Running.{windowCount, enters, leaves, running}
-use Rattle.counts.specs.steps.Parts.{inWindow}
+use Rattle.counts.specs.steps.Window.{inWindow}
 
 -- a test joined with one that holds
 pub and-yes : (t : Bool) → t && true ≡ t

@@ -19,7 +19,8 @@ use Rattle.plane.proofs.Search.{which, none-found, some-same, count-same}
 use Rattle.plane.proofs.Plane.{row-in, table-length, table-at}
 use Rattle.plane.proofs.Mask.{mask-length, mask-at, mask-same}
 use Rattle.counts.specs.Running.{windowCount, enters, leaves, running}
-use Rattle.counts.specs.steps.Parts.{inWindow, fullByte, restOf, changed, stepOf, movedLine, Split}
+use Rattle.counts.specs.steps.Window.{inWindow}
+use Rattle.counts.specs.steps.Parts.{fullByte, restOf, changed, stepOf, movedLine, Split}
 use Rattle.row_counts.specs.steps.Rows.{tally, ranLine, countedPart, dilatedRow, Steppable, Stepped}
 use Rattle.counts.proofs.Counting.{window-some, lesser-is, leaves-held, running-count}
 use Rattle.counts.proofs.Parts.{not-moved, moved-small, split-new, split-step, split-test}

@@ -13,7 +13,7 @@ use Rattle.plane.specs.Search.{someBelow}
 use Rattle.plane.specs.Plane.{bit, onAt, apart, within, planeOf}
 use Rattle.plane.proofs.Search.{which, some-same, none-is, and-no}
 use Rattle.plane.proofs.Plane.{pixel-in, on-bit, plane-length, plane-at, plane-index, plane-same}
-use Rattle.counts.specs.steps.Parts.{inWindow}
+use Rattle.counts.specs.steps.Window.{inWindow}
 use Rattle.row_counts.specs.steps.Rows.{dilatedRows}
 use Rattle.column_counts.specs.steps.Columns.{onDown, columnByte, dilatedColumns}
 use Rattle.counts.proofs.Counting.{and-yes, bit-most}

@@ -179,6 +179,19 @@ mod with {
         }
     }
 
+    /// Lines with more on-pixels in a window than a byte can count (R87): a run of 300 and one pixel
+    /// far behind it, and stripes of 130.
+    fn long_windows(list: &mut List) {
+        let run = (0..700).map(|i| u8::from(i < 300 || i == 699)).collect();
+        let stripes: Vec<u8> = (0..700).map(|i| u8::from(i / 130 % 2 == 0)).collect();
+        for m in [run, stripes] {
+            for k in [64, 128, 300] {
+                list.squares(&m, 1, 700, k);
+                list.squares(&m, 700, 1, k);
+            }
+        }
+    }
+
     fn random(list: &mut List) {
         let mut random = Random(7);
         let densities = [5, 20, 60, 150, 300, 500, 590, 700, 900];
@@ -214,6 +227,7 @@ mod with {
         ties(&mut list);
         built(&mut list);
         random(&mut list);
+        long_windows(&mut list);
         let bytes = list.stdin.len() + list.stdout.len();
         assert!(bytes < MOST_BYTES, "{bytes} bytes");
         std::fs::create_dir_all(&folder).expect("the folder");

@@ -9,7 +9,8 @@ use Rattle.plane.specs.Search.{countBelow}
 use Rattle.plane.specs.Plane.{bit, onAt, table, planeOf}
 use Rattle.plane.specs.steps.Sides.{longestSide, Sides}
 use Rattle.counts.specs.Running.{windowCount, running}
-use Rattle.counts.specs.steps.Parts.{inWindow, fullByte, restOf, changed, Split}
+use Rattle.counts.specs.steps.Window.{inWindow}
+use Rattle.counts.specs.steps.Parts.{fullByte, restOf, changed, Split}
 
 -- whether pixel j of column x of a plane is on
 abbrev pub onDown : List ℕ → ℕ → ℕ → ℕ → Bool

@@ -2,17 +2,11 @@
 -- Assumes nothing.
 use mathlib.Core.Path.{_≡_}
 use Prim.Native.Nat.{ℕ, _+_, _-_, _%_, _≤_, _<_}
-use mathlib.Core.Bool.{Bool, cond, _&&_}
+use mathlib.Core.Bool.{Bool, cond}
 use mathlib.Core.List.{List}
-use lib.Dec.{leb}
 use lib.ListN.{length, getD}
-use Rattle.plane.specs.Search.{someBelow}
-use Rattle.plane.specs.Plane.{apart, table}
+use Rattle.plane.specs.Plane.{table}
 use Rattle.plane.specs.Mask.{isOn}
-
--- whether p holds of a number below n that is at most k away from x
-unfoldable pub inWindow : ℕ → ℕ → ℕ → (ℕ → Bool) → Bool
-inWindow n k x p = someBelow n (λ (i : ℕ). p i && leb (apart x i) k)
 
 -- the byte and the rest of a count n where they are balanced: as much of it as is at most 128, and what is above that
 abbrev pub fullByte : ℕ → ℕ

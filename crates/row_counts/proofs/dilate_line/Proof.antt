@@ -10,7 +10,7 @@ use borrow.Author.Needs.{needs}
 use Rattle.plane.specs.Plane.{bit}
 use Rattle.plane.specs.Mask.{isOn, maskOf}
 use Rattle.counts.specs.Running.{running}
-use Rattle.counts.specs.steps.Parts.{inWindow}
+use Rattle.counts.specs.steps.Window.{inWindow}
 use Rattle.row_counts.specs.steps.Rows.{dilatedRow}
 use Rattle.counts.proofs.Begun.{Begun, begun-none, begun-end}
 use Rattle.counts.proofs.Put.{part-length, begun-part}

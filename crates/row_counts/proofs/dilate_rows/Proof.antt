@@ -9,7 +9,7 @@ use lib.ListN.{length, drop}
 use borrow.Rule.Slice.PartMut.{same-len-mid}
 use Rattle.plane.specs.Plane.{bit, onAt, table, rowsUpto, planeOf}
 use Rattle.plane.proofs.Plane.{row-in, table-length, put-row}
-use Rattle.counts.specs.steps.Parts.{inWindow}
+use Rattle.counts.specs.steps.Window.{inWindow}
 use Rattle.row_counts.specs.steps.Rows.{dilatedRows}
 use Rattle.counts.proofs.Put.{part-length}
 use Rattle.row_counts.proofs.RowLaws.{row-is}

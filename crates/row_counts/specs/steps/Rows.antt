@@ -9,7 +9,8 @@ use Rattle.plane.specs.Plane.{on, bit, onAt, planeOf}
 use Rattle.plane.specs.Mask.{isOn, maskOf}
 use Rattle.plane.specs.steps.Sides.{longestSide, Sides}
 use Rattle.counts.specs.Running.{windowCount, enters, leaves, running}
-use Rattle.counts.specs.steps.Parts.{inWindow, stepOf}
+use Rattle.counts.specs.steps.Window.{inWindow}
+use Rattle.counts.specs.steps.Parts.{stepOf}
 
 -- a row after the line pass: 1 where the pixel's window holds an on-pixel, else 0
 unfoldable pub dilatedRow : List ℕ → ℕ → List ℕ
