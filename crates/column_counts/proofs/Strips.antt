@@ -1,22 +1,21 @@
 -- Laws of the pass down the columns: the counts of a strip, and the plane that is written.
 -- Assumes nothing.
-use mathlib.Core.Path.{_≡_, refl, sym, ap, _∙_}
-use mathlib.Core.Bool.{Bool, true, false, _&&_}
+use mathlib.Core.Path.{_≡_, sym, ap, _∙_}
+use mathlib.Core.Bool.{Bool}
 use mathlib.Core.List.{List}
 use mathlib.Core.Logic.{⊎-elim}
-use Prim.Native.Nat.{ℕ, zero, suc, _+_, _*_, _-_, _≤_, _<_}
+use Prim.Native.Nat.{ℕ, _+_, _*_, _-_, _≤_, _<_}
 use native.Mathlib.Omega.{arith}
-use lib.Dec.{ltb}
 use lib.ListN.{length, getD, take, drop}
 use borrow.Rule.Slice.PartMut.{putMid}
-use Rattle.plane.specs.Plane.{on, bit, onAt, table}
+use Rattle.plane.specs.Plane.{on, bit, onAt}
 use Rattle.plane.specs.Mask.{isOn, maskOf}
 use Rattle.plane.specs.steps.Sides.{longestSide}
 use Rattle.plane.proofs.Search.{which}
 use Rattle.plane.proofs.Plane.{row-in, table-length, table-at, plane-is}
 use Rattle.plane.proofs.Mask.{mask-at}
 use Rattle.counts.specs.Running.{windowCount}
-use Rattle.counts.specs.steps.Parts.{fullByte, restOf, changed, movedLine, Split}
+use Rattle.counts.specs.steps.Parts.{fullByte, restOf, changed, movedLine}
 use Rattle.column_counts.specs.steps.Columns.{onDown, columnByte, dilatedColumns, balancedLow, balancedRest}
 use Rattle.column_counts.specs.steps.Columns.{Balanceable, Counted, Swept}
 use Rattle.counts.proofs.Counting.{window-some}

@@ -1,7 +1,7 @@
 -- `column_counts::sweep` meets its contract. The loop's invariant: the counts are the running counts before the step to row y, and the
 -- first y rows are written.
 -- Assumes nothing.
-use mathlib.Core.Path.{_≡_, refl, sym, ap, _∙_}
+use mathlib.Core.Path.{_≡_, sym, ap, _∙_}
 use mathlib.Core.List.{List}
 use Prim.Native.Nat.{ℕ, _+_, _*_, _-_, _≤_}
 use native.Mathlib.Numerals.{add-one}

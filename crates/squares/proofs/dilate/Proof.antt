@@ -1,6 +1,5 @@
 -- `squares::dilate` meets its contract.
 -- Assumes nothing.
-use mathlib.Core.Path.{_∙_}
 use Prim.Native.Nat.{_*_, _≤_}
 use native.Mathlib.Omega.{arith}
 use lib.ListN.{drop}
