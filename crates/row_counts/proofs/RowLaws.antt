@@ -225,7 +225,14 @@ module _ {row steps : List ℕ} {k c : ℕ} (p : Stepped row k c steps) (inside 
         ap (λ (u : List ℕ). getD u i 0) here ∙ part-at steps x m i l ∙ p .each (x + i) (omega arith) in
         rw (step, sym q, sym t, value-more (x + i)) s
 
-    -- so each pixel that is written tells whether its window has an on-pixel, and the sum at the end is the value there
+    -- so at each pixel their sum is the count of its window,
+    pub ran-count : (i : ℕ) → i < m → restOf n + tally part (fullByte n) (i + 1) ≡ windowCount (length row) k (c + (x + i)) (isOn row)
+    ran-count i l =
+        let q : x + (i + 1) ≡ x + i + 1 = omega arith in
+        let s = split-after (i + 1) (omega arith) .sum in
+        omega (arith, rw q at s, value-count (x + i) (omega arith))
+
+    -- each pixel that is written tells whether its window has an on-pixel, and the sum at the end is the value there
     pub ran-at : (i : ℕ) → i < m → getD (ranLine part (fullByte n)) i 0 ≡ bit (ltb 0 (windowCount (length row) k (c + (x + i)) (isOn row)))
     unfolding ranLine
     ran-at i l =
