@@ -21,7 +21,7 @@ use Rattle.plane.proofs.Mask.{mask-length, mask-at, mask-same}
 use Rattle.counts.specs.Running.{windowCount, enters, leaves, running}
 use Rattle.counts.specs.steps.Window.{inWindow}
 use Rattle.counts.specs.steps.Parts.{fullByte, restOf, changed, stepOf, movedLine, Split}
-use Rattle.row_counts.specs.steps.Rows.{tally, ranLine, countedPart, dilatedRow, Steppable, Stepped}
+use Rattle.row_counts.specs.steps.Rows.{changeLine, tally, ranLine, countedPart, dilatedRow, Steppable, Stepped}
 use Rattle.counts.proofs.Counting.{window-some, lesser-is, leaves-held, running-count}
 use Rattle.counts.proofs.Parts.{not-moved, moved-small, split-new, split-step, split-test}
 use Rattle.counts.proofs.Put.{part-at, part-length, put-length, put-front, put-part, put-back}
@@ -138,6 +138,28 @@ module _ {row steps : List ℕ} {k c : ℕ} (p : Steppable row k c steps) where
     stepped =
         let long = put-length s (length steps) one new inside long-two in
         record { each = λ i l. left i (omega (arith, size)) }
+
+-- where a pixel enters and one leaves at each of m columns, the steps are had at once
+pub change-stepped : {row steps new : List ℕ} {k c a b m : ℕ} → Steppable row k c steps → k < c → c + m + k ≤ length row
+    → m ≡ length steps → a ≡ c + k → b ≡ c - k - 1
+    → new ≡ changeLine (take (a + m - a) (drop a row)) (take (b + m - b) (drop b row)) → Stepped row k c new
+unfolding changeLine enters leaves isOn
+change-stepped {row} {steps} {new} {k} {c} {a} {b} {m} p near inside size start end made =
+    let enter = take (a + m - a) (drop a row) in
+    let leave = take (b + m - b) (drop b row) in
+    let f : ℕ → ℕ = λ (x : ℕ). stepOf (isOn enter x) (isOn leave x) in
+    let long : length enter ≡ m = part-length row a (a + m - a) (omega arith) ∙ omega arith in
+    let size : length new ≡ m = ap length made ∙ table-length f 0 (length enter) ∙ long in
+    record {
+      each =
+          λ i l.
+          let q : c + i + k ≡ a + i = omega arith in
+          let r : c + i - (k + 1) ≡ b + i = omega arith in
+          ap (λ (u : List ℕ). getD u i 0) made
+          ∙ table-at f (length enter) i 0 (omega arith)
+          ∙ rw (lt-ltb (c + i + k) (length row) (omega arith), lt-ltb k (c + i) (omega arith), q, r,
+          part-at row a (a + m - a) i (omega arith), part-at row b (b + m - b) i (omega arith)) refl;
+    }
 
 -- ---- the running count through the steps
 

@@ -10,8 +10,8 @@ ghost use Rattle.plane.specs.Mask.{isOn};
 ghost use Rattle.plane.specs.steps.Sides.{longestSide};
 ghost use Rattle.counts.specs.Running.{running};
 ghost use Rattle.counts.specs.steps.Parts.{fullByte, restOf};
-ghost use Rattle.row_counts.specs.steps.Rows.{tally, ranLine, countedPart, dilatedRow, dilatedRows};
-ghost use Rattle.row_counts.specs.steps.Rows.{Steppable, Stepped, Runnable, Block, Rows, RowPlanes};
+ghost use Rattle.row_counts.specs.steps.Rows.{changeLine, tally, ranLine, countedPart, dilatedRow, dilatedRows};
+ghost use Rattle.row_counts.specs.steps.Rows.{Changing, Steppable, Stepped, Runnable, Block, Rows, RowPlanes};
 
 // How many columns of a row are stepped at a time, and how many of them a byte runs through.
 const BLOCK: usize = 256;
@@ -43,9 +43,24 @@ fn fill(b: u8, out: &mut [u8])
     }
 }
 
+// By how much a count changes, modulo 256, at each of a line of steps: by 1 where a pixel enters, and by 255, which is one less, where one
+// leaves.
+fn change_line(enter: &[u8], leave: &[u8], steps: &mut [u8])
+    requires { ⌜ Changing (now enter) (now leave) (now steps) ⌝ }
+    ensures { λ _. ⌜ now (steps .exit) ≡ changeLine (now (enter .entry)) (now (leave .entry)) ⌝ }
+{
+    let mut x = 0usize;
+    while x < enter.len() {
+        let e = plane::byte(enter[x] != 0);
+        let l = if leave[x] != 0 { 255u8 } else { 0 };
+        steps[x] = std::num::wrapping_add_u8(e, l);
+        x += 1;
+    }
+}
+
 // By how much the running count of a row changes, modulo 256, at each of the columns from column c on: the pixel k columns on enters,
-// and the one k + 1 columns back leaves.
-fn row_steps(row: &[u8], k: usize, c: usize, steps: &mut [u8])
+// and the one k + 1 columns back leaves. Near the ends of the row some of these columns have no such pixel.
+fn end_steps(row: &[u8], k: usize, c: usize, steps: &mut [u8])
     requires { ⌜ Steppable (now row) k c (now steps) ⌝ }
     ensures { λ _. ⌜ Stepped (now (row .entry)) k c (now (steps .exit)) ⌝ }
 {
@@ -59,6 +74,25 @@ fn row_steps(row: &[u8], k: usize, c: usize, steps: &mut [u8])
     let b = counts::behind(c + m, k);
     let s = m - (b - a);
     counts::move_line(&row[a..b], 255, &mut steps[s..m]);
+}
+
+// The same; away from the ends a pixel enters and one leaves at every column.
+fn row_steps(row: &[u8], k: usize, c: usize, steps: &mut [u8])
+    requires { ⌜ Steppable (now row) k c (now steps) ⌝ }
+    ensures { λ _. ⌜ Stepped (now (row .entry)) k c (now (steps .exit)) ⌝ }
+{
+    let m = steps.len();
+    if c <= k {
+        end_steps(row, k, c, steps);
+        return;
+    }
+    if row.len() < c + m + k {
+        end_steps(row, k, c, steps);
+        return;
+    }
+    let a = c + k;
+    let b = c - k - 1;
+    change_line(&row[a..a + m], &row[b..b + m], steps);
 }
 
 // The running count through at most 127 steps, from n on, to its last value: a pixel is 1 where the count is above 0. Of the count a byte

@@ -5,7 +5,7 @@ use Prim.Native.Nat.{ℕ, zero, suc, _+_, _*_, _%_, _≤_, _<_}
 use mathlib.Core.List.{List}
 use lib.Dec.{ltb}
 use lib.ListN.{length, getD}
-use Rattle.plane.specs.Plane.{on, bit, onAt, planeOf}
+use Rattle.plane.specs.Plane.{on, bit, onAt, table, planeOf}
 use Rattle.plane.specs.Mask.{isOn, maskOf}
 use Rattle.plane.specs.steps.Sides.{longestSide, Sides}
 use Rattle.counts.specs.Running.{windowCount, enters, leaves, running}
@@ -32,6 +32,14 @@ tally steps b (suc x) = (tally steps b x + getD steps x 0) % 256
 -- 1 where the byte after the step is not 0
 unfoldable pub ranLine : List ℕ → ℕ → List ℕ
 ranLine steps b = maskOf (length steps) (λ (x : ℕ). on (tally steps b (x + 1)))
+
+-- the steps of a line, of which one pixel enters and one leaves at each
+unfoldable pub changeLine : List ℕ → List ℕ → List ℕ
+changeLine enter leave = table (λ (x : ℕ). stepOf (isOn enter x) (isOn leave x)) 0 (length enter)
+
+pub record Changing (enter leave steps : List ℕ) : Type 0 where
+  pub leave-size : length leave ≡ length enter
+  pub steps-size : length steps ≡ length enter
 
 -- columns from column c on of a row, with a step for each, all 0
 pub record Steppable (row : List ℕ) (k c : ℕ) (steps : List ℕ) : Type 0 where
