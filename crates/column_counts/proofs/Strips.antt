@@ -16,7 +16,7 @@ use Rattle.plane.proofs.Plane.{row-in, table-length, table-at, plane-is}
 use Rattle.plane.proofs.Mask.{mask-at}
 use Rattle.counts.specs.Running.{windowCount}
 use Rattle.counts.specs.steps.Parts.{fullByte, restOf, changed, movedLine}
-use Rattle.column_counts.specs.steps.Columns.{onDown, columnByte, dilatedColumns, balancedLow, balancedRest}
+use Rattle.column_counts.specs.steps.Columns.{onDown, columnByte, dilatedColumns, balancedLow, balancedRest, steppedLine}
 use Rattle.column_counts.specs.steps.Columns.{Balanceable, Counted, Swept}
 use Rattle.counts.proofs.Counting.{window-some}
 use Rattle.counts.proofs.Parts.{split-new, split-later, split-enter, split-leave, split-test}
@@ -42,6 +42,24 @@ row-moved plane low j w c change x l =
     part-at plane s (s + length low - s) x (omega arith) ∙ ap (λ (y : ℕ). getD plane y 0) i in
     table-at (λ (y : ℕ). changed (getD low y 0) (on (getD line y 0)) change) (length low) x 0 l
     ∙ ap (λ (v : ℕ). changed (getD low x 0) (on v) change) pixel
+
+-- the same after row i has entered and row j has left, in one pass
+pub rows-stepped : (plane low : List ℕ) (i j w c x : ℕ) → x < length low
+    → let a = i * w + c in
+    let b = j * w + c in
+    getD (steppedLine (take (a + length low - a) (drop a plane)) (take (b + length low - b) (drop b plane)) low) x 0
+    ≡ changed (changed (getD low x 0) (onDown plane w (c + x) i) 1) (onDown plane w (c + x) j) 255
+unfolding steppedLine isOn onAt
+rows-stepped plane low i j w c x l =
+    let part : ℕ → List ℕ = λ (s : ℕ). take (s + length low - s) (drop s plane) in
+    let pixel : (r : ℕ) → getD (part (r * w + c)) x 0 ≡ getD plane (r * w + (c + x)) 0 =
+    λ r.
+    let s = r * w + c in
+    let q : s + x ≡ r * w + (c + x) = omega arith in
+    part-at plane s (s + length low - s) x (omega arith) ∙ ap (λ (y : ℕ). getD plane y 0) q in
+    table-at (λ (y : ℕ). changed (changed (getD low y 0) (on (getD (part (i * w + c)) y 0)) 1) (on (getD (part (j * w + c)) y 0)) 255)
+    (length low) x 0 l
+    ∙ rw (pixel i, pixel j)
 
 -- ---- the counts of a strip
 
@@ -74,24 +92,29 @@ module _ {value : ℕ → ℕ} {t : ℕ} {low rest : List ℕ} (n : Counted valu
             rw (u, v, n .each x i .sum) (split-new (value x));
       }
 
-  module _ (moves : ℕ → Bool) (low′ : List ℕ) (size : length low′ ≡ length low) (few : t ≤ 126) where
-    -- a row enters,
-    pub counted-enter : ((x : ℕ) → x < length low → getD low′ x 0 ≡ changed (getD low x 0) (moves x) 1)
-        → Counted (λ (x : ℕ). value x + bit (moves x)) (t + 1) low′ rest
-    counted-enter e =
-        record {
-          size = n .size ∙ sym size;
-          each = λ x l. (let i : x < length low = omega arith in rw (e x i) (split-enter (n .each x i) (moves x) few));
-        }
+  -- a row enters,
+  pub counted-enter : (moves : ℕ → Bool) (low′ : List ℕ) → length low′ ≡ length low → t ≤ 126
+      → ((x : ℕ) → x < length low → getD low′ x 0 ≡ changed (getD low x 0) (moves x) 1)
+      → Counted (λ (x : ℕ). value x + bit (moves x)) (t + 1) low′ rest
+  counted-enter moves low′ size few e =
+      record {
+        size = n .size ∙ sym size;
+        each = λ x l. (let i : x < length low = omega arith in rw (e x i) (split-enter (n .each x i) (moves x) few));
+      }
 
-    -- or leaves
-    pub counted-leave : ((x : ℕ) → x < length low → getD low′ x 0 ≡ changed (getD low x 0) (moves x) 255)
-        → ((x : ℕ) → x < length low → bit (moves x) ≤ value x) → Counted (λ (x : ℕ). value x - bit (moves x)) (t + 1) low′ rest
-    counted-leave e held =
-        record {
-          size = n .size ∙ sym size;
-          each = λ x l. (let i : x < length low = omega arith in rw (e x i) (split-leave (n .each x i) (moves x) few (held x i)));
-        }
+  -- or one enters and one leaves
+  pub counted-step : (comes goes : ℕ → Bool) (low′ : List ℕ) → length low′ ≡ length low → t ≤ 125
+      → ((x : ℕ) → x < length low → getD low′ x 0 ≡ changed (changed (getD low x 0) (comes x) 1) (goes x) 255)
+      → ((x : ℕ) → x < length low → bit (goes x) ≤ value x + bit (comes x))
+      → Counted (λ (x : ℕ). value x + bit (comes x) - bit (goes x)) (t + 1 + 1) low′ rest
+  counted-step comes goes low′ size few e held =
+      record {
+        size = n .size ∙ sym size;
+        each =
+            λ x l.
+            let i : x < length low = omega arith in
+            rw (e x i) (split-leave (split-enter (n .each x i) (comes x) (omega arith)) (goes x) (omega arith) (held x i));
+      }
 
 -- the bytes tell whether the window of row y has an on-pixel
 pub column-tested : (plane : List ℕ) (h w k c y : ℕ) {low rest : List ℕ} {t : ℕ}

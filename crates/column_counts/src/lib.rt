@@ -7,7 +7,8 @@ ghost use Prim.Native.Nat.{_+_};
 ghost use lib.ListN.{length};
 ghost use Rattle.plane.specs.Mask.{isOn, maskOf};
 ghost use Rattle.column_counts.specs.steps.Columns.{dilatedColumns, balancedLow, balancedRest, Balanceable, Balanced};
-ghost use Rattle.column_counts.specs.steps.Columns.{MovableRow, MovedRow, Fillable, Filled, Slidable, Slid};
+ghost use Rattle.column_counts.specs.steps.Columns.{MovableRow, MovedRow, Fillable, Filled, Following, Followed};
+ghost use Rattle.column_counts.specs.steps.Columns.{steppedLine, Lines, Slidable, Slid};
 ghost use Rattle.column_counts.specs.steps.Columns.{Start, Swept, ColumnPlanes};
 
 // How many columns a strip has at most.
@@ -87,28 +88,6 @@ fn enter_rows(
     }
 }
 
-// The window slides to row y, and with it the counts: the row k rows below enters, and the one k + 1 rows above leaves. t rows have moved
-// since the counts were balanced; how many have then is handed back.
-fn slide(
-    plane: &[u8],
-    h: usize,
-    w: usize,
-    k: usize,
-    c: usize,
-    y: usize,
-    t: usize,
-    low: &mut [u8],
-    rest: &mut [u32],
-) -> usize
-    requires { ⌜ Slidable (now plane) h w k c y t (now low) (now rest) ⌝ }
-    ensures { λ r. ⌜ Slid (now (plane .entry)) h w k c y r (now (low .exit)) (now (rest .exit)) ⌝ }
-{
-    let u = balance_after(t, low, rest);
-    move_row(plane, h, w, c, y + k < h, y + k, 1, low);
-    move_row(plane, h, w, c, k < y, counts::behind(y, k), 255, low);
-    u + 2
-}
-
 // A pixel is 1 where the count of its column is above 0.
 fn test_line(low: &[u8], out: &mut [u8])
     requires { ⌜ length (now out) ≡ length (now low) ⌝ }
@@ -119,6 +98,93 @@ fn test_line(low: &[u8], out: &mut [u8])
         out[x] = plane::byte(low[x] != 0);
         x += 1;
     }
+}
+
+// The bytes follow the window to row y, and are tested: the row k rows below enters, and the one k + 1 rows above leaves. Near the ends of
+// the columns there may be no such row.
+fn end_row(
+    plane: &[u8],
+    h: usize,
+    w: usize,
+    k: usize,
+    c: usize,
+    y: usize,
+    low: &mut [u8],
+    out: &mut [u8],
+)
+    requires { ⌜ Following (now plane) h w k c y (now low) (now out) ⌝ }
+    ensures { λ _. ⌜ Followed (now (plane .entry)) h w k c y (now (low .entry)) (now (low .exit)) (now (out .exit)) ⌝ }
+{
+    move_row(plane, h, w, c, y + k < h, y + k, 1, low);
+    move_row(plane, h, w, c, k < y, counts::behind(y, k), 255, low);
+    test_line(low, out);
+}
+
+// The same for a line that enters and one that leaves, in one pass.
+fn step_line(enter: &[u8], leave: &[u8], low: &mut [u8], out: &mut [u8])
+    requires { ⌜ Lines (now enter) (now leave) (now low) (now out) ⌝ }
+    ensures { λ _. ⌜ now (low .exit) ≡ steppedLine (now (enter .entry)) (now (leave .entry)) (now (low .entry)) ⌝ }
+    ensures { λ _. ⌜ now (out .exit) ≡ maskOf (length (now (low .entry))) (isOn (now (low .exit))) ⌝ }
+{
+    let mut x = 0usize;
+    while x < enter.len() {
+        let e = plane::byte(enter[x] != 0);
+        let l = if leave[x] != 0 { 255u8 } else { 0 };
+        let v = std::num::wrapping_add_u8(std::num::wrapping_add_u8(low[x], e), l);
+        low[x] = v;
+        out[x] = plane::byte(v != 0);
+        x += 1;
+    }
+}
+
+// The same; away from the ends a row enters and one leaves.
+fn follow(
+    plane: &[u8],
+    h: usize,
+    w: usize,
+    k: usize,
+    c: usize,
+    y: usize,
+    low: &mut [u8],
+    out: &mut [u8],
+)
+    requires { ⌜ Following (now plane) h w k c y (now low) (now out) ⌝ }
+    ensures { λ _. ⌜ Followed (now (plane .entry)) h w k c y (now (low .entry)) (now (low .exit)) (now (out .exit)) ⌝ }
+{
+    if y <= k {
+        end_row(plane, h, w, k, c, y, low, out);
+        return;
+    }
+    if h <= y + k {
+        end_row(plane, h, w, k, c, y, low, out);
+        return;
+    }
+    let n = low.len();
+    let a = (y + k) * w + c;
+    let b = (y - k - 1) * w + c;
+    step_line(&plane[a..a + n], &plane[b..b + n], low, out);
+}
+
+// The window slides to row y, and with it the counts, and a pixel is 1 where its count is above 0. t rows have moved since the counts were
+// balanced; how many have then is handed back.
+fn slide(
+    plane: &[u8],
+    h: usize,
+    w: usize,
+    k: usize,
+    c: usize,
+    y: usize,
+    t: usize,
+    low: &mut [u8],
+    rest: &mut [u32],
+    out: &mut [u8],
+) -> usize
+    requires { ⌜ Slidable (now plane) h w k c y t (now low) (now rest) (now out) ⌝ }
+    ensures { λ r. ⌜ Slid (now (plane .entry)) h w k c y r (now (low .exit)) (now (rest .exit)) (now (out .exit)) ⌝ }
+{
+    let u = balance_after(t, low, rest);
+    follow(plane, h, w, k, c, y, low, out);
+    u + 2
 }
 
 // Row by row down the columns from column c on, as many as there are counts: the window slides, and its counts are tested.
@@ -141,10 +207,9 @@ fn sweep(
     let mut t = 127usize;
     let mut y = 0usize;
     while y < h {
-        t = slide(plane, h, w, k, c, y, t, low, rest);
         let s = y * w + c;
         let e = s + n;
-        test_line(low, &mut out[s..e]);
+        t = slide(plane, h, w, k, c, y, t, low, rest, &mut out[s..e]);
         y += 1;
     }
 }

@@ -157,8 +157,14 @@ change-stepped {row} {steps} {new} {k} {c} {a} {b} {m} p near inside size start 
           let r : c + i - (k + 1) ≡ b + i = omega arith in
           ap (λ (u : List ℕ). getD u i 0) made
           ∙ table-at f (length enter) i 0 (omega arith)
-          ∙ rw (lt-ltb (c + i + k) (length row) (omega arith), lt-ltb k (c + i) (omega arith), q, r,
-          part-at row a (a + m - a) i (omega arith), part-at row b (b + m - b) i (omega arith)) refl;
+          ∙ rw (
+            lt-ltb (c + i + k) (length row) (omega arith),
+            lt-ltb k (c + i) (omega arith),
+            q,
+            r,
+            part-at row a (a + m - a) i (omega arith),
+            part-at row b (b + m - b) i (omega arith),
+          ) refl;
     }
 
 -- ---- the running count through the steps

@@ -32,24 +32,15 @@ abbrev μ-loop : tie.MeasureT-loop
 abbrev at-start : tie.At-loop Inv-loop μ-loop → tie.Start Inv-loop μ-loop
 at-start c = c .before .before .before .before .before .before .before .before .before .before .before .before .before
 
--- the turn of the loop, from where the window has slid
-abbrev turn : tie.After-slide Inv-loop μ-loop → tie.In-loop Inv-loop μ-loop
-turn c = c .before .before .before
-
--- the counts are as many as before
-low-slid : (c : tie.After-slide Inv-loop μ-loop)
-    → length (c .slide .last .1 .1 .1 .1 .1 .1 .1 .0) ≡ length (at-start (turn c .before) .args .low .now)
-low-slid c = c .slide .kept .1 .1 .1 .1 .1 .1 .1 .0 ∙ turn c .before .loop .inv .1
-
 -- row y of the strip lies within the plane
-row-here : (c : tie.After-slide Inv-loop μ-loop)
-    → let l = turn c .before in
+row-here : (c : tie.In-loop Inv-loop μ-loop)
+    → let l = c .before in
     let a = at-start l .args in
     (l .loop .y * a .w + a .c + length (a .low .now) ≤ length (l .loop .out)) × (length (l .loop .out) ≤ 4294967296)
 row-here c =
-    let o = at-start (turn c .before) in
-    let size = turn c .before .loop .inv .3 .size in (
-      omega (arith, strip-in _ _ _ _ _ (turn c .loop-test .taken) (o .pre .strip .inside)),
+    let o = at-start (c .before) in
+    let size = c .before .loop .inv .3 .size in (
+      omega (arith, strip-in _ _ _ _ _ (c .loop-test .taken) (o .pre .strip .inside)),
       omega (arith, area-most (o .pre .strip .tall) (o .pre .strip .wide)),
     )
 
@@ -74,47 +65,42 @@ loop-holds c =
 
 slide-requires : tie.Need-slide-requires Inv-loop μ-loop
 slide-requires c κs =
-    let l = c .before .before .before in
+    let turn = c .before .before .before in
+    let l = turn .before in
     let o = at-start l in
     record {
-      strip = rw (l .loop .inv .1) (o .pre .strip);
-      near = o .pre .near;
-      row = c .before .before .loop-test .taken;
+      following = record {
+        strip = rw (l .loop .inv .1) (o .pre .strip);
+        near = o .pre .near;
+        row = turn .loop-test .taken;
+        line = simp (length-take, length-drop) (omega (arith, row-here turn .0, l .loop .inv .1));
+      };
       counted = l .loop .inv .2;
     }
 
-test-line-requires : tie.Need-test-line-requires Inv-loop μ-loop
-test-line-requires c κs =
-    let s = c .before .before .before .before .before .before in
-    simp (length-take, length-drop) (omega (arith, row-here s .0, low-slid s))
-
--- where the window has slid, from the end of the turn
-abbrev slid : tie.After-slice-known8 Inv-loop μ-loop → tie.After-slide Inv-loop μ-loop
-slid c = c .before .before .before .before .before .before .before .before .before
-
 loop-again : tie.Need-loop-again Inv-loop μ-loop
 loop-again c =
-    let s = slid c in
-    let l = turn s .before in
+    let turn = c .before .before .before .before .before .before .before .before .before .before in
+    let l = turn .before in
     let o = at-start l in
     let a = o .args in
     let y = l .loop .y in
-    let low = s .slide .last .1 .1 .1 .1 .1 .1 .1 .0 in
-    let call = c .before .before .test-line in
-    let row = call .last .1 .0 in
-    let made : row ≡ maskOf (length low) (isOn low) = call .ensures in
-    let long = ap length made ∙ mask-length (length low) (isOn low) ∙ low-slid s in (
-      omega (arith, turn s .loop-test .taken),
-      low-slid s,
-      counted-as (s .slide .ensures .counted)
+    let call = c .before .before .before .before .before .before .slide in
+    let low = call .last .1 .1 .1 .1 .1 .1 .1 .0 in
+    let row = call .last .1 .1 .1 .1 .1 .1 .1 .1 .1 .0 in
+    let slid : length low ≡ length (a .low .now) = call .kept .1 .1 .1 .1 .1 .1 .1 .0 ∙ l .loop .inv .1 in
+    let made : row ≡ maskOf (length low) (isOn low) = call .ensures .tested in
+    let long = ap length made ∙ mask-length (length low) (isOn low) ∙ slid in (
+      omega (arith, turn .loop-test .taken),
+      slid,
+      counted-as (call .ensures .counted)
           (λ x g.
           let on = onDown (a .plane .now) (a .w) (a .c + x) in
-          sym (ap (running (a .h) (a .k) on) (add-one y) ∙ running-count (a .h) (a .k) on y (turn s .loop-test .taken))),
-      row-swept (l .loop .inv .3) (o .pre .strip .inside) (turn s .loop-test .taken) row long
+          sym (ap (running (a .h) (a .k) on) (add-one y) ∙ running-count (a .h) (a .k) on y (turn .loop-test .taken))),
+      row-swept (l .loop .inv .3) (o .pre .strip .inside) (turn .loop-test .taken) row long
           (λ x g.
           ap (λ (u : List ℕ). getD u x 0) made
-          ∙ column-tested (a .plane .now) (a .h) (a .w) (a .k) (a .c) y (s .slide .ensures .counted) (s .slide .ensures .few) x
-          (omega (arith, low-slid s))),
+          ∙ column-tested (a .plane .now) (a .h) (a .w) (a .k) (a .c) y (call .ensures .counted) (call .ensures .few) x (omega arith)),
     )
 
 returns : tie.Need-returns Inv-loop μ-loop
@@ -131,16 +117,15 @@ sweep-spec =
     (λ c κs. search needs)
     enter-rows-requires
     loop-holds
+    (λ c. omega (arith, row-here c .0, row-here c .1))
+    (λ c. omega (arith, row-here c .0, row-here c .1))
+    (λ c. omega (arith, row-here c .0, row-here c .1))
+    (λ c. search needs)
+    (λ c. omega (arith, row-here (c .before .before) .0, row-here (c .before .before) .1))
+    (λ c. omega (arith, row-here (c .before .before) .0, row-here (c .before .before) .1))
     slide-requires
-    (λ c. omega (arith, row-here (c .before .before .before .before) .0, row-here (c .before .before .before .before) .1))
-    (λ c. omega (arith, row-here (c .before .before .before .before) .0, row-here (c .before .before .before .before) .1))
-    (λ c. omega (arith, row-here (c .before .before .before .before) .0, row-here (c .before .before .before .before) .1))
-    (λ c. omega (arith, row-here (c .before .before .before .before .before) .0))
-    (λ c. omega (arith, row-here (c .before .before .before .before .before) .0))
-    (λ c. omega (arith, row-here (c .before .before .before .before .before) .0))
-    test-line-requires
-    (λ c. omega (arith, turn (slid c) .loop-test .taken, at-start (turn (slid c) .before) .pre .strip .tall))
-    (λ c. omega (arith, turn (slid c) .loop-test .taken))
+    (λ c. omega arith)
+    (λ c. omega arith)
     loop-again
     (λ c. c .before .loop .inv .1)
     (λ c. c .before .loop .inv .2 .size ∙ c .before .loop .inv .1 ∙ sym (at-start (c .before) .pre .zeros .size))

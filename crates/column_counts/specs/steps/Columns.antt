@@ -7,8 +7,9 @@ use mathlib.Core.List.{List}
 use lib.ListN.{length, getD}
 use Rattle.plane.specs.Search.{countBelow}
 use Rattle.plane.specs.Plane.{bit, onAt, table, planeOf}
+use Rattle.plane.specs.Mask.{isOn, maskOf}
 use Rattle.plane.specs.steps.Sides.{longestSide, Sides}
-use Rattle.counts.specs.Running.{windowCount, running}
+use Rattle.counts.specs.Running.{windowCount, enters, leaves, running}
 use Rattle.counts.specs.steps.Window.{inWindow}
 use Rattle.counts.specs.steps.Parts.{fullByte, restOf, changed, Split}
 
@@ -74,17 +75,38 @@ pub record Fillable (plane : List ℕ) (h w c m : ℕ) (low rest : List ℕ) : T
 pub record Filled (plane : List ℕ) (w c m : ℕ) (low rest : List ℕ) : Type 0 where
   pub counted : Counted (λ (x : ℕ). countBelow m (onDown plane w (c + x))) 127 low rest
 
--- the running counts before the step to row y,
-pub record Slidable (plane : List ℕ) (h w k c y t : ℕ) (low rest : List ℕ) : Type 0 where
+-- the bytes of a strip, the window's next row y, and a line for its pixels,
+pub record Following (plane : List ℕ) (h w k c y : ℕ) (low out : List ℕ) : Type 0 where
   pub strip : Strip plane h w c (length low)
   pub near : k ≤ longestSide
   pub row : y < h
+  pub line : length out ≡ length low
+
+-- and the bytes after a row has entered, and one has left: a pixel is on where its byte is not 0
+pub record Followed (plane : List ℕ) (h w k c y : ℕ) (low low′ out : List ℕ) : Type 0 where
+  pub each : (x : ℕ) → x < length low
+      → getD low′ x 0 ≡ changed (changed (getD low x 0) (enters h k (onDown plane w (c + x)) y) 1) (leaves k (onDown plane w (c + x)) y) 255
+  pub tested : out ≡ maskOf (length low) (isOn low′)
+
+-- lines of one length, and the bytes after one has entered and one has left
+pub record Lines (enter leave low out : List ℕ) : Type 0 where
+  pub leave-size : length leave ≡ length enter
+  pub low-size : length low ≡ length enter
+  pub out-size : length out ≡ length enter
+
+unfoldable pub steppedLine : List ℕ → List ℕ → List ℕ → List ℕ
+steppedLine enter leave low = table (λ (x : ℕ). changed (changed (getD low x 0) (isOn enter x) 1) (isOn leave x) 255) 0 (length low)
+
+-- the running counts before the step to row y,
+pub record Slidable (plane : List ℕ) (h w k c y t : ℕ) (low rest out : List ℕ) : Type 0 where
+  pub following : Following plane h w k c y low out
   pub counted : Counted (λ (x : ℕ). running h k (onDown plane w (c + x)) y) t low rest
 
--- and after it: in each column the count of row y's window
-pub record Slid (plane : List ℕ) (h w k c y t : ℕ) (low rest : List ℕ) : Type 0 where
+-- and after it: in each column the count of row y's window, and a pixel that tells whether it is above 0
+pub record Slid (plane : List ℕ) (h w k c y t : ℕ) (low rest out : List ℕ) : Type 0 where
   pub few : t ≤ 127
   pub counted : Counted (λ (x : ℕ). windowCount h k y (onDown plane w (c + x))) t low rest
+  pub tested : out ≡ maskOf (length low) (isOn low)
 
 -- ---- strips
 
