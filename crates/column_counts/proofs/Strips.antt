@@ -16,7 +16,7 @@ use Rattle.plane.proofs.Plane.{row-in, table-length, table-at, plane-is}
 use Rattle.plane.proofs.Mask.{mask-at}
 use Rattle.counts.specs.Running.{windowCount}
 use Rattle.counts.specs.steps.Parts.{fullByte, restOf, changed, movedLine}
-use Rattle.column_counts.specs.steps.Columns.{onDown, columnByte, dilatedColumns, balancedLow, balancedRest, steppedLine}
+use Rattle.column_counts.specs.steps.Columns.{onDown, columnByte, dilatedColumns, balancedLow, balancedRest}
 use Rattle.column_counts.specs.steps.Columns.{Balanceable, Counted, Swept}
 use Rattle.counts.proofs.Counting.{window-some}
 use Rattle.counts.proofs.Parts.{split-new, split-later, split-enter, split-leave, split-test}
@@ -28,38 +28,24 @@ use Rattle.counts.proofs.Put.{part-at, put-length, put-front, put-part, put-bac
 pub strip-in : (j c n h w : ℕ) → j < h → c + n ≤ w → j * w + c + n ≤ h * w
 strip-in j c n h w a b = omega (arith, row-in j h w a)
 
--- the bytes after row j has moved: its part from column c on has the pixels of these columns
-pub row-moved : (plane low : List ℕ) (j w c change x : ℕ) → x < length low
-    → let s = j * w + c in
-    getD (movedLine (take (s + length low - s) (drop s plane)) change low) x 0
-    ≡ changed (getD low x 0) (onDown plane w (c + x) j) change
-unfolding movedLine isOn onAt
-row-moved plane low j w c change x l =
+-- the part of row j from column c on has the pixels of these columns
+pub strip-pixel : (plane : List ℕ) (n j w c x : ℕ) → x < n
+    → let s = j * w + c in isOn (take (s + n - s) (drop s plane)) x ≡ onDown plane w (c + x) j
+unfolding isOn onAt
+strip-pixel plane n j w c x l =
     let s = j * w + c in
-    let line = take (s + length low - s) (drop s plane) in
-    let i : s + x ≡ j * w + (c + x) = omega arith in
-    let pixel : getD line x 0 ≡ getD plane (j * w + (c + x)) 0 =
-    part-at plane s (s + length low - s) x (omega arith) ∙ ap (λ (y : ℕ). getD plane y 0) i in
-    table-at (λ (y : ℕ). changed (getD low y 0) (on (getD line y 0)) change) (length low) x 0 l
-    ∙ ap (λ (v : ℕ). changed (getD low x 0) (on v) change) pixel
+    let q : s + x ≡ j * w + (c + x) = omega arith in
+    ap on (part-at plane s (s + n - s) x (omega arith) ∙ ap (λ (y : ℕ). getD plane y 0) q)
 
--- the same after row i has entered and row j has left, in one pass
-pub rows-stepped : (plane low : List ℕ) (i j w c x : ℕ) → x < length low
-    → let a = i * w + c in
-    let b = j * w + c in
-    getD (steppedLine (take (a + length low - a) (drop a plane)) (take (b + length low - b) (drop b plane)) low) x 0
-    ≡ changed (changed (getD low x 0) (onDown plane w (c + x) i) 1) (onDown plane w (c + x) j) 255
-unfolding steppedLine isOn onAt
-rows-stepped plane low i j w c x l =
-    let part : ℕ → List ℕ = λ (s : ℕ). take (s + length low - s) (drop s plane) in
-    let pixel : (r : ℕ) → getD (part (r * w + c)) x 0 ≡ getD plane (r * w + (c + x)) 0 =
-    λ r.
-    let s = r * w + c in
-    let q : s + x ≡ r * w + (c + x) = omega arith in
-    part-at plane s (s + length low - s) x (omega arith) ∙ ap (λ (y : ℕ). getD plane y 0) q in
-    table-at (λ (y : ℕ). changed (changed (getD low y 0) (on (getD (part (i * w + c)) y 0)) 1) (on (getD (part (j * w + c)) y 0)) 255)
-    (length low) x 0 l
-    ∙ rw (pixel i, pixel j)
+-- a line of bytes that is moved: its length, and each byte
+pub moved-length : (line : List ℕ) (change : ℕ) (low : List ℕ) → length (movedLine line change low) ≡ length low
+unfolding movedLine
+moved-length line change low = table-length (λ (x : ℕ). changed (getD low x 0) (isOn line x) change) 0 (length low)
+
+pub moved-at : (line : List ℕ) (change : ℕ) (low : List ℕ) (x : ℕ) → x < length low
+    → getD (movedLine line change low) x 0 ≡ changed (getD low x 0) (isOn line x) change
+unfolding movedLine
+moved-at line change low x l = table-at (λ (y : ℕ). changed (getD low y 0) (isOn line y) change) (length low) x 0 l
 
 -- ---- the counts of a strip
 

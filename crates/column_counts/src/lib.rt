@@ -6,9 +6,10 @@ ghost use mathlib.Core.Path.{_≡_};
 ghost use Prim.Native.Nat.{_+_};
 ghost use lib.ListN.{length};
 ghost use Rattle.plane.specs.Mask.{isOn, maskOf};
+ghost use Rattle.counts.specs.steps.Parts.{movedLine};
 ghost use Rattle.column_counts.specs.steps.Columns.{dilatedColumns, balancedLow, balancedRest, Balanceable, Balanced};
 ghost use Rattle.column_counts.specs.steps.Columns.{MovableRow, MovedRow, Fillable, Filled, Following, Followed};
-ghost use Rattle.column_counts.specs.steps.Columns.{steppedLine, Lines, Slidable, Slid};
+ghost use Rattle.column_counts.specs.steps.Columns.{Lines, Slidable, Slid};
 ghost use Rattle.column_counts.specs.steps.Columns.{Start, Swept, ColumnPlanes};
 
 // How many columns a strip has at most.
@@ -123,7 +124,7 @@ fn end_row(
 // The same for a line that enters and one that leaves, in one pass.
 fn step_line(enter: &[u8], leave: &[u8], low: &mut [u8], out: &mut [u8])
     requires { ⌜ Lines (now enter) (now leave) (now low) (now out) ⌝ }
-    ensures { λ _. ⌜ now (low .exit) ≡ steppedLine (now (enter .entry)) (now (leave .entry)) (now (low .entry)) ⌝ }
+    ensures { λ _. ⌜ now (low .exit) ≡ movedLine (now (leave .entry)) 255 (movedLine (now (enter .entry)) 1 (now (low .entry))) ⌝ }
     ensures { λ _. ⌜ now (out .exit) ≡ maskOf (length (now (low .entry))) (isOn (now (low .exit))) ⌝ }
 {
     let mut x = 0usize;

@@ -8,7 +8,7 @@ use lib.ListN.{length, getD}
 use borrow.Author.Needs.{needs}
 use borrow.Author.Tests.{not-true, not-false}
 use Rattle.counts.proofs.Parts.{not-moved}
-use Rattle.column_counts.proofs.Strips.{strip-in, row-moved}
+use Rattle.column_counts.proofs.Strips.{strip-in, strip-pixel, moved-at}
 use Rattle.column_counts.proofs.move_row.Statement.{statement}
 use Rattle.column_counts.proofs.move_row.Tie as tie
 
@@ -36,7 +36,9 @@ returns-2 c =
       each =
           λ x l.
           rw (not-false (a .there) (e .if1 .left))
-          (ap (λ (u : List ℕ). getD u x 0) (call .ensures) ∙ row-moved (a .plane .now) (a .low .now) (a .j) (a .w) (a .c) (a .change) x l);
+          (ap (λ (u : List ℕ). getD u x 0) (call .ensures)
+          ∙ moved-at _ (a .change) (a .low .now) x l
+          ∙ rw (strip-pixel (a .plane .now) (length (a .low .now)) (a .j) (a .w) (a .c) x l));
     }
 
 pub move-row-spec : {M : Type 1} → statement M

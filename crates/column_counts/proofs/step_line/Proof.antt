@@ -2,6 +2,7 @@
 -- Assumes nothing.
 use mathlib.Core.Path.{_≡_, sym, ap, _∙_}
 use mathlib.Core.Bool.{cond}
+use mathlib.Core.List.{List}
 use mathlib.Core.Logic.{⊎-elim}
 use Prim.Native.Nat.{ℕ, _-_, _≤_}
 use native.Mathlib.Nat.{le-refl}
@@ -9,13 +10,14 @@ use native.Mathlib.Omega.{arith}
 use lib.ListN.{length, getD}
 use borrow.Author.Tests.{ne-eqb}
 use borrow.Author.Needs.{needs}
-use Rattle.plane.specs.Plane.{on, bit}
+use Rattle.plane.specs.Plane.{on, bit, table}
+use Rattle.plane.proofs.Plane.{table-is}
 use Rattle.plane.specs.Mask.{isOn, maskOf}
 use Rattle.plane.proofs.Mask.{mask-same}
-use Rattle.plane.proofs.InPlace.{Changed, changed-none, changed-more, changed-end}
-use Rattle.counts.specs.steps.Parts.{changed}
+use Rattle.plane.proofs.InPlace.{Changed, changed-none, changed-more}
+use Rattle.counts.specs.steps.Parts.{changed, movedLine}
 use Rattle.counts.proofs.Begun.{Begun, begun-none, begun-more, begun-end}
-use Rattle.column_counts.specs.steps.Columns.{steppedLine}
+use Rattle.column_counts.proofs.Strips.{moved-length, moved-at}
 use Rattle.column_counts.proofs.step_line.Statement.{statement}
 use Rattle.column_counts.proofs.step_line.Tie as tie
 
@@ -45,13 +47,24 @@ loop-again c =
       begun-more (l .inv .2) (omega arith) (c .byte2 .ensures ∙ ap (λ (v : ℕ). bit (on v)) made),
     )
 
+-- the bytes of a line that has entered and one that has left
+twice : (enter leave low : List ℕ)
+    → movedLine leave 255 (movedLine enter 1 low)
+    ≡ table (λ (i : ℕ). changed (changed (getD low i 0) (isOn enter i) 1) (isOn leave i) 255) 0 (length low)
+twice enter leave low =
+    let one = movedLine enter 1 low in
+    let size = moved-length enter 1 low in
+    table-is _ (length low) (movedLine leave 255 one) 0 (moved-length leave 255 one ∙ size)
+    (λ i g. moved-at leave 255 one i (omega arith) ∙ rw (moved-at enter 1 low i g))
+
 returns : tie.Need-returns Inv-loop μ-loop
-unfolding steppedLine maskOf isOn
+unfolding maskOf isOn
 returns c =
     let l = c .before .loop in
     let o = c .before .before .before .before .before .before in
     let n = o .pre .low-size in (
-      changed-end 0 _ _ (l .low) (l .x) (l .inv .1) (omega arith),
+      table-is _ _ _ 0 (l .inv .1 .size) (λ i g. l .inv .1 .front i (omega arith))
+          ∙ sym (twice (o .args .enter .now) (o .args .leave .now) (o .args .low .now)),
       begun-end (l .inv .2) (omega arith) ∙ rw (sym n) (mask-same (length (o .args .low .now)) _ _ (λ i g. ap on (sym (l .inv .1 .front i (omega arith))))),
     )
 

@@ -88,14 +88,11 @@ pub record Followed (plane : List ℕ) (h w k c y : ℕ) (low low′ out : List 
       → getD low′ x 0 ≡ changed (changed (getD low x 0) (enters h k (onDown plane w (c + x)) y) 1) (leaves k (onDown plane w (c + x)) y) 255
   pub tested : out ≡ maskOf (length low) (isOn low′)
 
--- lines of one length, and the bytes after one has entered and one has left
+-- lines of one length
 pub record Lines (enter leave low out : List ℕ) : Type 0 where
   pub leave-size : length leave ≡ length enter
   pub low-size : length low ≡ length enter
   pub out-size : length out ≡ length enter
-
-unfoldable pub steppedLine : List ℕ → List ℕ → List ℕ → List ℕ
-steppedLine enter leave low = table (λ (x : ℕ). changed (changed (getD low x 0) (isOn enter x) 1) (isOn leave x) 255) 0 (length low)
 
 -- the running counts before the step to row y,
 pub record Slidable (plane : List ℕ) (h w k c y t : ℕ) (low rest out : List ℕ) : Type 0 where
