@@ -33,10 +33,11 @@ tally steps b (suc x) = (tally steps b x + getD steps x 0) % 256
 unfoldable pub ranLine : List ℕ → ℕ → List ℕ
 ranLine steps b = maskOf (length steps) (λ (x : ℕ). on (tally steps b (x + 1)))
 
--- the steps of a line, of which one pixel enters and one leaves at each
+-- the steps where at each of them a pixel of one line enters and one of another leaves
 unfoldable pub changeLine : List ℕ → List ℕ → List ℕ
 changeLine enter leave = table (λ (x : ℕ). stepOf (isOn enter x) (isOn leave x)) 0 (length enter)
 
+-- lines of one length
 pub record Changing (enter leave steps : List ℕ) : Type 0 where
   pub leave-size : length leave ≡ length enter
   pub steps-size : length steps ≡ length enter
