@@ -1,7 +1,7 @@
 /* Plane geometry and the cut for the copy stand: nearest pixels, labels, squares,
- * square distance, filling of transparent pixels, ground, growth, and the cut that
- * turns a picture and five settings into mask, weights and crop box. Where the card's
- * colour is known, ground and cut can be given it.
+ * square distance, filling of transparent pixels, ground, growth, a look at growth's
+ * coming pass, and the cut that turns a picture and five settings into mask, weights and
+ * crop box. Where the card's colour is known, ground and cut can be given it.
  *
  * Link with libstand.a, which `rt staticlib stand` writes to target/staticlib/:
  *
@@ -40,8 +40,8 @@
  * the outputs and work buffers, before the call returns; a bool that is lent is a
  * byte 0 or 1 and no other.
  *
- * Floating point. The calls that read double (ground, growth, cut) expect the
- * environment that a program starts with: rounding to nearest, and subnormal
+ * Floating point. The calls that read double (ground, growth, next pass, cut) expect
+ * the environment that a program starts with: rounding to nearest, and subnormal
  * numbers neither flushed to zero nor read as zero (on x86-64 FTZ and DAZ of MXCSR
  * are off). With either changed the answers are not those promised here: a colour of
  * -5e-324, say, would be accepted.
@@ -64,9 +64,9 @@ extern "C" {
 #endif
 
 /* The version of this header, and of the crate in host/. */
-#define STAND_VERSION "0.2.0"
+#define STAND_VERSION "0.3.0"
 #define STAND_VERSION_MAJOR 0
-#define STAND_VERSION_MINOR 2
+#define STAND_VERSION_MINOR 3
 #define STAND_VERSION_PATCH 0
 
 /* The longest side of a plane, in pixels (R1). */
@@ -271,6 +271,42 @@ uint32_t stand_growth(
     size_t h, size_t w,
     StandRgb reference,
     int64_t passes,
+    uint32_t *nearest, size_t nearest_len,
+    uint8_t *shallow, size_t shallow_len,
+    uint8_t *deep, size_t deep_len,
+    uint8_t *marks, size_t marks_len,
+    uint8_t *out, size_t out_len);
+
+/* What stand_next_pass answers. */
+typedef struct {
+    uint32_t refusal; /* STAND_ACCEPTED or the number of the refusal */
+    uint64_t joins;   /* how many pixels would join; 0 when refused */
+} StandNextPass;
+
+/* A look at the coming pass (R89 to R92): the background that one more pass of growth
+ * would make. The output is what stand_growth writes with one pass, and the number of
+ * joins is that of the pixels that are on in the output and off in the background. It is
+ * 0 exactly where growth ends: there is no edge or no shallow pixel, or no pixel joins.
+ * The output then has the pixels of the background, written as 0 and 1. Picture and
+ * background are read only and stay as they were.
+ *
+ * For a cut that is keyed, the background is what its mask leaves off, and the reference
+ * that of stand_ground or stand_ground_with_colour; what the output leaves is then the
+ * mask of the cut with one pass more.
+ *
+ * Refusals 1, 2, 3 and 4 are tested in this order, as by stand_growth.
+ *
+ *   colours               input, 3 * h * w
+ *   background            input, h * w bytes
+ *   nearest               work buffer
+ *   shallow, deep, marks  work buffers
+ *   out                   output, h * w bytes, 1 on the background and 0 elsewhere
+ */
+StandNextPass stand_next_pass(
+    const double *colours, size_t colours_len,
+    const uint8_t *background, size_t background_len,
+    size_t h, size_t w,
+    StandRgb reference,
     uint32_t *nearest, size_t nearest_len,
     uint8_t *shallow, size_t shallow_len,
     uint8_t *deep, size_t deep_len,

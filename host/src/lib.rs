@@ -3,8 +3,9 @@
 //!
 //! [`cut`] makes the outline that is filed: from a picture and five settings the mask, the weights,
 //! the keyed flag and the crop box. [`ground`] and [`growth`] are its two steps. Where the card's
-//! colour is known, [`cut_with_colour`] and [`ground_with_colour`] are given it. Beside them stand
-//! [`nearest`], [`labels`], [`squares`], [`square_distance`] and [`fill_transparent`].
+//! colour is known, [`cut_with_colour`] and [`ground_with_colour`] are given it. [`next_pass`] shows
+//! what one more pass of growth would take off. Beside them stand [`nearest`], [`labels`],
+//! [`squares`], [`square_distance`] and [`fill_transparent`].
 //!
 //! A plane has `h` rows and `w` columns, each from 1 to [`MOST_SIDE`], and lies row after row in
 //! one slice: pixel (y, x) is element `y * w + x`. In a mask a byte 0 is off and any other byte is
@@ -506,6 +507,57 @@ pub fn growth(
         &mut out,
     ))?;
     Ok(out)
+}
+
+/// What one more pass would do to a background: see [`next_pass`].
+#[derive(Clone, Debug, PartialEq, Eq)]
+pub struct NextPass {
+    /// The background after that pass, 1 on it and 0 elsewhere.
+    pub background: Vec<u8>,
+    /// How many pixels are on it that were not on the background before.
+    pub joins: u64,
+}
+
+/// A look at the coming pass: the background that one more pass of [`growth`] would make, and how
+/// many pixels it would take off the object.
+///
+/// The number is 0 exactly where growth ends there; the result then has the pixels of `background`,
+/// written as 0 and 1. What [`growth`] refuses is refused here, with the same number.
+///
+/// ```
+/// // White, two pixels that are nearly so, four black ones; a background of one pixel.
+/// let greys = [1.0, 0.875, 0.75, 0.0, 0.0, 0.0, 0.0];
+/// let colours: Vec<f64> = greys.iter().flat_map(|&grey| [grey; 3]).collect();
+/// let white = stand::Rgb { r: 1.0, g: 1.0, b: 1.0 };
+/// let look = |background: &[u8]| stand::next_pass(&colours, background, 1, 7, white);
+///
+/// // The second pixel joins, and the third only after it.
+/// let first = look(&[7, 0, 0, 0, 0, 0, 0])?;
+/// assert_eq!((first.background, first.joins), (vec![1, 1, 0, 0, 0, 0, 0], 1));
+/// let second = look(&[1, 1, 0, 0, 0, 0, 0])?;
+/// assert_eq!((second.background, second.joins), (vec![1, 1, 1, 0, 0, 0, 0], 1));
+///
+/// // Black does not join: growth ends.
+/// let last = look(&[1, 1, 255, 0, 0, 0, 0])?;
+/// assert_eq!((last.background, last.joins), (vec![1, 1, 1, 0, 0, 0, 0], 0));
+/// # Ok::<(), stand::Refusal>(())
+/// ```
+pub fn next_pass(
+    colours: &[f64],
+    background: &[u8],
+    h: usize,
+    w: usize,
+    reference: Rgb,
+) -> Result<NextPass, Refusal> {
+    let mut buffers = Buffers::new(h, w);
+    let mut next = zeros(plane_len(h, w));
+    let work = &mut buffers.lend();
+    let answer = raw::next_pass(colours, background, h, w, reference, work, &mut next);
+    Refusal::check(answer.refusal)?;
+    Ok(NextPass {
+        background: next,
+        joins: answer.joins,
+    })
 }
 
 /// A picture: `h` rows of `w` pixels.

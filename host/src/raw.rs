@@ -33,6 +33,16 @@ pub struct StandGround {
     pub reference: Rgb,
 }
 
+/// What [`next_pass`] answers.
+#[repr(C)]
+#[derive(Clone, Copy, Debug, PartialEq, Eq)]
+pub struct StandNextPass {
+    /// 0, or the number of the refusal.
+    pub refusal: u32,
+    /// How many pixels would join; 0 when refused.
+    pub joins: u64,
+}
+
 /// What [`cut`] and [`cut_with_colour`] answer.
 #[repr(C)]
 #[derive(Clone, Copy, Debug, PartialEq, Eq)]
@@ -57,9 +67,10 @@ const _: () = {
     assert!(size_of::<Settings>() == 40);
     assert!(size_of::<StandCut>() == 40);
     assert!(size_of::<StandGround>() == 32);
+    assert!(size_of::<StandNextPass>() == 16);
 };
 
-/// The work buffers of [`growth`], [`cut`] and [`cut_with_colour`], each of at least
+/// The work buffers of [`growth`], [`next_pass`], [`cut`] and [`cut_with_colour`], each of at least
 /// [`crate::work_len`] numbers: 14 bytes a pixel in all.
 #[derive(Debug)]
 pub struct Work<'a> {
@@ -78,7 +89,7 @@ pub struct Work<'a> {
 /// `include/stand.h`.
 #[allow(missing_docs)]
 pub mod exports {
-    use super::{StandCut, StandGround, StandLabels};
+    use super::{StandCut, StandGround, StandLabels, StandNextPass};
     use crate::{Rgb, Settings};
 
     extern "C" {
@@ -181,6 +192,25 @@ pub mod exports {
             out: *mut u8,
             out_len: usize,
         ) -> u32;
+        pub fn stand_next_pass(
+            colours: *const f64,
+            colours_len: usize,
+            background: *const u8,
+            background_len: usize,
+            h: usize,
+            w: usize,
+            reference: Rgb,
+            nearest: *mut u32,
+            nearest_len: usize,
+            shallow: *mut u8,
+            shallow_len: usize,
+            deep: *mut u8,
+            deep_len: usize,
+            marks: *mut u8,
+            marks_len: usize,
+            out: *mut u8,
+            out_len: usize,
+        ) -> StandNextPass;
         pub fn stand_cut(
             colours: *const f64,
             colours_len: usize,
@@ -420,6 +450,39 @@ pub fn growth(
             w,
             reference,
             passes,
+            work.nearest.as_mut_ptr(),
+            work.nearest.len(),
+            work.shallow.as_mut_ptr(),
+            work.shallow.len(),
+            work.deep.as_mut_ptr(),
+            work.deep.len(),
+            work.marks.as_mut_ptr(),
+            work.marks.len(),
+            out.as_mut_ptr(),
+            out.len(),
+        )
+    }
+}
+
+/// `stand_next_pass`: `out` is an output of h × w bytes.
+pub fn next_pass(
+    colours: &[f64],
+    background: &[u8],
+    h: usize,
+    w: usize,
+    reference: Rgb,
+    work: &mut Work<'_>,
+    out: &mut [u8],
+) -> StandNextPass {
+    unsafe {
+        stand_next_pass(
+            colours.as_ptr(),
+            colours.len(),
+            background.as_ptr(),
+            background.len(),
+            h,
+            w,
+            reference,
             work.nearest.as_mut_ptr(),
             work.nearest.len(),
             work.shallow.as_mut_ptr(),

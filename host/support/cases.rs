@@ -1,4 +1,4 @@
-//! The text of recorded cases of ground and cut and of their answers, in the format that
+//! The text of recorded cases of ground, cut and the pass that follows, and of their answers, in the format that
 //! crates/replay/src/lib.rt describes.
 #![allow(dead_code)]
 
@@ -12,8 +12,8 @@ pub const MOST_COLOURS: usize = 80;
 /// The characters of the palette start here.
 const FIRST: u8 = b'0';
 
-/// A case: G for ground, C for a cut, P for the cuts of two pictures. With the card's colour the letter
-/// is written small.
+/// A case: G for ground, C for a cut, P for the cuts of two pictures, F for the pass that follows the
+/// growth of a ground. With the card's colour the letter is written small.
 #[derive(Clone)]
 pub struct Case {
     pub op: char,
@@ -37,6 +37,13 @@ pub struct Outline {
     pub crop: [usize; 4],
 }
 
+/// What a look at the coming pass gives.
+pub struct Look {
+    /// The background after the pass.
+    pub background: Vec<u8>,
+    pub joins: u64,
+}
+
 /// Who answers: by the median of the border, or by the card's colour where its text is given.
 pub trait Answers {
     /// The ground, if there is one, or the number by which the call is refused.
@@ -49,6 +56,14 @@ pub trait Answers {
         tolerance: f64,
     ) -> Result<Option<Vec<u8>>, u32>;
     fn squares(&self, mask: &[u8], h: usize, w: usize, k: u64) -> Vec<u8>;
+    /// The pass after p passes of growth on a ground.
+    fn following(
+        &self,
+        given: Option<&str>,
+        picture: &Picture,
+        ground: &[u8],
+        p: i64,
+    ) -> Result<Look, u32>;
     /// The outline, or the number by which the cut is refused.
     fn cut(&self, given: Option<&str>, picture: &Picture, s: &Settings) -> Result<Outline, u32>;
 }
@@ -145,6 +160,7 @@ impl Case {
                 Ok(None) => "absent\n".into(),
                 Err(number) => refused(number),
             },
+            [one] if self.op == 'F' => self.following(one, by).unwrap_or_else(refused),
             [one] => cut_text(&cut(one), self.w),
             [one, two] => {
                 let (a, b) = (cut(one), cut(two));
@@ -154,6 +170,17 @@ impl Case {
             }
             _ => panic!("one picture or two"),
         }
+    }
+
+    /// The pass that follows the growth of the ground, where there is one.
+    fn following(&self, colours: &[f64], by: &impl Answers) -> Result<String, u32> {
+        let Some(ground) = self.ground(colours, by)? else {
+            return Ok("absent\n".into());
+        };
+        let (picture, p) = (self.picture(colours), self.settings.key_bg_fringe);
+        let look = by.following(self.colour.as_deref(), &picture, &ground, p)?;
+        let pixels = digits(&look.background, self.w);
+        Ok(format!("joins {}\n{pixels}", look.joins))
     }
 
     /// Whether two pictures agree on the border and near the first one's ground.

@@ -1,4 +1,4 @@
-//! Ground and cut held to mask.rs, picture by picture, and an account of what the pictures were. The
+//! Ground, cut and the look at the pass after it held to mask.rs, picture by picture, and an account of what the pictures were. The
 //! reference is the median of the border, or the card's colour where a text gives it.
 
 use crate::lent::CutLent;
@@ -30,6 +30,9 @@ pub struct Covered {
     pub exactly: u64,
     pub one_below: u64,
     pub ground_found: u64,
+    /// Keyed pictures of which one more pass would take off a pixel, and those where growth has ended.
+    pub next_joined: u64,
+    pub next_ended: u64,
     pub values: u64,
 }
 
@@ -44,6 +47,7 @@ impl Covered {
              \x20 keyed, passes with a join: none {none}, 1: {one}, 2: {two}, 3: {three}, more: \
              {more}; deep empty in a pass {}, an edge pixel's deep beyond 36 {}; edge \
              pixels few {}, many {}\n\
+             \x20 one pass more: with a join {}, without {}\n\
              \x20 border exactly nine tenths close {}, one entry below {}; ground found {}, all \
              ground {}\n\
              \x20 {last}\n",
@@ -60,6 +64,8 @@ impl Covered {
             self.deep_beyond,
             self.few_edges,
             self.many_edges,
+            self.next_joined,
+            self.next_ended,
             self.exactly,
             self.one_below,
             self.ground_found,
@@ -83,6 +89,8 @@ impl Covered {
             (self.deep_empty, "deep empty"),
             (self.deep_beyond, "deep beyond 36"),
             (self.many_edges, "many edge pixels"),
+            (self.next_joined, "joins in one pass more"),
+            (self.next_ended, "no join in one pass more"),
             (self.exactly, "exactly nine tenths"),
             (self.one_below, "one below nine tenths"),
             (self.whole_ground, "all ground"),
@@ -262,7 +270,31 @@ impl Comparison {
         answer.found
     }
 
-    /// Ground and cut of one picture; of one that is keyed, its passes are counted.
+    /// A look at the pass after a cut that is keyed, from what its mask leaves off, against
+    /// `unmix_fringe` on the ground with one pass more.
+    fn next_pass(&mut self, drawn: &Drawn, ground: &[bool], reference: Rgb) {
+        let Drawn { colours, h, w, .. } = drawn;
+        let (h, w) = (*h, *w);
+        let passes = usize::try_from(drawn.settings.key_bg_fringe).unwrap_or(0);
+        let r = [reference.r, reference.g, reference.b];
+        let theirs = mask::unmix_fringe(colours, ground, h, w, &r, passes.saturating_add(1));
+        let mask = &self.lent.mask[..h * w];
+        let background: Vec<u8> = mask.iter().map(|&on| 1 - on).collect();
+        let (answer, ours) = self.lent.next_pass(colours, &background, h, w, reference);
+        same(ours, &theirs, w, "next pass", || drawn.show());
+        let new = theirs
+            .iter()
+            .zip(&background)
+            .filter(|(&n, &b)| n && b == 0);
+        let new = new.count() as u64;
+        assert_eq!(answer.joins, new, "joins, {}", drawn.show());
+        self.covered.next_joined += (new > 0) as u64;
+        self.covered.next_ended += (new == 0) as u64;
+        self.covered.values += (h * w) as u64 + 1;
+    }
+
+    /// Ground and cut of one picture; of one that is keyed, the look at the pass after it, and its
+    /// passes are counted.
     pub fn both(&mut self, drawn: &Drawn, given: Option<&str>) {
         let Drawn { colours, h, w, .. } = drawn;
         let (h, w, s) = (*h, *w, &drawn.settings);
@@ -273,6 +305,7 @@ impl Comparison {
             let ground = bools(&ground);
             let seen = passes(colours, &ground, h, w, reference, s.key_bg_fringe);
             self.covered.count_passes(&seen);
+            self.next_pass(drawn, &ground, reference);
         }
     }
 }

@@ -2,7 +2,7 @@
 //! show in a later one.
 #![allow(dead_code)]
 
-use stand::raw::{self, StandCut, StandGround, Work};
+use stand::raw::{self, StandCut, StandGround, StandNextPass, Work};
 use stand::{Rgb, Settings};
 
 /// Outputs and work buffers for planes of up to `n` pixels.
@@ -74,7 +74,7 @@ impl Lent {
     }
 }
 
-/// Outputs and work buffers of ground, growth and cut.
+/// Outputs and work buffers of ground, growth, next pass and cut.
 pub struct CutLent {
     pub nearest: Vec<u32>,
     pub shallow: Vec<u8>,
@@ -146,6 +146,26 @@ impl CutLent {
         let refusal = raw::growth(colours, background, h, w, reference, passes, &mut work, out);
         assert_eq!(refusal, 0, "growth {h} × {w}");
         out
+    }
+
+    pub fn next_pass(
+        &mut self,
+        colours: &[f64],
+        background: &[u8],
+        h: usize,
+        w: usize,
+        reference: Rgb,
+    ) -> (StandNextPass, &[u8]) {
+        let out = &mut self.mask[..h * w];
+        let mut work = Work {
+            nearest: &mut self.nearest,
+            shallow: &mut self.shallow,
+            deep: &mut self.deep,
+            marks: &mut self.marks,
+        };
+        let answer = raw::next_pass(colours, background, h, w, reference, &mut work, out);
+        assert_eq!(answer.refusal, 0, "next pass {h} × {w}");
+        (answer, out)
     }
 
     /// What a call of the cut answers, refused or not, with mask and weights.

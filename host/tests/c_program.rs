@@ -71,13 +71,17 @@ work 3: 95 of 95
 ground 0 1, 1 1 1: 24
 growth 0: 24
 cut 0, keyed 1, crop 1 4 1 4: 1, weight 1
-bytes 24 32 40 40
+bytes 24 32 16 40 40
 refused 4 5 6, 6 5 4
 colour 0 1 1, 0 1, crop 1 4 1 4: 1
 colour 0 0 0, 0 0, crop 0 5 0 5: 25
 colour 11 0 0, 11 0, crop 0 0 0 0: 0
 colour 11 0 0, 11 0, crop 0 0 0 0: 0
 refused 11
+next pass 0, 1 joins: 2, kept 7
+next pass 0, 1 joins: 3, kept 7
+next pass 0, 0 joins: 3, kept 7
+next pass 4, 0 joins: 3, kept 7
 room 0 0 0 0 22 33570832
 version ";
 

@@ -1,5 +1,6 @@
 //! Ground, growth and cut compared with mask.rs, which is built unchanged: 100,000 pictures of a
-//! fixed seed and some large ones. Mask, weights by bits, keyed flag and crop box.
+//! fixed seed and some large ones. Mask, weights by bits, keyed flag and crop box; and the look at
+//! the coming pass with growth of one pass more.
 
 include!(concat!(env!("OUT_DIR"), "/the_rust.rs"));
 
@@ -51,7 +52,7 @@ mod with {
             self.comparison.covered.say(what, &last);
         }
 
-        /// Growth of a background against `unmix_fringe`.
+        /// Growth of a background, and the look at its first pass, against `unmix_fringe`.
         fn growth(&mut self, drawn: &Drawn, background: &[u8], reference: Rgb, p: i64) {
             let Drawn { colours, h, w, .. } = drawn;
             let given = bools(background);
@@ -61,9 +62,14 @@ mod with {
             let lent = &mut self.comparison.lent;
             let ours = lent.growth(colours, background, *h, *w, reference, p);
             same(ours, &theirs, *w, "growth", || drawn.show());
+            let one = mask::unmix_fringe(colours, &given, *h, *w, &r, 1);
+            let (answer, ours) = lent.next_pass(colours, background, *h, *w, reference);
+            same(ours, &one, *w, "next pass", || drawn.show());
+            let new = one.iter().zip(&given).filter(|(n, g)| n != g).count();
+            assert_eq!(answer.joins, new as u64, "joins, {}", drawn.show());
             self.growths += 1;
             self.growths_joined += (theirs != given) as u64;
-            self.comparison.covered.values += (h * w) as u64;
+            self.comparison.covered.values += 2 * (h * w) as u64 + 1;
         }
 
         /// All of it on one picture.

@@ -1,5 +1,6 @@
-//! The rules on ground, growth and cut (R15 to R36), computed pixel by pixel without any algorithm, and
-//! its cases; ground and cut also by a colour that is given. These need no mask.rs.
+//! The rules on ground, growth and cut (R15 to R36) and on the look at the coming pass (R89 to R92),
+//! computed pixel by pixel without any algorithm, and its cases; ground and cut also by a colour that
+//! is given. These need no mask.rs.
 
 #[path = "../support/masks.rs"]
 mod masks;
@@ -227,6 +228,104 @@ fn random_growths() {
         let expected = growth(&drawn.colours, &back, w, reference, p);
         assert_eq!(ours, expected, "{}\nbackground {back:?}", drawn.show());
     }
+}
+
+/// How many pixels are on in the second plane and off in the first.
+fn newly_on(before: &[u8], after: &[u8]) -> u64 {
+    let both = before.iter().zip(after);
+    both.filter(|(&b, &a)| b == 0 && a != 0).count() as u64
+}
+
+/// A look at any background, in any bytes: one pass on a copy of it, and its joins counted; 0 joins
+/// exactly where the pass ends growth.
+#[test]
+fn random_looks() {
+    let mut random = Random(74);
+    let (mut joined, mut ended) = (0, 0);
+    for _ in 0..3_000 {
+        let (h, w) = pictures::sides(&mut random, 18);
+        let drawn = pictures::draw(&mut random, h, w);
+        let density = [0, 20, 300, 900, 1000][random.below(5)];
+        let back = random.mask(h * w, density);
+        let back = random.any_bytes(&back);
+        let reference = pictures::reference(&drawn.colours, h, w);
+        let look = stand::next_pass(&drawn.colours, &back, h, w, reference).unwrap();
+        let shown = || format!("{}\nbackground {back:?}", drawn.show());
+        let expected = growth(&drawn.colours, &back, w, reference, 1);
+        assert_eq!(look.joins, newly_on(&back, &expected), "{}", shown());
+        assert_eq!(look.background, expected, "{}", shown());
+        let ends = pass(&drawn.colours, &back, w, reference).is_none();
+        assert_eq!(look.joins == 0, ends, "{}", shown());
+        joined += (look.joins > 0) as u32;
+        ended += ends as u32;
+    }
+    assert!(joined >= 100 && ended >= 100, "{joined} and {ended}");
+}
+
+/// After n passes the look shows the pass after them; and what it leaves of a keyed cut is the mask
+/// of the cut with one pass more.
+#[test]
+fn looks_after_passes() {
+    let mut random = Random(75);
+    let (mut joined, mut keyed) = (0, 0);
+    for _ in 0..1_500 {
+        let (h, w) = pictures::sides(&mut random, 20);
+        let drawn = pictures::draw(&mut random, h, w);
+        let (colours, settings) = (&drawn.colours, drawn.settings);
+        let reference = pictures::reference(colours, h, w);
+        let cut = |p: i64| {
+            let settings = Settings {
+                key_bg_fringe: p,
+                ..settings
+            };
+            stand::cut(&drawn.picture(), &settings)
+        };
+        for p in -1..4 {
+            let Ok(filed) = cut(p) else { continue };
+            if !filed.keyed {
+                continue;
+            }
+            let back: Vec<u8> = filed.mask.iter().map(|&on| 1 - on).collect();
+            let look = stand::next_pass(colours, &back, h, w, reference).unwrap();
+            let left: Vec<u8> = look.background.iter().map(|&on| 1 - on).collect();
+            let more = cut(p.max(0) + 1).unwrap();
+            assert_eq!(left, more.mask, "p {p}, {}", drawn.show());
+            assert_eq!(look.joins, newly_on(&more.mask, &filed.mask));
+            keyed += 1;
+            joined += (look.joins > 0) as u32;
+        }
+    }
+    assert!(
+        keyed >= 500 && joined >= 100,
+        "keyed {keyed}, joined {joined}"
+    );
+}
+
+/// The proved cases of the look (R93).
+#[test]
+fn cases_of_the_look() {
+    let white = Rgb {
+        r: 1.0,
+        g: 1.0,
+        b: 1.0,
+    };
+    let holds = |greys: &[f64], back: &[u8], next: &[u8], joins: u64| {
+        let colours: Vec<f64> = greys.iter().flat_map(|&grey| [grey; 3]).collect();
+        let look = stand::next_pass(&colours, back, 1, greys.len(), white).unwrap();
+        assert_eq!(
+            (&look.background[..], look.joins),
+            (next, joins),
+            "{back:?}"
+        );
+    };
+    let rim = [1.0, 0.875, 0.75, 0.0, 0.0, 0.0, 0.0];
+    holds(&rim, &[7, 0, 0, 0, 0, 0, 0], &[1, 1, 0, 0, 0, 0, 0], 1);
+    holds(&rim, &[1, 1, 0, 0, 0, 0, 0], &[1, 1, 1, 0, 0, 0, 0], 1);
+    holds(&rim, &[9, 1, 255, 0, 0, 0, 0], &[1, 1, 1, 0, 0, 0, 0], 0);
+    let two = [1.0, 0.75];
+    holds(&two, &[2, 0], &[1, 0], 0);
+    holds(&two, &[0, 0], &[0, 0], 0);
+    holds(&two, &[3, 4], &[1, 1], 0);
 }
 
 /// A picture of greys, opaque, with tolerance 0, by the median or by a colour that is given.

@@ -14,7 +14,7 @@ use std::path::{Path, PathBuf};
 const CALLS: [&str; 4] = ["geometry", "keying", "stand", "cutfile"];
 
 /// Theorems, by crate and name; and every public statement of these files.
-const THEOREMS: [(&str, &str); 21] = [
+const THEOREMS: [(&str, &str); 28] = [
     ("nearest", "nearest-some"),
     ("nearest", "nearest-none"),
     ("nearest", "nearest-is"),
@@ -23,6 +23,13 @@ const THEOREMS: [(&str, &str); 21] = [
     ("counts", "running-count"),
     ("outline", "cases-hold"),
     ("card", "same-digits"),
+    ("next_pass", "joins-zero"),
+    ("next_pass", "no-join-ended"),
+    ("next_pass", "no-join-same"),
+    ("next_pass", "next-after"),
+    ("next_pass", "next-cut"),
+    ("keying", "is-growth"),
+    ("keying", "counts-output"),
     ("keying", "ground-as-before"),
     ("keying", "cut-as-before"),
     ("stand", "exported-ground-as-before"),

@@ -2,8 +2,12 @@
 
 #[path = "../support/cases.rs"]
 mod cases;
+#[path = "../support/masks.rs"]
+mod masks;
+#[path = "../support/pictures.rs"]
+mod pictures;
 
-use cases::{Answers, Case, Outline};
+use cases::{Answers, Case, Look, Outline};
 use stand::{Picture, Settings};
 use std::fmt::Write as _;
 use std::fs;
@@ -126,6 +130,21 @@ impl Answers for Ours {
         stand::squares(mask, h, w, k).unwrap()
     }
 
+    fn following(
+        &self,
+        given: Option<&str>,
+        picture: &Picture,
+        ground: &[u8],
+        p: i64,
+    ) -> Result<Look, u32> {
+        let Picture { colours, h, w, .. } = *picture;
+        let reference = pictures::reference_by(given, colours, h, w);
+        let look = stand::growth(colours, ground, h, w, reference, p)
+            .and_then(|grown| stand::next_pass(colours, &grown, h, w, reference));
+        let stand::NextPass { background, joins } = look.map_err(|refusal| refusal.number())?;
+        Ok(Look { background, joins })
+    }
+
     fn cut(&self, given: Option<&str>, picture: &Picture, s: &Settings) -> Result<Outline, u32> {
         let cut = match given {
             Some(text) => stand::cut_with_colour(picture, text, s),
@@ -164,7 +183,7 @@ fn the_rusts_grounds() {
 
 #[test]
 fn the_rusts_cuts() {
-    replay_keying("replay_cut", 320, 60);
+    replay_keying("replay_cut", 370, 70);
 }
 
 #[test]

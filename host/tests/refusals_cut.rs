@@ -1,4 +1,4 @@
-//! Refusals of ground, growth and cut through the C interface: the number, and every lent buffer as
+//! Refusals of ground, growth, next pass and cut through the C interface: the number, and every lent buffer as
 //! it was. The buffers are patterned, and compared by bits after the call.
 
 #[path = "../support/buffer.rs"]
@@ -8,7 +8,7 @@ mod masks;
 
 use buffer::{Bits, Buffer};
 use masks::Random;
-use stand::raw::{self, StandCut, StandGround, Work};
+use stand::raw::{self, StandCut, StandGround, StandNextPass, Work};
 use stand::{Picture, Refusal, Rgb, Settings};
 use std::io::Write;
 
@@ -25,14 +25,16 @@ enum Call {
     Ground,
     GroundWithColour,
     Growth,
+    NextPass,
     Cut,
     CutWithColour,
 }
 
-const CALLS: [Call; 5] = [
+const CALLS: [Call; 6] = [
     Call::Ground,
     Call::GroundWithColour,
     Call::Growth,
+    Call::NextPass,
     Call::Cut,
     Call::CutWithColour,
 ];
@@ -47,18 +49,23 @@ impl Call {
         use Kind::{Input, Output, Work};
         match self {
             Call::Ground | Call::GroundWithColour => &[Input(3), Work, Output],
-            Call::Growth => &[Input(3), Input(1), Work, Work, Work, Work, Output],
+            Call::Growth | Call::NextPass => &[Input(3), Input(1), Work, Work, Work, Work, Output],
             Call::Cut | Call::CutWithColour => {
                 &[Input(3), Input(1), Work, Work, Work, Work, Output, Output]
             }
         }
     }
 
+    /// Whether the call is given a reference, and no tolerance.
+    fn has_reference(self) -> bool {
+        matches!(self, Call::Growth | Call::NextPass)
+    }
+
     /// Whether the call can answer this number.
     fn answers(self, number: u32) -> bool {
         match number {
             11 => matches!(self, Call::GroundWithColour | Call::CutWithColour),
-            5 => self != Call::Growth,
+            5 => !self.has_reference(),
             6 => matches!(self, Call::Cut | Call::CutWithColour),
             _ => true,
         }
@@ -137,7 +144,7 @@ impl Given {
             11 => self.text.len() != 6 || !self.text.iter().all(u8::is_ascii_hexdigit),
             4 => {
                 let Rgb { r, g, b } = self.reference;
-                let reference = self.call == Call::Growth && [r, g, b].into_iter().any(out);
+                let reference = self.call.has_reference() && [r, g, b].into_iter().any(out);
                 self.colours.iter().any(|&(_, x)| out(x)) || reference
             }
             5 => !self.settings.key_bg_tolerance.is_finite(),
@@ -266,6 +273,9 @@ impl Lent {
                 out,
             )),
             Call::Growth => raw::growth(colours, input, h, w, reference, passes, work, out),
+            Call::NextPass => {
+                next_number(raw::next_pass(colours, input, h, w, reference, work, out))
+            }
             Call::Cut => cut_number(raw::cut(colours, input, h, w, settings, work, out, weights)),
             Call::CutWithColour => cut_number(raw::cut_with_colour(
                 colours, input, h, w, text, settings, work, out, weights,
@@ -282,6 +292,12 @@ fn ground_number(answer: StandGround) -> u32 {
         assert_eq!([r, g, b].map(f64::to_bits), [0; 3], "{answer:?}");
     }
     assert!(answer.refusal == 0 || !answer.found, "{answer:?}");
+    answer.refusal
+}
+
+/// The number of an answer, in which nothing joins where it is refused.
+fn next_number(answer: StandNextPass) -> u32 {
+    assert!(answer.refusal == 0 || answer.joins == 0, "{answer:?}");
     answer.refusal
 }
 
@@ -314,7 +330,7 @@ impl Count {
         let accepted = self.0[0];
         let refused = ORDER.map(|number| self.0[number as usize]);
         let line = format!(
-            "ground, growth and cut, {what}: {accepted} accepted, refused {ORDER:?}: {refused:?}\n"
+            "ground, growth, next pass and cut, {what}: {accepted} accepted, refused {ORDER:?}: {refused:?}\n"
         );
         std::io::stderr().write_all(line.as_bytes()).unwrap();
     }
@@ -480,14 +496,16 @@ fn colours_outside_their_range() {
     for &x in &numbers {
         for channel in 0..3 {
             for p in [-1, 0, 1, i64::MAX] {
-                let mut given = Given::good(Call::Growth, 4, 5);
-                match channel {
-                    0 => given.reference.r = x,
-                    1 => given.reference.g = x,
-                    _ => given.reference.b = x,
+                for call in CALLS.into_iter().filter(|call| call.has_reference()) {
+                    let mut given = Given::good(call, 4, 5);
+                    match channel {
+                        0 => given.reference.r = x,
+                        1 => given.reference.g = x,
+                        _ => given.reference.b = x,
+                    }
+                    given.settings.key_bg_fringe = p;
+                    count.hold(&mut random, &given);
                 }
-                given.settings.key_bg_fringe = p;
-                count.hold(&mut random, &given);
             }
         }
     }
@@ -724,6 +742,8 @@ fn refusals_of_the_safe_functions() {
             stand::growth(colours, alpha, h, w, reference, settings.key_bg_fringe).err(),
             stand::cut(&picture, &settings).err(),
         ];
+        let next = stand::next_pass(colours, alpha, h, w, reference).err();
+        assert_eq!(next, growth, "next pass");
         with_colour(&picture, &settings, [ground, cut]);
         [ground, growth, cut]
     };

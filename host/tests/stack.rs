@@ -143,6 +143,20 @@ fn calls_on_pictures() {
                 (refusal, out)
             });
             assert_eq!(refusal, 0);
+            let (next, _) = same_in_little(&shown("next pass"), || {
+                let mut nearest = room(h, w, 7);
+                let [mut shallow, mut deep, mut marks] = [1, 2, 3].map(|i| room(h, w, i));
+                let mut work = Work {
+                    nearest: &mut nearest,
+                    shallow: &mut shallow,
+                    deep: &mut deep,
+                    marks: &mut marks,
+                };
+                let (mut out, work) = (vec![7; n], &mut work);
+                let answer = raw::next_pass(colours, &background, h, w, reference, work, &mut out);
+                (answer, out)
+            });
+            assert_eq!(next.refusal, 0);
             let cut = cut_in_little(&shown("cut"), h, w, |work, mask, weights| {
                 raw::cut(colours, &alpha, h, w, settings, work, mask, weights)
             });

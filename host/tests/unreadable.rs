@@ -49,7 +49,7 @@ enum Kind {
 use Kind::{Input, Output, Text, Work};
 
 /// Every export, with its slices in the order of the parameters.
-const CALLS: [(&str, &[Kind]); 10] = [
+const CALLS: [(&str, &[Kind]); 11] = [
     ("nearest", &[Input(1), Work, Output(1), Output(1)]),
     ("labels", &[Input(1), Work, Output(1)]),
     ("squares", &[Input(1), Work, Output(1)]),
@@ -59,6 +59,10 @@ const CALLS: [(&str, &[Kind]); 10] = [
     ("ground_with_colour", &[Input(3), Text, Work, Output(1)]),
     (
         "growth",
+        &[Input(3), Input(1), Work, Work, Work, Work, Output(1)],
+    ),
+    (
+        "next_pass",
         &[Input(3), Input(1), Work, Work, Work, Work, Output(1)],
     ),
     (
@@ -163,6 +167,28 @@ fn answer(
                 b(6),
                 n[6],
             ),
+            "next_pass" => {
+                stand_next_pass(
+                    f(0),
+                    n[0],
+                    b(1),
+                    n[1],
+                    h,
+                    w,
+                    reference,
+                    k(2),
+                    n[2],
+                    b(3),
+                    n[3],
+                    b(4),
+                    n[4],
+                    b(5),
+                    n[5],
+                    b(6),
+                    n[6],
+                )
+                .refusal
+            }
             "cut" => {
                 stand_cut(
                     f(0),
@@ -364,6 +390,8 @@ fn wrong_values() {
         ("ground", &one_bad, GREY, good, 4),
         ("growth", &one_bad, GREY, good, 4),
         ("growth", &colours, black, good, 4),
+        ("next_pass", &one_bad, GREY, good, 4),
+        ("next_pass", &colours, black, good, 4),
         ("cut", &one_bad, GREY, good, 4),
         ("ground", &colours, GREY, infinite, 5),
         ("cut", &colours, GREY, infinite, 5),
@@ -423,7 +451,8 @@ fn colours_after_the_first_that_is_wrong() {
             *colours.add(at) = -1.0;
         }
         for (call, kinds) in CALLS {
-            if !call.starts_with("ground") && !call.starts_with("cut") && call != "growth" {
+            let by_pass = ["growth", "next_pass"].contains(&call);
+            if !call.starts_with("ground") && !call.starts_with("cut") && !by_pass {
                 continue;
             }
             let mut lent = with_inputs(call, &[], &alpha, none);

@@ -1,3 +1,4 @@
 pub mod Accepted
 pub mod TwoPictures
 pub mod EarlierLaws
+pub mod NextPassLaws

@@ -22,6 +22,8 @@ use Rattle.outline.specs.Answer.{groundFor, outcomeFor, refusalOfOutcome}
 use Rattle.outline.specs.Calls.{Buffers, refusalIn, cutIn, HeldIn}
 use Rattle.outline.specs.declared.Ground.{Ground}
 use Rattle.outline.specs.declared.Outcome.{Outcome}
+use Rattle.next_pass.specs.declared.NextPass.{NextPass}
+use Rattle.next_pass.specs.NextPass.{nextBackground, joinsIn, nextPassFor}
 
 -- ---- flat_background, flat_background_with_colour
 
@@ -60,6 +62,19 @@ pub record GrowthCalled (colours : List Float) (background : List ℕ) (h w : �
   pub out-is : b′ .out ≡ after (growthRefusalIn colours background h w reference b)
       (growthOf colours reference h w (atLeastZero p) background) (b .out)
   pub kept : (growthRefusalIn colours background h w reference b ≡ 0 → ⊥) → b′ ≡ b
+
+-- ---- next_pass
+
+-- a look at the pass that comes after a background (R89 to R91): the background after that pass, and the number of its joins. What the
+-- call is lent to read stays as it was
+pub record NextPassCalled (colours : List Float) (background : List ℕ) (h w : ℕ) (reference : Rgb) (b : GrowthBuffers)
+    (r : NextPass) (colours′ : List Float) (background′ : List ℕ) (b′ : GrowthBuffers) : Type 0 where
+  pub answer : r ≡ nextPassFor (growthRefusalIn colours background h w reference b) (joinsIn colours reference h w background)
+  pub out-is : b′ .out ≡ after (growthRefusalIn colours background h w reference b)
+      (nextBackground colours reference h w background) (b .out)
+  pub kept : (growthRefusalIn colours background h w reference b ≡ 0 → ⊥) → b′ ≡ b
+  pub picture-kept : colours′ ≡ colours
+  pub background-kept : background′ ≡ background
 
 -- ---- subject, subject_with_colour
 

@@ -8,11 +8,12 @@ ghost use Rattle.card.specs.declared.Card.the-variants.{Border};
 ghost use Rattle.card.specs.Card.{cardOf};
 ghost use Rattle.card.specs.steps.Range.{cardOk};
 ghost use Rattle.outline.specs.Refusal.{groundLengths, cutLengths};
-ghost use Rattle.keying.specs.Calls.{GroundCalled, GrowthCalled, Called};
+ghost use Rattle.keying.specs.Calls.{GroundCalled, GrowthCalled, NextPassCalled, Called};
 use card::Card;
 use colour::Rgb;
 use colour::Settings;
 use geometry::Answer;
+use next_pass::NextPass;
 use outline::Ground;
 use outline::Outcome;
 
@@ -153,6 +154,55 @@ pub fn unmix_fringe(
         out,
     );
     Answer::Done
+}
+
+// The background after one more pass of growth, written as 0 and 1, and the number of its joins. The background that is lent stays.
+pub fn next_pass(
+    colours: &[f64],
+    background: &[u8],
+    h: usize,
+    w: usize,
+    reference: Rgb,
+    nearest: &mut [u32],
+    shallow: &mut [u8],
+    deep: &mut [u8],
+    marks: &mut [u8],
+    out: &mut [u8],
+) -> NextPass
+    ensures { λ r. ⌜ NextPassCalled (now (colours .entry)) (now (background .entry)) h w reference
+        (record {
+          out = now (out .entry);
+          nearest = now (nearest .entry);
+          shallow = now (shallow .entry);
+          deep = now (deep .entry);
+          marks = now (marks .entry);
+        }) r (now (colours .exit)) (now (background .exit))
+        (record {
+          out = now (out .exit);
+          nearest = now (nearest .exit);
+          shallow = now (shallow .exit);
+          deep = now (deep .exit);
+          marks = now (marks .exit);
+        }) ⌝ }
+{
+    let answer = unmix_fringe(
+        colours,
+        background,
+        h,
+        w,
+        reference,
+        1,
+        nearest,
+        shallow,
+        deep,
+        marks,
+        out,
+    );
+    let refusal = geometry::refusal_of(answer);
+    if refusal != 0 {
+        return NextPass::Refused(refusal);
+    }
+    NextPass::Joins(next_pass::newly_on(background, out))
 }
 
 // The cut of a picture on a card, once the lengths are accepted: mask, weights, keyed flag and crop box.

@@ -5,19 +5,23 @@
 // nearest, and h lines of w digits follow, 0 for off. Its answer is the same line and then, for L, the number of parts and h
 // lines of w labels; for S, h lines of w digits; for N, h lines of w pairs `row,column`.
 //
-// Of keying the line is `G h w k tolerance` for ground, and `C h w k tolerance threshold key p crop` for a cut or `P ..` for two
-// cuts with the same settings; key and crop are 1 or 0, tolerance is 16 hexadecimal digits, the bits of the number. A palette
+// Of keying the line is `G h w k tolerance` for ground, and `C h w k tolerance threshold key p crop` for a cut, `P ..` for two
+// cuts with the same settings or `F ..` for the pass that follows: ground, growth with p passes, and a look at the pass after them;
+// key and crop are 1 or 0, tolerance is 16 hexadecimal digits, the bits of the number. A palette
 // follows, k lines, each the bits of three channels, and a line of k alphas; and one plane or two, of h lines of w characters:
 // `0` is the palette's first entry, and each entry has the character after the one before. The answer is the same line, and then
 // for G `found` and h lines of w digits, or `absent`; for C `keyed` and `crop` with their numbers, the mask as h lines of w
 // digits, and the weights in order, as lines of a count and the bits that so many weights have; for P two lines that say whether
 // the pictures agree on the border and within p + 3, p + 4 of the first one's ground, or `absent` where it has none, the answers
-// of both cuts, and a line that says whether the masks are the same. A refusal is `refused` and its number.
+// of both cuts, and a line that says whether the masks are the same; for F `joins` with their number and the background after that
+// pass as h lines of w digits, or `absent`. A refusal is `refused` and its number.
 //
-// g, c and p are G, C and P with the card's colour: the line has the text of it as one more word, its last, which may be empty.
+// g, c, p and f are G, C, P and F with the card's colour: the line has the text of it as one more word, its last, which may be empty.
 ghost use Prim.Native.Nat.{_≤_};
+use colour::Rgb;
 use colour::Settings;
 use geometry::Labelled;
+use next_pass::NextPass;
 use outline::Ground;
 use outline::Outcome;
 
@@ -487,7 +491,7 @@ fn settings(input: &[u8], from: usize) -> Settings {
     }
 }
 
-// Whether a kind of case has the card's colour: g, c and p.
+// Whether a kind of case has the card's colour: g, c, p and f.
 fn has_colour(op: u8) -> bool {
     b'a' <= op
 }
@@ -617,6 +621,97 @@ fn say_cut(
     }
 }
 
+// The background after p passes of growth; the refusal.
+fn grow(
+    colours: &[f64],
+    background: &[u8],
+    h: usize,
+    w: usize,
+    reference: Rgb,
+    p: i64,
+    grown: &mut [u8],
+) -> u32 {
+    let mut nearest = [0u32; WORK];
+    let mut shallow = [0u8; WORK];
+    let mut deep = [0u8; WORK];
+    let mut marks = [0u8; WORK];
+    geometry::refusal_of(keying::unmix_fringe(
+        colours,
+        background,
+        h,
+        w,
+        reference,
+        p,
+        &mut nearest,
+        &mut shallow,
+        &mut deep,
+        &mut marks,
+        grown,
+    ))
+}
+
+// A look at the pass that comes after a background: the joins, and the background after it.
+fn say_look(
+    colours: &[f64],
+    background: &[u8],
+    h: usize,
+    w: usize,
+    reference: Rgb,
+    next: &mut [u8],
+) {
+    let mut nearest = [0u32; WORK];
+    let mut shallow = [0u8; WORK];
+    let mut deep = [0u8; WORK];
+    let mut marks = [0u8; WORK];
+    let answer = keying::next_pass(
+        colours,
+        background,
+        h,
+        w,
+        reference,
+        &mut nearest,
+        &mut shallow,
+        &mut deep,
+        &mut marks,
+        next,
+    );
+    match answer {
+        NextPass::Joins(joins) => {
+            say(b"joins ");
+            say_number(joins);
+            say(b"\n");
+            say_mask(next, w);
+        }
+        NextPass::Refused(number) => say_refused(number),
+    }
+}
+
+// The pass that follows: ground, growth, and a look at the pass after it.
+fn say_following(
+    op: u8,
+    colours: &[f64],
+    h: usize,
+    w: usize,
+    card: &[u8],
+    s: Settings,
+    background: &mut [u8],
+    grown: &mut [u8],
+) {
+    let answer = ground(op, colours, h, w, card, s.key_bg_tolerance, background);
+    match answer {
+        Ground::Found(reference) => {
+            let refusal = grow(colours, background, h, w, reference, s.key_bg_fringe, grown);
+            if refusal != 0 {
+                say_refused(refusal);
+                return;
+            }
+            say_look(colours, grown, h, w, reference, background);
+        }
+        Ground::Absent => say(b"absent\n"),
+        Ground::Refused(number) => say_refused(number),
+    }
+}
+
 // Whether pixel i is in the first or the last row or column.
 fn on_border(i: usize, h: usize, w: usize) -> bool {
     if w < 1 {
@@ -722,12 +817,26 @@ fn say_pair(
     say_whether(b"same mask:", same(first, second));
 }
 
-// The answer for one picture: ground or cut.
+// The answer for one picture: ground, cut, or the pass that follows.
 fn answer(op: u8, colours: &[f64], alpha: &[u8], h: usize, w: usize, card: &[u8], s: Settings) {
     let n = area(h, w);
     let mut mask = [0u8; MOST_PIXELS];
     if (op == b'G') | (op == b'g') {
         say_ground(op, colours, h, w, card, s.key_bg_tolerance, &mut mask[0..n]);
+        return;
+    }
+    if (op == b'F') | (op == b'f') {
+        let mut grown = [0u8; MOST_PIXELS];
+        say_following(
+            op,
+            colours,
+            h,
+            w,
+            card,
+            s,
+            &mut mask[0..n],
+            &mut grown[0..n],
+        );
         return;
     }
     let mut weights = [0.0f64; MOST_PIXELS];

@@ -17,9 +17,12 @@ use Rattle.colour.specs.Number.{zero64}
 use Rattle.card.specs.declared.Card.{Card}
 use Rattle.outline.specs.Calls.{Buffers}
 use Rattle.keying.specs.Calls.{Called}
+use Rattle.next_pass.specs.declared.NextPass.{NextPass}
+use Rattle.next_pass.specs.declared.NextPass.the-variants as nextPass
 use Rattle.stand.specs.declared.StandLabels.{StandLabels}
 use Rattle.stand.specs.declared.StandGround.{StandGround}
 use Rattle.stand.specs.declared.StandCut.{StandCut}
+use Rattle.stand.specs.declared.StandNextPass.{StandNextPass}
 
 -- an exported call has handed back r: the call that it stands for has ended with some answer, and r is that answer's values (R70)
 pub record Returns {A R : Type 0} (values : A → R) (Call : A → Type 0) (r : R) : Type 0 where
@@ -47,6 +50,11 @@ abbrev pub cutValues : Outcome → StandCut
 cutValues (outcome.Done keyed box) =
     record { refusal = 0; keyed = keyed; y0 = box .y0; y1 = box .y1; x0 = box .x0; x1 = box .x1 }
 cutValues (outcome.Refused n) = record { refusal = n; keyed = false; y0 = 0; y1 = 0; x0 = 0; x1 = 0 }
+
+-- a look at the coming pass: the refusal, and the number of joins; 0 where it was declined (R90)
+abbrev pub nextPassValues : NextPass → StandNextPass
+nextPassValues (nextPass.Joins n) = record { refusal = 0; joins = n }
+nextPassValues (nextPass.Refused n) = record { refusal = n; joins = 0 }
 
 -- a call of the exported cut on a card, with these buffers, has handed back r and left b′ (R70)
 abbrev pub CutReturns : List Float → List ℕ → ℕ → ℕ → Card → Settings → Buffers → StandCut → Buffers → Type 0

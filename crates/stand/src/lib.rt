@@ -8,11 +8,13 @@ ghost use Rattle.geometry.specs.Calls.{NearestCalled, LabelsCalled, SquaresCall
 ghost use Rattle.card.specs.declared.Card.the-variants.{Border};
 ghost use Rattle.card.specs.Card.{cardOf};
 ghost use Rattle.outline.specs.declared.Ground.{Ground};
-ghost use Rattle.keying.specs.Calls.{GroundCalled, GrowthCalled};
-ghost use Rattle.stand.specs.Exports.{Returns, CutReturns, labelsValues, groundValues, cutValues};
+ghost use Rattle.keying.specs.Calls.{GroundCalled, GrowthCalled, NextPassCalled};
+ghost use Rattle.next_pass.specs.declared.NextPass.{NextPass};
+ghost use Rattle.stand.specs.Exports.{Returns, CutReturns, labelsValues, groundValues, cutValues, nextPassValues};
 use colour::Rgb;
 use colour::Settings;
 use geometry::Labelled;
+use next_pass::NextPass;
 use outline::Ground;
 use outline::Outcome;
 
@@ -40,6 +42,13 @@ pub struct StandGround {
     pub refusal: u32,
     pub found: bool,
     pub reference: Rgb,
+}
+
+// What a look at the coming pass answers: its number, and how many pixels would join, 0 where it was declined.
+#[repr(C)]
+pub struct StandNextPass {
+    pub refusal: u32,
+    pub joins: u64,
 }
 
 // The values of an answer, as they cross.
@@ -99,6 +108,15 @@ fn cut_values(answer: Outcome) -> StandCut
             x0: 0,
             x1: 0,
         },
+    }
+}
+
+fn next_pass_values(answer: NextPass) -> StandNextPass
+    ensures { λ r. ⌜ r ≡ nextPassValues answer ⌝ }
+{
+    match answer {
+        NextPass::Joins(joins) => StandNextPass { refusal: 0, joins },
+        NextPass::Refused(refusal) => StandNextPass { refusal, joins: 0 },
     }
 }
 
@@ -357,6 +375,51 @@ pub extern "C" fn stand_growth(
         w,
         reference,
         passes,
+        nearest,
+        shallow,
+        deep,
+        marks,
+        out,
+    ))
+}
+
+// keying::next_pass
+#[no_mangle]
+pub extern "C" fn stand_next_pass(
+    colours: &[f64],
+    background: &[u8],
+    h: usize,
+    w: usize,
+    reference: Rgb,
+    nearest: &mut [u32],
+    shallow: &mut [u8],
+    deep: &mut [u8],
+    marks: &mut [u8],
+    out: &mut [u8],
+) -> StandNextPass
+    ensures { λ r. ⌜ Returns nextPassValues (λ (a : NextPass).
+        NextPassCalled (now (colours .entry)) (now (background .entry)) h w reference
+        (record {
+          out = now (out .entry);
+          nearest = now (nearest .entry);
+          shallow = now (shallow .entry);
+          deep = now (deep .entry);
+          marks = now (marks .entry);
+        }) a (now (colours .exit)) (now (background .exit))
+        (record {
+          out = now (out .exit);
+          nearest = now (nearest .exit);
+          shallow = now (shallow .exit);
+          deep = now (deep .exit);
+          marks = now (marks .exit);
+        })) r ⌝ }
+{
+    next_pass_values(keying::next_pass(
+        colours,
+        background,
+        h,
+        w,
+        reference,
         nearest,
         shallow,
         deep,

@@ -1,6 +1,6 @@
-//! Writes the lists of mask.rs's answers of ground and cut that the programs replay_ground,
-//! replay_cut and replay_pair are run on. Where the card's colour is given, its second reading answers
-//! (support/reading.rs); these cases come last.
+//! Writes the lists of mask.rs's answers of ground, cut and the pass that follows that the programs
+//! replay_ground, replay_cut and replay_pair are run on. Where the card's colour is given, its second
+//! reading answers (support/reading.rs); of each kind these cases come last.
 //!
 //! ```text
 //! cargo run --release --manifest-path host/Cargo.toml --bin record_keying [-- FOLDER]
@@ -40,7 +40,7 @@ fn main() {
 
 #[cfg(mask_rs)]
 mod with {
-    use crate::cases::{Answers, Case, Outline};
+    use crate::cases::{Answers, Case, Look, Outline};
     use crate::drawings::{self, Disc};
     use crate::mask;
     use crate::masks::{bools, Random};
@@ -82,6 +82,28 @@ mod with {
 
         fn squares(&self, mask: &[u8], h: usize, w: usize, k: u64) -> Vec<u8> {
             bytes(&mask::binary_dilation8(&bools(mask), h, w, k as usize))
+        }
+
+        /// Growth of one pass more; the joins are those pixels that growth of p passes has not.
+        fn following(
+            &self,
+            given: Option<&str>,
+            picture: &Picture,
+            ground: &[u8],
+            p: i64,
+        ) -> Result<Look, u32> {
+            let Picture { colours, h, w, .. } = *picture;
+            let Rgb { r, g, b } = pictures::reference_by(given, colours, h, w);
+            let passes = usize::try_from(p).unwrap_or(0);
+            let grown = |passes: usize| {
+                mask::unmix_fringe(colours, &bools(ground), h, w, &[r, g, b], passes)
+            };
+            let (before, after) = (grown(passes), grown(passes.saturating_add(1)));
+            let new = before.iter().zip(&after).filter(|(b, a)| b != a);
+            Ok(Look {
+                joins: new.count() as u64,
+                background: bytes(&after),
+            })
         }
 
         fn cut(
@@ -126,6 +148,9 @@ mod with {
         twice: usize,
         cropped: usize,
         refused: usize,
+        /// Passes that follow, with a join and without.
+        joined: usize,
+        ended: usize,
         /// With the card's colour; and of these, those whose ground the median does not find, and those
         /// whose ground only the median finds.
         coloured: usize,
@@ -171,7 +196,13 @@ mod with {
             self.coloured += given.is_some() as usize;
             for colours in &case.pictures {
                 self.count_ground(case, colours);
-                if case.op == 'G' {
+                if case.op == 'F' {
+                    let answer = case.answer(&MaskRs);
+                    self.ended += answer.contains("joins 0\n") as usize;
+                    self.joined +=
+                        (answer.contains("joins ") && !answer.contains("joins 0\n")) as usize;
+                }
+                if case.op == 'G' || case.op == 'F' {
                     continue;
                 }
                 let (h, w, picture) = (case.h, case.w, case.picture(colours));
@@ -191,7 +222,7 @@ mod with {
             let (given, h, w) = (case.colour.as_deref(), case.h, case.w);
             let tolerance = case.settings.key_bg_tolerance;
             let Ok(ground) = MaskRs.ground(given, colours, h, w, tolerance) else {
-                self.refused += (case.op == 'G') as usize;
+                self.refused += (case.op == 'G' || case.op == 'F') as usize;
                 return;
             };
             let reference = pictures::reference_by(given, colours, h, w);
@@ -212,8 +243,8 @@ mod with {
             println!(
                 "{}: {} cases; {} and {} bytes\n  ground found {}, border exactly nine tenths close {}, \
                  one entry below {}; keyed {}, grown in a pass {}, in two or more {}, cropped {}, \
-                 refused {}\n  with a colour {}, of which found by the colour only {}, by the median \
-                 only {}",
+                 refused {}\n  passes that follow, with a join {}, without {}\n  with a colour {}, of \
+                 which found by the colour only {}, by the median only {}",
                 folder.display(),
                 self.cases,
                 self.stdin.len(),
@@ -226,6 +257,8 @@ mod with {
                 self.twice,
                 self.cropped,
                 self.refused,
+                self.joined,
+                self.ended,
                 self.coloured,
                 self.gained,
                 self.lost
@@ -736,6 +769,76 @@ mod with {
         }
     }
 
+    /// Passes that follow.
+    mod following {
+        use super::*;
+
+        /// The rim of the proved cases (R93) at the end of a row of card: after no pass and after each,
+        /// by the card's colour too. Then no ground, and texts that name none.
+        fn rim(list: &mut List) {
+            let greys = [0.875, 0.75, 0.0, 0.0, 0.0, 0.0];
+            for p in -1..4 {
+                let colour = |_, x: usize| [x.checked_sub(54).map_or(1.0, |x| greys[x]); 3];
+                let case = cut(1, 60, passes(p, 0.0), 'F', colour);
+                assert!(list.add(&case));
+                assert!(list.add(&by_colour(case, "FFFFFF")));
+            }
+            let card = |_, _| WHITE;
+            assert!(list.add(&cut(4, 4, passes(1, 0.0), 'F', card)));
+            for text in ["000000", "", "fffffg"] {
+                let case = cut(3, 3, passes(1, 0.0), 'F', |y, x| {
+                    [((y, x) != (1, 1)) as u8 as f64; 3]
+                });
+                assert!(list.add(&by_colour(case, text)));
+            }
+        }
+
+        /// Rings that rise evenly towards the middle, and discs with a soft rim.
+        fn shapes(list: &mut List) {
+            for p in [0, 1, 2, 3, 5, i64::MAX] {
+                for (side, step) in [(15, 1.0 / 16.0), (13, 0.125)] {
+                    assert!(list.add(&cut(side, side, passes(p, 0.0), 'F', |y, x| {
+                        let ring = y.min(x).min(side - 1 - y).min(side - 1 - x);
+                        [(ring as f64 * step).min(1.0), 0.0, -0.0]
+                    })));
+                }
+                let disc = Disc {
+                    cy: 7.0,
+                    cx: 7.5,
+                    outer: 5.5,
+                    inner: (p % 2 == 0).then_some(2.0),
+                    soft: 4.0,
+                };
+                assert!(list.add(&cut(15, 16, passes(p, 0.03125), 'F', |y, x| {
+                    mix(WHITE, [0.55, 0.2, 0.15], disc.cover(y, x))
+                })));
+            }
+        }
+
+        /// Pictures of a fixed seed whose ground is found; in half of them the pass joins a pixel.
+        fn random(list: &mut List) {
+            let mut random = Random(38);
+            let (mut added, mut others) = (0, 0);
+            while added < 24 {
+                let (h, w) = pictures::sides(&mut random, 14);
+                let case = drawn(&mut random, h, w, 'F');
+                let answer = case.answer(&MaskRs);
+                let ends = answer.contains("joins 0\n");
+                let kept = answer.contains("joins ") && (!ends || others < 12);
+                if kept && case.text().is_some_and(|text| text.len() < 900) && list.add(&case) {
+                    added += 1;
+                    others += ends as usize;
+                }
+            }
+        }
+
+        pub fn all(list: &mut List) {
+            shapes(list);
+            random(list);
+            rim(list);
+        }
+    }
+
     mod pairs {
         use super::*;
 
@@ -804,6 +907,7 @@ mod with {
         cuts::random(&mut list);
         given::cuts(&mut list);
         given::random(&mut list, 'C', 37, 34);
+        following::all(&mut list);
         list.write(&folder, "replay_cut");
 
         let mut list = List::default();

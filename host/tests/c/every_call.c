@@ -11,6 +11,35 @@
 #define ROOM (2 * PIXELS + 2 * (SIDE + SIDE) + 16)
 #define MORE 9
 
+/* Looks at the coming pass of a row of seven pixels: white, two that are nearly so, four black. The last
+ * reference is no colour. Prints the number, the joins, the pixels on, and whether the input is as it was. */
+static void looks(void)
+{
+    static const double greys[7] = {1.0, 0.875, 0.75, 0.0, 0.0, 0.0, 0.0};
+    double colours[3 * 7];
+    uint8_t background[7] = {7, 0, 0, 0, 0, 0, 0}, before[7], next[7];
+    uint32_t nearest[2 * 7 + 2 * 8 + 16];
+    uint8_t shallow[2 * 7 + 2 * 8 + 16], deep[2 * 7 + 2 * 8 + 16], marks[2 * 7 + 2 * 8 + 16];
+    size_t room = stand_work_len(1, 7);
+    StandRgb reference = {1.0, 1.0, 1.0};
+    int i, j;
+
+    for (i = 0; i < 3 * 7; i++) colours[i] = greys[i / 3];
+    for (j = 0; j < 4; j++) {
+        StandNextPass look;
+        int on = 0, kept = 0;
+        for (i = 0; i < 7; i++) before[i] = background[i];
+        if (j == 3) reference.b = 2.0;
+        look = stand_next_pass(colours, 3 * 7, background, 7, 1, 7, reference, nearest, room, shallow,
+                               room, deep, room, marks, room, next, 7);
+        for (i = 0; i < 7; i++) on += next[i];
+        for (i = 0; i < 7; i++) kept += background[i] == before[i];
+        printf("next pass %u, %u joins: %d, kept %d\n", (unsigned)look.refusal, (unsigned)look.joins,
+               on, kept);
+        if (j < 2) background[j + 1] = 1;
+    }
+}
+
 /* Ground and cut with the card's colour, on the same card: white is found and grey is not. A NUL that
  * is counted makes the text too long. */
 static void with_colour(const double *colours, const uint8_t *alpha)
@@ -77,8 +106,8 @@ static void picture(void)
            (int)cut.keyed, (unsigned)cut.y0, (unsigned)cut.y1, (unsigned)cut.x0, (unsigned)cut.x1,
            on, weights[12]);
 
-    printf("bytes %u %u %u %u\n", (unsigned)sizeof(StandRgb), (unsigned)sizeof(StandGround),
-           (unsigned)sizeof(StandSettings), (unsigned)sizeof(StandCut));
+    printf("bytes %u %u %u %u %u\n", (unsigned)sizeof(StandRgb), (unsigned)sizeof(StandGround),
+           (unsigned)sizeof(StandNextPass), (unsigned)sizeof(StandSettings), (unsigned)sizeof(StandCut));
     printf("refused %d %d %d,", STAND_COLOUR, STAND_TOLERANCE, STAND_ALPHA);
     settings.alpha_threshold = 256;
     cut = stand_cut(colours, 3 * PIXELS, alpha, PIXELS, SIDE, SIDE, settings,
@@ -93,6 +122,7 @@ static void picture(void)
                                            ground.reference, 1, nearest, room, shallow, room,
                                            deep, room, marks, room, mask, PIXELS));
     with_colour(colours, alpha);
+    looks();
 }
 
 /* Squares with these numbers on a plane of SIDE by SIDE. Prints how many bytes of the work buffer, which

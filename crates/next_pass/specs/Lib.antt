@@ -1,0 +1,2 @@
+pub mod NextPass
+pub mod Cut
