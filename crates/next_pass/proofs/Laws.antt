@@ -10,7 +10,7 @@ use lib.ListN.{length}
 use lib.Ieee.{Float}
 use borrow.Author.Tests.{not-true, eq-eqb}
 use Rattle.plane.specs.Search.{someBelow, countBelow}
-use Rattle.plane.proofs.Search.{either, count-same, none-found, or-no, and-no}
+use Rattle.plane.proofs.Search.{either, count-same, none-found, or-no}
 use Rattle.plane.proofs.Refusal.{and-true}
 use Rattle.plane.specs.Mask.{isOn, maskOf}
 use Rattle.plane.proofs.Mask.{mask-on, mask-same, mask-again}
@@ -19,10 +19,10 @@ use Rattle.colour.specs.declared.Settings.{Settings}
 use Rattle.colour.specs.Settings.{passesOf}
 use Rattle.outline.specs.Growth.{nearGround, isEdge, isJoining, passOf, growthOf}
 use Rattle.outline.specs.Cut.{alphaMask, isSought, isKeyed, grownGround, cutMask}
-use Rattle.outline.proofs.GrowthLaws.{joins-edge, pass-on, growth-none, growth-more, growth-ended, growth-length, growth-same, growth-sum}
+use Rattle.outline.proofs.GrowthLaws.{joins-edge, pass-on, growth-none, growth-more, growth-ended, growth-bits, growth-length, growth-same, growth-sum}
 use Rattle.next_pass.specs.NextPass.{nextBackground, newlyOn, joinsIn}
 use Rattle.next_pass.specs.Cut.{OnePassMore, offOf}
-use Rattle.next_pass.proofs.Counts.{count-zero}
+use Rattle.next_pass.proofs.Counts.{new, count-zero}
 
 module _ (colours : List Float) (reference : Rgb) (h w : ℕ) (back : List ℕ) where
   abbrev joining : ℕ → Bool
@@ -36,6 +36,11 @@ module _ (colours : List Float) (reference : Rgb) (h w : ℕ) (back : List ℕ) 
 
   abbrev joins : ℕ
   joins = joinsIn colours reference h w back
+
+  -- the would-be background holds 0 and 1 only
+  pub next-bits : next ≡ maskOf (h * w) (isOn next)
+  unfolding nextBackground
+  next-bits = growth-bits colours reference h w _ back
 
   -- the would-be background is the background after one pass, also where that pass ends growth
   pub next-pass : next ≡ passOf colours reference back h w
@@ -57,7 +62,7 @@ module _ (colours : List Float) (reference : Rgb) (h w : ℕ) (back : List ℕ) 
   next-length = growth-length colours reference h w 1 back
 
   -- a pixel is newly on exactly where it joins
-  newly : (i : ℕ) → i < h * w → isOn next i && not (isOn back i) ≡ joining i
+  newly : (i : ℕ) → i < h * w → new back next i ≡ joining i
   newly i l = rw (next-pass, pass-on colours reference h w back i l) (at (isOn back i) (joining i) off)
     where
       off : joining i ≡ true → not (isOn back i) ≡ true
@@ -72,7 +77,7 @@ module _ (colours : List Float) (reference : Rgb) (h w : ℕ) (back : List ℕ) 
   -- the number is that of the pixels that join
   pub joins-joining : joins ≡ countBelow (h * w) joining
   unfolding joinsIn newlyOn
-  joins-joining = count-same (λ (i : ℕ). isOn next i && not (isOn back i)) joining (h * w) newly
+  joins-joining = count-same (new back next) joining (h * w) newly
 
   -- it is 0 exactly where growth would end
   pub joins-zero : eqb joins 0 ≡ not some-joins

@@ -53,6 +53,7 @@ enum Call {
     Fill,
     Ground,
     Growth(i64),
+    NextPass,
     Cut(i64),
 }
 
@@ -66,6 +67,7 @@ impl Call {
             Call::Fill => "fill".into(),
             Call::Ground => "ground".into(),
             Call::Growth(p) => format!("growth, p {p}"),
+            Call::NextPass => "next pass".into(),
             Call::Cut(p) => format!("cut, p {p}"),
         }
     }
@@ -93,6 +95,11 @@ impl Call {
             Call::Growth(passes) => {
                 clock
                     .time(|| _ = black_box(cut.growth(p.colours, mask, h, w, p.reference, passes)))
+                    .1
+            }
+            Call::NextPass => {
+                clock
+                    .time(|| _ = black_box(cut.next_pass(p.colours, mask, h, w, p.reference)))
                     .1
             }
             Call::Cut(passes) => {
@@ -134,6 +141,7 @@ impl Call {
                     .time(|| mask::unmix_fringe(p.colours, mask, h, w, &[r, g, b], passes as usize))
                     .1
             }
+            Call::NextPass => return Call::Growth(1).theirs(clock, p),
             Call::Cut(passes) => {
                 let settings = settings(passes);
                 let config = config::Config {
@@ -437,7 +445,7 @@ fn memory(side: usize, lents: &Lents) {
     of("square distance", numbers, size_of_val(&lent.distance[..]));
     of("fill", numbers, size_of_val(&lent.filled[..]));
     of("ground", nearest, cut.mask.len());
-    of("growth", nearest + three, cut.mask.len());
+    of("growth, next pass", nearest + three, cut.mask.len());
     of(
         "cut",
         nearest + three,
@@ -500,7 +508,8 @@ fn wide(how: &How) {
     }
 }
 
-/// Ground, growth and cut, picture by picture; and growth on a background of single pixels.
+/// Ground, growth, next pass and cut, picture by picture; and growth and next pass on a background of
+/// single pixels.
 fn cuts(side: usize, random: &mut Random, lents: &mut Lents, how: &How, lines: &mut Vec<Line>) {
     let alpha = vec![255; side * side];
     for name in ["badge", "badge with dust", "half noise"] {
@@ -514,6 +523,7 @@ fn cuts(side: usize, random: &mut Random, lents: &mut Lents, how: &How, lines: &
             Call::Ground,
             Call::Growth(1),
             Call::Growth(3),
+            Call::NextPass,
             Call::Cut(0),
             Call::Cut(1),
             Call::Cut(3),
@@ -525,7 +535,7 @@ fn cuts(side: usize, random: &mut Random, lents: &mut Lents, how: &How, lines: &
         let colours = pictures::noise(random, side, side, 1000 - share);
         let background = random.mask(side * side, share);
         let picture = Plane::mask((side, side), name, background, &colours);
-        for call in [Call::Growth(1), Call::Growth(3)] {
+        for call in [Call::Growth(1), Call::Growth(3), Call::NextPass] {
             lines.extend(measure(call, &picture, lents, how));
         }
     }

@@ -5,7 +5,7 @@
 //! processor's cache apart.
 
 use crate::{median, settings, Call, Clock, Lents, Plane};
-use stand::raw::{StandCut, StandGround, StandLabels};
+use stand::raw::{StandCut, StandGround, StandLabels, StandNextPass};
 use stand::{Rgb, Settings};
 use std::ffi::{c_char, c_int, c_void, CString};
 use std::mem::transmute;
@@ -61,6 +61,10 @@ exports! {
         *const f64, usize, *const u8, usize, usize, usize, Rgb, i64,
         *mut u32, usize, *mut u8, usize, *mut u8, usize, *mut u8, usize, *mut u8, usize
     ) -> u32;
+    stand_next_pass(
+        *const f64, usize, *const u8, usize, usize, usize, Rgb,
+        *mut u32, usize, *mut u8, usize, *mut u8, usize, *mut u8, usize, *mut u8, usize
+    ) -> StandNextPass;
     stand_cut(
         *const f64, usize, *const u8, usize, usize, usize, Settings,
         *mut u32, usize, *mut u8, usize, *mut u8, usize, *mut u8, usize, *mut u8, usize, *mut f64, usize
@@ -207,6 +211,15 @@ impl Loaded {
                 (h, w, p.reference, passes),
                 [c.nearest, c.shallow, c.deep, c.marks, c.mask]
             ),
+            Call::NextPass => {
+                let given = timed!(
+                    self.stand_next_pass,
+                    [colours, mask],
+                    (h, w, p.reference),
+                    [c.nearest, c.shallow, c.deep, c.marks, c.mask]
+                );
+                (given.0.refusal, given.1)
+            }
             Call::Cut(passes) => {
                 let given = timed!(
                     self.stand_cut,
