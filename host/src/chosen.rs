@@ -1,6 +1,6 @@
 //! What is chosen for a cut: the settings, and the card's colour where that is given.
 
-use crate::{Cut, Picture, Refusal, Settings};
+use crate::{Cut, Ground, NextPass, Picture, Refusal, Settings};
 use std::fmt;
 
 /// The text that gives the card's colour, with small letters, so that texts of one colour are equal.
@@ -83,6 +83,59 @@ impl Chosen {
             None => crate::cut(picture, &self.settings),
             Some(colour) => crate::cut_with_colour(picture, colour, &self.settings),
         }
+    }
+
+    /// The ground of a picture: [`crate::ground`], or [`crate::ground_with_colour`] where the card's
+    /// colour is given.
+    fn ground(&self, picture: &Picture<'_>) -> Result<Option<Ground>, Refusal> {
+        let Picture { colours, h, w, .. } = *picture;
+        let tolerance = self.settings.key_bg_tolerance;
+        match &self.card_colour {
+            None => crate::ground(colours, h, w, tolerance),
+            Some(colour) => crate::ground_with_colour(colours, h, w, colour, tolerance),
+        }
+    }
+
+    /// What one more pass would do to this cut of a picture: [`crate::next_pass`] on what the mask
+    /// leaves, with the reference of the ground. `None` where the cut is not keyed, and passes play no
+    /// part.
+    ///
+    /// Picture and cut belong together; where their lengths do not fit, that is refused.
+    ///
+    /// ```
+    /// use stand::{Chosen, Picture, Settings};
+    ///
+    /// // 27 white pixels, a light one, two black ones.
+    /// let mut colours = [1.0; 90];
+    /// colours[81..84].fill(0.75);
+    /// colours[84..].fill(0.0);
+    /// let picture = Picture { colours: &colours, alpha: &[255; 30], h: 1, w: 30 };
+    /// let mut chosen = Chosen::from(Settings { key_bg_fringe: 0, ..Settings::default() });
+    /// let cut = chosen.cut(&picture)?;
+    /// assert_eq!(cut.mask[26..], [0, 1, 1, 1]);
+    /// let next = chosen.next_pass(&picture, &cut)?.expect("a keyed cut");
+    /// assert_eq!((next.joins, &next.background[26..]), (1, &[1, 1, 0, 0][..]));
+    ///
+    /// // After that pass growth has ended.
+    /// chosen.settings.key_bg_fringe = 1;
+    /// let cut = chosen.cut(&picture)?;
+    /// assert_eq!(chosen.next_pass(&picture, &cut)?.map(|next| next.joins), Some(0));
+    ///
+    /// chosen.settings.key_bg = false;
+    /// let cut = chosen.cut(&picture)?;
+    /// assert_eq!(chosen.next_pass(&picture, &cut)?, None);
+    /// # Ok::<(), stand::Refusal>(())
+    /// ```
+    pub fn next_pass(&self, picture: &Picture<'_>, cut: &Cut) -> Result<Option<NextPass>, Refusal> {
+        if !cut.keyed {
+            return Ok(None);
+        }
+        let Some(ground) = self.ground(picture)? else {
+            return Ok(None);
+        };
+        let background: Vec<u8> = cut.mask.iter().map(|&m| u8::from(m == 0)).collect();
+        let Picture { colours, h, w, .. } = *picture;
+        crate::next_pass(colours, &background, h, w, ground.reference).map(Some)
     }
 }
 
