@@ -5,6 +5,9 @@
 //! lies outside is darker. What is transparent is laid on white. A picture of fewer than 600 pixels
 //! a side is shown enlarged, each pixel as a square, and one of more than 1600 smaller, each pixel as
 //! the mean of those that fall on it. The lines are drawn after that, so that they always show.
+//!
+//! Pixels of the object can be marked in light blue, over all else; see [`marked`]. A band of a paler
+//! blue outside the outline leads to them, to a single one too, where the card has room for it.
 
 use crate::netpbm::Image;
 use crate::{Crop, Cut, Refusal};
@@ -13,6 +16,12 @@ use std::ops::Range;
 const OUTLINE: [u8; 3] = [230, 0, 126];
 const AROUND: [u8; 3] = [255, 255, 255];
 const DASHES: [[u8; 3]; 2] = [[20, 20, 20], [255, 210, 0]];
+
+const BAND: [u8; 3] = [130, 220, 255];
+
+/// The colour of pixels that are marked. It and the band's are told apart from the lines by
+/// colour-blind staff too.
+pub const MARK: [u8; 3] = [0, 190, 255];
 
 /// The larger side from which on pictures are not enlarged.
 const LARGE: usize = 600;
@@ -36,11 +45,26 @@ pub struct Preview {
 
 /// The preview of a picture and its cut.
 pub fn preview(image: &Image, cut: &Cut) -> Result<Preview, Refusal> {
+    drawn(image, cut, None)
+}
+
+/// The preview with those pixels of the object marked that are on in `marks`, in the colour [`MARK`].
+/// A pixel of a picture that is shown smaller is marked where any is that falls on it.
+pub fn marked(image: &Image, cut: &Cut, marks: &[u8]) -> Result<Preview, Refusal> {
+    match marks.len() == image.h * image.w {
+        true => drawn(image, cut, Some(marks)),
+        false => Err(Refusal::InputLength),
+    }
+}
+
+/// Draws the preview of a picture and its cut, with these pixels marked.
+fn drawn(image: &Image, cut: &Cut, marks: Option<&[u8]>) -> Result<Preview, Refusal> {
     let scale = LARGE.div_ceil(image.h.max(image.w));
     let shown = Smaller::new(image.h, image.w, LARGEST);
     let rgb = shown.means(&on_white(image));
     let mut rgb = enlarged(&rgb, shown.to.1, 3, scale);
-    let mask = enlarged(&shown.any(&cut.mask), shown.to.1, 1, scale);
+    let plane = |own: &[u8]| enlarged(&shown.any(own), shown.to.1, 1, scale);
+    let (mask, marks) = (plane(&cut.mask), marks.map(plane));
     let (h, w) = (shown.to.0 * scale, shown.to.1 * scale);
     let crop = shown.crop(&cut.crop);
     let crop = Crop {
@@ -48,8 +72,10 @@ pub fn preview(image: &Image, cut: &Cut) -> Result<Preview, Refusal> {
         cols: crop.cols.start * scale..crop.cols.end * scale,
     };
     let line = 2 + h.max(w) / 700;
-    for (reach, colour) in [(line + line / 2, AROUND), (line, OUTLINE)] {
-        let near = crate::squares(&mask, h, w, reach as u64)?;
+    let band = marks.as_ref().map(|marks| (marks, 6 * line, BAND));
+    let lines = [(&mask, line + line / 2, AROUND), (&mask, line, OUTLINE)];
+    for (from, reach, colour) in band.into_iter().chain(lines) {
+        let near = crate::squares(from, h, w, reach as u64)?;
         for ((&near, &on), pixel) in near.iter().zip(&mask).zip(rgb.chunks_exact_mut(3)) {
             if near != 0 && on == 0 {
                 pixel.copy_from_slice(&colour);
@@ -57,6 +83,11 @@ pub fn preview(image: &Image, cut: &Cut) -> Result<Preview, Refusal> {
         }
     }
     crop_box(&mut rgb, h, w, &crop, line);
+    for (pixel, &on) in rgb.chunks_exact_mut(3).zip(marks.iter().flatten()) {
+        if on != 0 {
+            pixel.copy_from_slice(&MARK);
+        }
+    }
     Ok(Preview { h, w, rgb })
 }
 
@@ -198,7 +229,7 @@ mod tests {
         }
     }
 
-    fn drawn(image: &Image) -> (Cut, Preview) {
+    fn drawn_of(image: &Image) -> (Cut, Preview) {
         let cut = image.cut(&Settings::default()).unwrap();
         let out = preview(image, &cut).unwrap();
         (cut, out)
@@ -209,7 +240,7 @@ mod tests {
     fn outline() {
         let mut image = white(601, 15, 255);
         image.rgb[3 * (7 * 15 + 7)..][..3].fill(9);
-        let (cut, out) = drawn(&image);
+        let (cut, out) = drawn_of(&image);
         assert!(cut.keyed);
         assert_eq!((out.h, out.w), (601, 15));
         let at = |y: usize, x: usize| out.rgb[3 * (y * 15 + x)..][..3].to_vec();
@@ -230,13 +261,13 @@ mod tests {
         for h in 1..=12 {
             for w in 1..=12 {
                 let mut image = white(h, w, 255);
-                let (_, out) = drawn(&image);
+                let (_, out) = drawn_of(&image);
                 assert_eq!(out.rgb.len(), 3 * out.h * out.w);
                 assert_eq!((out.h / h, out.w / w), (out.h / h, out.h / h));
                 assert!((600..660).contains(&out.h.max(out.w)));
                 assert_eq!(out.rgb[..3], DASHES[0]);
                 image.rgb[3 * (h / 2 * w + w / 2)..][..3].fill(0);
-                let (_, out) = drawn(&image);
+                let (_, out) = drawn_of(&image);
                 assert_eq!(out.rgb.len(), 3 * out.h * out.w);
             }
         }
@@ -251,7 +282,7 @@ mod tests {
         for (y, x) in bar.chain([(500, 300), (3500, 2700)]) {
             image.rgb[3 * (y * 3000 + x)..][..3].fill(0);
         }
-        let (cut, out) = drawn(&image);
+        let (cut, out) = drawn_of(&image);
         assert!(cut.keyed);
         assert_eq!((out.h, out.w), (1600, 1171));
         let at = |y: usize, x: usize| out.rgb[3 * (y * 1171 + x)..][..3].to_vec();
@@ -268,6 +299,112 @@ mod tests {
         assert_eq!((small.h, small.w), (240, 175));
         let pink = |pixel: &[u8]| pixel[0] > 160 && pixel[1] < pixel[0] - 80;
         assert!(small.rgb.chunks(3).filter(|p| pink(p)).count() > 110);
+    }
+
+    /// Pixels are marked, over the dashes where the object reaches the picture's edge, and there is
+    /// the band near them, outside the object; all else is as without marks.
+    #[test]
+    fn marks() {
+        let mut image = white(20, 30, 255);
+        for y in 8..20 {
+            image.rgb[3 * (30 * y + 14)..][..6].fill(9);
+        }
+        let (cut, plain) = drawn_of(&image);
+        assert!(cut.keyed);
+        let mut marks = vec![0; 600];
+        for at in [8 * 30 + 14, 12 * 30 + 15, 19 * 30 + 14] {
+            marks[at] = 7;
+        }
+        let out = marked(&image, &cut, &marks).unwrap();
+        assert_eq!((out.h, out.w), (400, 600));
+        let [on, mask] = [&marks, &cut.mask].map(|plane| enlarged(plane, 30, 1, 20));
+        let near = crate::squares(&on, 400, 600, 12).unwrap();
+        let pixels = out.rgb.chunks(3).zip(plain.rgb.chunks(3));
+        let mut band = 0;
+        for (at, (pixel, before)) in pixels.enumerate() {
+            assert_eq!(pixel == MARK, on[at] != 0);
+            assert!(pixel == MARK || pixel == before || near[at] == 1 && mask[at] == 0);
+            band += usize::from(pixel == BAND);
+        }
+        assert!(band > 500, "{band}");
+        let bottom = &plain.rgb[3 * (399 * 600 + 14 * 20)..][..3];
+        assert!(DASHES.iter().any(|dash| dash == bottom));
+        assert_eq!(marked(&image, &cut, &vec![0; 600]), Ok(plain));
+        assert_eq!(marked(&image, &cut, &marks[1..]), Err(Refusal::InputLength));
+    }
+
+    /// Single pixels of a large picture are marked where it is shown smaller.
+    #[test]
+    fn marks_of_a_large_picture() {
+        let mut image = white(2001, 31, 255);
+        image.rgb[3 * 31 * 400..3 * 31 * 1600].fill(9);
+        for row in image.rgb.chunks_mut(3 * 31) {
+            row[..3 * 3].fill(255);
+            row[3 * 28..].fill(255);
+        }
+        let (cut, plain) = drawn_of(&image);
+        assert!(cut.keyed);
+        for y in (500..1500).step_by(37) {
+            let mut marks = vec![0; cut.mask.len()];
+            marks[31 * y + y % 25 + 3] = 1;
+            let out = marked(&image, &cut, &marks).unwrap();
+            let shown = out.rgb.chunks(3).filter(|pixel| *pixel == MARK).count();
+            assert_eq!((out.h, shown), (1600, 1));
+            assert!(plain.rgb.len() == out.rgb.len());
+        }
+    }
+
+    /// A colour as staff see it who lack the cones for long, middle or short waves: Machado, Oliveira
+    /// and Fernandes (2009).
+    const SEEN: [[[f64; 3]; 3]; 4] = [
+        [[1.0, 0.0, 0.0], [0.0, 1.0, 0.0], [0.0, 0.0, 1.0]],
+        [
+            [0.152286, 1.052583, -0.204868],
+            [0.114503, 0.786281, 0.099216],
+            [-0.003882, -0.048116, 1.051998],
+        ],
+        [
+            [0.367322, 0.860646, -0.227968],
+            [0.280085, 0.672501, 0.047413],
+            [-0.011820, 0.042940, 0.968881],
+        ],
+        [
+            [1.255528, -0.076749, -0.178779],
+            [-0.078411, 0.930809, 0.147602],
+            [0.004733, 0.691367, 0.303900],
+        ],
+    ];
+
+    /// From linear red, green and blue to CIE XYZ, white as 1, 1, 1.
+    const XYZ: [[f64; 3]; 3] = [
+        [0.4339, 0.3762, 0.1899],
+        [0.2126, 0.7152, 0.0722],
+        [0.0177, 0.1095, 0.8728],
+    ];
+
+    /// The colour in CIE L*a*b*.
+    fn lab(colour: [u8; 3], seen: &[[f64; 3]; 3]) -> [f64; 3] {
+        let by = |matrix: &[[f64; 3]; 3], v: [f64; 3]| {
+            matrix.map(|row| (0..3).map(|i| row[i] * v[i]).sum::<f64>().clamp(0.0, 1.0))
+        };
+        let linear = colour.map(|v| (f64::from(v) / 255.0).powf(2.2));
+        let [x, y, z] = by(&XYZ, by(seen, linear)).map(f64::cbrt);
+        [116.0 * y - 16.0, 500.0 * (x - y), 200.0 * (y - z)]
+    }
+
+    /// Marks and their band are told apart from the lines, by colour-blind staff too: a difference of
+    /// 10 is seen at a glance.
+    #[test]
+    fn told_apart() {
+        for seen in &SEEN {
+            for line in [OUTLINE, AROUND, DASHES[0], DASHES[1]] {
+                for (colour, least) in [(MARK, 35.0), (BAND, 20.0)] {
+                    let (a, b) = (lab(colour, seen), lab(line, seen));
+                    let far = (0..3).map(|i| (a[i] - b[i]).powi(2)).sum::<f64>().sqrt();
+                    assert!(far > least, "{colour:?} and {line:?}: {far}");
+                }
+            }
+        }
     }
 
     /// Each pixel falls on one pixel of the smaller plane, the one that [`Smaller::crop`] gives, and
