@@ -25,12 +25,16 @@ pub const CUTOUT: &str = "cutout.png";
 pub const THUMBNAIL: &str = "thumbnail.png";
 /// What looks wrong, and what helps: see [`crate::diagnosis`].
 pub const DIAGNOSIS: &str = "diagnosis.txt";
+/// The preview with the pixels marked that one more pass would take off, as a PNG. It is no part of a
+/// cut's [`results`] and is made later, where it is asked for; a cut that replaces the results takes
+/// it away.
+pub const NEXT_PASS: &str = "next-pass.png";
 /// The record: see [`crate::record`].
 pub const RECORD: &str = "record.txt";
 
 /// The ends of all names that a cut's files can have, in the order in which they come to their
 /// place. The record is the last.
-pub const ENDS: [&str; 10] = [
+pub const ENDS: [&str; 11] = [
     PICTURE_PPM,
     PICTURE_PAM,
     MASK,
@@ -40,6 +44,7 @@ pub const ENDS: [&str; 10] = [
     CUTOUT,
     THUMBNAIL,
     DIAGNOSIS,
+    NEXT_PASS,
     RECORD,
 ];
 

@@ -99,7 +99,13 @@ impl Place {
 
     /// A file of the cut's that is there already.
     pub fn taken(&self) -> Option<PathBuf> {
-        self.ends().next().map(|end| self.path(end))
+        self.first_there(&ENDS)
+    }
+
+    /// The first file of these ends that is there.
+    pub fn first_there(&self, ends: &[&str]) -> Option<PathBuf> {
+        let mut paths = ends.iter().map(|end| self.path(end));
+        paths.find(|path| there(path))
     }
 
     /// Whether a replacement was stopped here, and the old files are those that end in `.old`.
@@ -123,11 +129,7 @@ impl Place {
     /// Writes the files. Where one is there already, all are left as they are, unless `replace` asks
     /// for new ones. After a failure the files are those of before.
     pub fn write(&self, files: &[(&str, Vec<u8>)], replace: bool) -> Result<(), Unwritten> {
-        let mut parts = Parts::default();
-        for (end, bytes) in files {
-            let part = self.path(&format!("{end}.{}.part", std::process::id()));
-            parts.write(part, bytes)?;
-        }
+        let mut parts = self.parts(files)?;
         match self.taken() {
             None => self.put(&mut parts, files).inspect_err(|_| self.clear())?,
             Some(path) if !replace => return Err(Unwritten::Taken(path)),
@@ -135,6 +137,31 @@ impl Place {
         }
         sync_folder(&self.folder);
         Ok(())
+    }
+
+    /// Writes one file and leaves all others as they are, whether they are of a cut or not. Where it
+    /// is there already it is left too, unless `replace` asks for a new one. After a failure it is
+    /// that of before.
+    pub fn write_one(&self, end: &str, bytes: Vec<u8>, replace: bool) -> Result<(), Unwritten> {
+        let file = [(end, bytes)];
+        let mut parts = self.parts(&file)?;
+        match self.first_there(&[end]) {
+            Some(path) if !replace => return Err(Unwritten::Taken(path)),
+            Some(path) if path.is_dir() => return Err(in_the_way(path)),
+            _ => self.put(&mut parts, &file)?,
+        }
+        sync_folder(&self.folder);
+        Ok(())
+    }
+
+    /// Writes new files under their first names.
+    fn parts(&self, files: &[(&str, Vec<u8>)]) -> Result<Parts, Unwritten> {
+        let mut parts = Parts::default();
+        for (end, bytes) in files {
+            let part = self.path(&format!("{end}.{}.part", std::process::id()));
+            parts.write(part, bytes)?;
+        }
+        Ok(parts)
     }
 
     /// Puts new files in the place of old ones.
@@ -159,11 +186,10 @@ impl Place {
     /// Gives an old file its second name.
     fn keep(&self, end: &str) -> Result<(), Unwritten> {
         let path = self.path(end);
-        let done = match path.is_dir() {
-            true => Err(io::Error::other("a folder has its name")),
-            false => also(&path, &self.old(end)),
-        };
-        done.map_err(|why| Unwritten::Failed(path, why))
+        if path.is_dir() {
+            return Err(in_the_way(path));
+        }
+        also(&path, &self.old(end)).map_err(|why| Unwritten::Failed(path, why))
     }
 
     /// Takes the old files' own names away, the record's first.
@@ -221,6 +247,11 @@ impl Place {
             let _ = fs::remove_file(self.path(end));
         }
     }
+}
+
+/// A folder that has a file's name.
+fn in_the_way(path: PathBuf) -> Unwritten {
+    Unwritten::Failed(path, io::Error::other("a folder has its name"))
 }
 
 /// Whether there is something of that name.

@@ -148,7 +148,8 @@ fn at_each_call(how: &str, old: &Files, look: impl Fn(&Path, bool)) -> Option<us
     None
 }
 
-/// Old results, and the new ones that would replace them, each with the picture.
+/// Old results, with a picture of what one more pass would take off, and the new ones that would
+/// replace them, each with the picture.
 fn old_and_new(test: &str) -> (Files, Files) {
     let mut rgb = vec![240; 3 * 20 * 20];
     for y in 5..15 {
@@ -161,9 +162,10 @@ fn old_and_new(test: &str) -> (Files, Files) {
         run(&folder, &[&["a.pam"], words].concat()).ended(0, "");
         files(&folder)
     };
-    let old = set("old", &[]);
+    let mut old = set("old", &[]);
+    old.insert("a.next-pass.png".into(), b"of before".to_vec());
     let new = set("new", &["--fringe=3", "--small-weights"]);
-    assert!(old != new && old.len() == new.len() + 1);
+    assert!(old != new && old.len() == new.len() + 2);
     (old, new)
 }
 

@@ -48,32 +48,51 @@ pub fn picture(path: &Path, quiet: bool) -> Result<Given, Failure> {
 }
 
 /// Whether a file is a result of an earlier cut: it has a result's name, and its record is beside it.
+/// What shows the next pass is known by its name alone, since it may lie in another folder than its
+/// record.
 fn is_result(path: &Path) -> bool {
     let places = filing::ENDS.iter().filter_map(|end| Place::of(path, end));
-    places
+    let filed = places
         .map(|place| place.path(filing::RECORD))
-        .any(|record| record.is_file())
+        .any(|record| record.is_file());
+    filed || Place::of(path, filing::NEXT_PASS).is_some()
 }
 
-/// Refuses a place that has no folder, where something lies that is to be kept, or where the
-/// picture itself lies.
-fn usable(place: &Place, force: bool, path: &Path) -> Result<(), Failure> {
-    let folder = &place.folder;
-    if !folder.as_os_str().is_empty() && !folder.is_dir() {
-        let text = format!("there is no folder {}; make it first", folder.display());
-        return Err(Failure::file(text));
+/// What is to be written at a place.
+pub struct Target<'a> {
+    pub place: &'a Place,
+    /// The ends of the files.
+    pub ends: &'a [&'a str],
+    /// Whether files that are there already are replaced.
+    pub force: bool,
+    /// The options that choose another place.
+    pub options: &'a str,
+}
+
+impl Target<'_> {
+    /// Refuses a place that has no folder, where something lies that is to be kept, or where the
+    /// picture itself lies.
+    pub fn usable(&self, picture: &Path) -> Result<(), Failure> {
+        let (place, options) = (self.place, self.options);
+        let folder = &place.folder;
+        if !folder.as_os_str().is_empty() && !folder.is_dir() {
+            let text = format!("there is no folder {}; make it first", folder.display());
+            return Err(Failure::file(text));
+        }
+        match place.first_there(self.ends) {
+            Some(taken) if !self.force => {
+                return Err(Failure::unwritten(Unwritten::Taken(taken), options))
+            }
+            _ => {}
+        }
+        let own = fs::canonicalize(picture).ok();
+        let mut ends = self.ends.iter().map(|end| place.path(end));
+        if own.is_some() && ends.any(|path| fs::canonicalize(path).ok() == own) {
+            let text = "a result would take the picture's place";
+            return Err(Failure::file(format!("{text}; choose another {options}")));
+        }
+        Ok(())
     }
-    match place.taken() {
-        Some(taken) if !force => return Err(Unwritten::Taken(taken).into()),
-        _ => {}
-    }
-    let own = fs::canonicalize(path).ok();
-    let ends = filing::ENDS.map(|end| fs::canonicalize(place.path(end)).ok());
-    if own.is_some() && ends.contains(&own) {
-        let text = "a result would take the picture's place; choose another --name or --out";
-        return Err(Failure::file(text));
-    }
-    Ok(())
 }
 
 /// The record of results that are there already.
@@ -108,7 +127,13 @@ pub fn cut(work: &Work, path: &Path, place: &Place) -> Outcome {
 }
 
 fn write(work: &Work, path: &Path, place: &Place) -> Result<Done, Failure> {
-    usable(place, work.force, path)?;
+    let target = Target {
+        place,
+        ends: &filing::ENDS,
+        force: work.force,
+        options: "--name or --out",
+    };
+    target.usable(path)?;
     // Of several pictures the count is said, and not the steps of each.
     let quiet = work.quiet || work.pictures.len() > 1;
     let mut given = picture(path, quiet)?;

@@ -47,6 +47,14 @@ impl Failure {
         }
     }
 
+    /// Files that are not in their place; `options` are those that choose another place.
+    pub fn unwritten(why: Unwritten, options: &str) -> Failure {
+        Failure::file(match why {
+            Unwritten::Taken(_) => format!("{why}; add --force, or choose another {options}"),
+            other => other.to_string(),
+        })
+    }
+
     fn refused(number: u32, text: String) -> Failure {
         Failure {
             status: REFUSED,
@@ -73,9 +81,6 @@ impl From<Fault> for Failure {
 
 impl From<Unwritten> for Failure {
     fn from(why: Unwritten) -> Failure {
-        Failure::file(match why {
-            Unwritten::Taken(_) => format!("{why}; add --force, or choose another --name or --out"),
-            other => other.to_string(),
-        })
+        Failure::unwritten(why, "--name or --out")
     }
 }
