@@ -4,15 +4,15 @@ use crate::cutting::picture;
 use crate::failure::{worse, Failure, REFUSED, WELL, WRONG};
 use crate::options::Checks;
 use crate::progress::{say, shown, tell, Step};
-use crate::told;
+use crate::{recorded, told};
 use stand::decoding::Given;
 use stand::filing;
 use stand::placing::Place;
 use stand::record::Record;
 use stand::sha256::Summed;
 use std::fs::File;
-use std::io::{self, Read};
-use std::path::{Path, PathBuf};
+use std::io;
+use std::path::Path;
 
 /// Checks all records, and gives the program's status.
 pub fn run(checks: &Checks) -> u8 {
@@ -35,30 +35,6 @@ pub fn run(checks: &Checks) -> u8 {
     status
 }
 
-/// The longest record that is read, in bytes; the form needs fewer than 2000.
-const MOST_RECORD: u64 = 65_536;
-
-fn text(path: &Path) -> Result<String, Failure> {
-    let read = || {
-        let mut text = String::new();
-        let file = File::open(path)?;
-        file.take(MOST_RECORD).read_to_string(&mut text)?;
-        Ok(text)
-    };
-    read().map_err(|why| unread(path, why))
-}
-
-fn unread(path: &Path, why: io::Error) -> Failure {
-    let stopped = Place::of(path, filing::RECORD).is_some_and(|place| place.stopped());
-    let hint = if stopped {
-        "; its results were being replaced when the program was stopped: the files whose names end \
-         in .old are those of before, and cutting the picture again puts them back"
-    } else {
-        ""
-    };
-    Failure::file(format!("it could not be read: {why}{hint}"))
-}
-
 /// The SHA-256 of a file.
 fn sum(path: &Path, quiet: bool) -> Result<String, Failure> {
     let _step = Step::begin(format!("reading {}", path.display()), quiet);
@@ -67,7 +43,7 @@ fn sum(path: &Path, quiet: bool) -> Result<String, Failure> {
         io::copy(&mut file, &mut io::sink())?;
         Ok(file.sum.hex())
     };
-    read().map_err(|why| unread(path, why))
+    read().map_err(|why| recorded::unread(path, why))
 }
 
 /// What the check of a record found so far.
@@ -109,20 +85,15 @@ impl Found {
         };
         self.file(&place.path(filing::MASK), &record.mask);
         self.weights(&place, &record);
-        let beside = [filing::PICTURE_PPM, filing::PICTURE_PAM].map(|end| place.path(end));
-        let beside = beside.into_iter().find(|path| path.is_file());
-        match given.map(PathBuf::from).or(beside) {
-            Some(path) => self.picture(&path, &record),
-            None if record.original.is_some() => {
-                let why = "it is not there; the picture that was cut is filed with its record";
-                self.failed(&place.path(filing::PICTURE_PPM), &Failure::file(why));
-            }
-            None => {}
+        match recorded::picture(&place, &record, given) {
+            Ok(Some(path)) => self.picture(&path, &record),
+            Ok(None) => {}
+            Err((path, why)) => self.failed(&path, &why),
         }
     }
 
     fn read(&mut self, path: &Path) -> Option<Record> {
-        let record = text(path).and_then(|text| Record::read(&text).map_err(Failure::file));
+        let record = recorded::record(path);
         record.map_err(|why| self.failed(path, &why)).ok()
     }
 

@@ -7,6 +7,7 @@ mod cutting;
 mod failure;
 mod options;
 mod progress;
+mod recorded;
 mod sheet;
 
 use failure::{WELL, WRONG};
