@@ -253,6 +253,23 @@ fn up(tolerance: f64, part: f64) -> f64 {
     (tolerance * part).ceil() / part
 }
 
+/// A number with a comma after each three digits from the end.
+///
+/// ```
+/// assert_eq!(stand::diagnosis::grouped(44_104), "44,104");
+/// ```
+pub fn grouped(number: usize) -> String {
+    let digits = number.to_string();
+    let mut out = String::new();
+    for (at, digit) in digits.chars().enumerate() {
+        if at > 0 && (digits.len() - at) % 3 == 0 {
+            out.push(',');
+        }
+        out.push(digit);
+    }
+    out
+}
+
 /// State and advice from the text of a diagnosis; `None` where it is not such a text.
 ///
 /// ```

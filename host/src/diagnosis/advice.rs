@@ -8,7 +8,7 @@
 use super::levels::edge_colour;
 use super::parts::Parts;
 use super::profile::{At, Profile};
-use super::{per_cent, sides, up, Seen, State};
+use super::{grouped, per_cent, sides, up, Seen, State};
 use crate::{CardColour, Crop, Refusal};
 use std::ops::Range;
 
@@ -235,19 +235,6 @@ fn runs_out(seen: &Seen, parts: &Parts) -> Option<String> {
         "the object or its shadow runs out of the picture ({sides}); photograph it again with card \
          on all sides"
     ))
-}
-
-/// A number with a comma after each three digits from the end.
-fn grouped(number: usize) -> String {
-    let digits = number.to_string();
-    let mut out = String::new();
-    for (at, digit) in digits.chars().enumerate() {
-        if at > 0 && (digits.len() - at) % 3 == 0 {
-            out.push(',');
-        }
-        out.push(digit);
-    }
-    out
 }
 
 #[cfg(test)]
