@@ -16,6 +16,7 @@ _stand() {
     --jobs
     --sheet
     --check
+    --next-pass
     --quiet
     --help
     --version
@@ -31,6 +32,7 @@ _stand() {
     --jobs) compopt +o default ;;
     --sheet) compopt +o default -o dirnames ;;
     --check) : ;;
+    --next-pass) : ;;
     *) [[ $2 != -* ]] || mapfile -t COMPREPLY < <(compgen -W "$options" -- "$2") ;;
     esac
 }

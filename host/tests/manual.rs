@@ -124,6 +124,8 @@ fn completed_by_bash() {
         ("", "--out", "+o default -o dirnames\n\n"),
         ("0", "--tolerance", "+o default\n\n"),
         ("ba", "--check", "\n"),
+        ("--ne", "stand", "--next-pass\n"),
+        ("ba", "--next-pass", "\n"),
     ] {
         let Some(got) = offered(word, before) else {
             return;

@@ -6,7 +6,7 @@ use stand::Refusal;
 
 /// All went well.
 pub const WELL: u8 = 0;
-/// A picture was refused, or a check found a difference.
+/// A picture was refused, or something is not as recorded.
 pub const REFUSED: u8 = 1;
 /// A file or a word of the command was wrong.
 pub const WRONG: u8 = 2;
@@ -42,6 +42,15 @@ impl Failure {
     pub fn file(text: impl Into<String>) -> Failure {
         Failure {
             status: WRONG,
+            number: None,
+            text: text.into(),
+        }
+    }
+
+    /// Something that is not as recorded.
+    pub fn unlike(text: impl Into<String>) -> Failure {
+        Failure {
+            status: REFUSED,
             number: None,
             text: text.into(),
         }

@@ -5,6 +5,7 @@ mod batch;
 mod check;
 mod cutting;
 mod failure;
+mod next_pass;
 mod options;
 mod progress;
 mod recorded;
@@ -46,6 +47,7 @@ fn main() -> ExitCode {
         Ok(Asked::Version) => told(tell(VERSIONS)),
         Ok(Asked::Cut(work)) => batch::run(&work),
         Ok(Asked::Check(checks)) => check::run(&checks),
+        Ok(Asked::NextPass(asked)) => next_pass::run(&asked),
         Ok(Asked::Sheet(folder)) => sheet::run(&folder),
     };
     ExitCode::from(status)

@@ -2,7 +2,7 @@
 
 use stand::filing;
 use stand::placing::Place;
-use stand::{CardColour, Chosen};
+use stand::{CardColour, Chosen, Settings};
 use std::ffi::{OsStr, OsString};
 use std::path::{Path, PathBuf};
 
@@ -13,6 +13,7 @@ pub enum Asked {
     Version,
     Cut(Work),
     Check(Checks),
+    NextPass(NextPasses),
     /// The contact sheet and the summary of a folder.
     Sheet(PathBuf),
 }
@@ -43,6 +44,26 @@ pub struct Checks {
     pub quiet: bool,
 }
 
+/// Records whose next pass is to be shown.
+#[derive(Debug, Default, PartialEq)]
+pub struct NextPasses {
+    pub records: Vec<Shown>,
+    pub force: bool,
+    pub quiet: bool,
+}
+
+/// A record whose next pass is to be shown.
+#[derive(Debug, PartialEq)]
+pub struct Shown {
+    pub record: PathBuf,
+    /// The place that it belongs to.
+    pub beside: Place,
+    /// Its picture, where that was named.
+    pub picture: Option<PathBuf>,
+    /// The place of what is written.
+    pub place: Place,
+}
+
 /// The words as they are read one after the other.
 #[derive(Default)]
 struct Reading {
@@ -50,6 +71,7 @@ struct Reading {
     files: Vec<OsString>,
     name: Option<OsString>,
     check: bool,
+    next_pass: bool,
     sheet: Option<PathBuf>,
     /// The options that were given.
     given: Vec<String>,
@@ -140,6 +162,7 @@ impl Reading {
             "--small-weights" => self.work.small_weights = true,
             "--keep-going" => self.work.keep_going = true,
             "--check" => self.check = true,
+            "--next-pass" => self.next_pass = true,
             _ => return false,
         }
         true
@@ -168,7 +191,7 @@ impl Reading {
     /// What all words together ask for.
     fn asked(mut self) -> Result<Asked, String> {
         if let Some(folder) = self.sheet.take() {
-            self.alone("--sheet", "it takes a folder and nothing else")?;
+            self.alone("--sheet", &[], "it takes a folder and nothing else")?;
             if let Some(file) = self.files.first() {
                 return Err(format!(
                     "--sheet takes a folder, and no file {}",
@@ -177,23 +200,65 @@ impl Reading {
             }
             return Ok(Asked::Sheet(folder));
         }
+        if self.check && self.next_pass {
+            let text = "--check looks at what is filed, and --next-pass at one more pass: give one";
+            return Err(text.into());
+        }
         if self.check {
-            self.alone("--check", "a check goes by the settings in the record")?;
+            self.alone("--check", &[], "a check goes by the settings in the record")?;
             return Ok(Asked::Check(Checks {
                 quiet: self.work.quiet,
-                records: pairs(self.files)?,
+                records: pairs(self.files, "to check")?,
             }));
+        }
+        if self.next_pass {
+            return self.next_passes();
         }
         self.cuts()
     }
 
-    /// Refuses options that mean nothing beside this one.
-    fn alone(&self, option: &str, because: &str) -> Result<(), String> {
-        let fits = |given: &&String| *given == option || *given == "--quiet";
+    /// Refuses options that mean nothing beside this one; --quiet and those that fit mean something.
+    fn alone(&self, option: &str, fit: &[&str], because: &str) -> Result<(), String> {
+        let fits = |given: &&String| {
+            *given == option || *given == "--quiet" || fit.contains(&given.as_str())
+        };
         match self.given.iter().find(|given| !fits(given)) {
             Some(other) => Err(format!("{other} means nothing beside {option}: {because}")),
             None => Ok(()),
         }
+    }
+
+    /// The records whose next pass is to be shown, each with its place.
+    fn next_passes(self) -> Result<Asked, String> {
+        let because = "it goes by the settings in the record, and takes --out, --force and --quiet";
+        self.alone("--next-pass", &["--out", "--force"], because)?;
+        let mut records: Vec<Shown> = Vec::new();
+        for (record, picture) in pairs(self.files, "whose next pass is to be shown")? {
+            let Some(beside) = Place::of(&record, filing::RECORD) else {
+                continue;
+            };
+            let mut place = beside.clone();
+            place.folder = self.work.out.clone().unwrap_or(place.folder);
+            if let Some(other) = records.iter().find(|other| other.place == place) {
+                return Err(format!(
+                    "{} and {} would have pictures of one name; give them one by one, each with \
+                     its own --out",
+                    other.record.display(),
+                    record.display()
+                ));
+            }
+            records.push(Shown {
+                record,
+                beside,
+                picture,
+                place,
+            });
+        }
+        Ok(Asked::NextPass(NextPasses {
+            records,
+            force: self.work.force,
+            quiet: self.work.quiet,
+        }))
     }
 
     /// The pictures to be cut, each with its place.
@@ -249,6 +314,27 @@ impl Reading {
     }
 }
 
+/// The options that choose this: the fringe, and all others that are not as without an option.
+pub fn options_of(chosen: &Chosen) -> String {
+    let (own, usual) = (&chosen.settings, Settings::default());
+    let mut words = vec![format!("--fringe {}", own.key_bg_fringe)];
+    if own.alpha_threshold != usual.alpha_threshold {
+        words.push(format!("--alpha-threshold {}", own.alpha_threshold));
+    }
+    if own.key_bg_tolerance != usual.key_bg_tolerance {
+        words.push(format!("--tolerance {}", own.key_bg_tolerance));
+    }
+    if let Some(colour) = &chosen.card_colour {
+        words.push(format!("--card-colour {colour}"));
+    }
+    for (usual, word) in [(own.key_bg, "--no-key"), (own.crop_to_alpha, "--no-crop")] {
+        if !usual {
+            words.push(word.into());
+        }
+    }
+    words.join(" ")
+}
+
 /// The name that a record shares with its files.
 fn name_of_record(path: &Path) -> Option<OsString> {
     Place::of(path, filing::RECORD).map(|place| place.name)
@@ -264,14 +350,14 @@ fn name_of_picture(path: &Path) -> Option<OsString> {
 }
 
 /// Records and pictures, put together by their names; one record and one picture belong together
-/// whatever their names are.
-fn pairs(files: Vec<OsString>) -> Result<Vec<(PathBuf, Option<PathBuf>)>, String> {
+/// whatever their names are. `what` says what a record is needed for.
+fn pairs(files: Vec<OsString>, what: &str) -> Result<Vec<(PathBuf, Option<PathBuf>)>, String> {
     let files = files.into_iter().map(PathBuf::from);
     let (records, pictures): (Vec<PathBuf>, Vec<PathBuf>) =
         files.partition(|path| name_of_record(path).is_some());
     if records.is_empty() {
         let end = filing::RECORD;
-        return Err(format!("give a record to check; its name ends in .{end}"));
+        return Err(format!("give a record {what}; its name ends in .{end}"));
     }
     let mut pairs: Vec<_> = records.into_iter().map(|record| (record, None)).collect();
     let single = pairs.len() == 1 && pictures.len() == 1;
@@ -299,7 +385,6 @@ fn pairs(files: Vec<OsString>) -> Result<Vec<(PathBuf, Option<PathBuf>)>, String
 #[cfg(test)]
 mod tests {
     use super::*;
-    use stand::Settings;
 
     fn words(text: &str) -> Result<Asked, String> {
         read(text.split_whitespace().map(OsString::from))
@@ -398,6 +483,42 @@ mod tests {
     }
 
     #[test]
+    fn next_passes() {
+        let of = |text: &str| match words(&format!("--next-pass {text}")) {
+            Ok(Asked::NextPass(asked)) => asked,
+            other => panic!("{text}: {other:?}"),
+        };
+        let asked = of("x/a.record.txt b.c.record.txt b.c.ppm");
+        assert!(!asked.force && !asked.quiet);
+        let shown = |folder: &str, name: &str, picture: &str, out: &str| Shown {
+            record: place(folder, name).path(filing::RECORD),
+            beside: place(folder, name),
+            picture: (!picture.is_empty()).then(|| picture.into()),
+            place: place(out, name),
+        };
+        let want = [shown("x", "a", "", "x"), shown("", "b.c", "b.c.ppm", "")];
+        assert_eq!(asked.records, want);
+        let asked = of("x/a.record.txt p.jpg --out o --force --quiet");
+        assert!(asked.force && asked.quiet);
+        assert_eq!(asked.records, [shown("x", "a", "p.jpg", "o")]);
+    }
+
+    /// The options of what is chosen choose it.
+    #[test]
+    fn options_of_what_is_chosen() {
+        for text in [
+            "--fringe 1",
+            "--fringe -3",
+            "--fringe 9223372036854775807 --alpha-threshold -7 --tolerance 0.0000001",
+            "--fringe 2 --tolerance 0.1 --card-colour c0ffee --no-key --no-crop",
+        ] {
+            let chosen = work(&format!("{text} a")).chosen;
+            assert_eq!(options_of(&chosen), text);
+        }
+        assert_eq!(options_of(&Chosen::default()), "--fringe 1");
+    }
+
+    #[test]
     fn sentences() {
         for (text, part) in [
             ("", "give a picture"),
@@ -433,6 +554,27 @@ mod tests {
             ),
             ("--check a.record.txt --force", "--force means nothing"),
             ("--check a.record.txt --name b", "--name means nothing"),
+            ("--next-pass", "give a record whose next pass"),
+            ("--next-pass a.ppm", "its name ends in .record.txt"),
+            ("--next-pass a.record.txt --check", "give one"),
+            (
+                "--next-pass a.record.txt --fringe 3",
+                "--fringe means nothing beside --next-pass",
+            ),
+            ("--next-pass a.record.txt --name b", "--name means nothing"),
+            (
+                "--next-pass a.record.txt --keep-going",
+                "--keep-going means nothing",
+            ),
+            (
+                "--next-pass x/a.record.txt y/a.record.txt --out o",
+                "pictures of one name",
+            ),
+            (
+                "--next-pass a.record.txt a.record.txt",
+                "pictures of one name",
+            ),
+            ("--sheet cuts --next-pass", "--next-pass means nothing"),
             ("--sheet cuts --jobs 2", "--jobs means nothing"),
             ("--sheet cuts a.ppm", "no file a.ppm"),
             ("a --jobs 0", "from 1 to 256"),
