@@ -6,6 +6,8 @@
 mod draw;
 #[path = "../support/running.rs"]
 mod running;
+#[path = "../support/soft.rs"]
+mod soft;
 
 use running::*;
 use stand::netpbm;
@@ -105,9 +107,9 @@ fn put(folder: &Path, files: &Files) {
 }
 
 /// The library that stops a program at a system call, where there is a C compiler.
-fn stopper(how: &str, files: usize) -> Option<PathBuf> {
+fn stopper(test: &str) -> Option<PathBuf> {
     let source = Path::new(env!("CARGO_MANIFEST_DIR")).join("tests/c/stop.c");
-    let library = folder(&format!("stopper-{how}-{files}")).join("stop.so");
+    let library = folder(&format!("stopper-{test}")).join("stop.so");
     let mut cc = Command::new("cc");
     cc.args(["-shared", "-fPIC", "-o"])
         .arg(&library)
@@ -116,22 +118,30 @@ fn stopper(how: &str, files: usize) -> Option<PathBuf> {
     built.then_some(library)
 }
 
-/// Cuts a.pam where these files lie, stopped at one call after the other, until the program ends by
+/// Cuts a.pam anew.
+const CUT: [&str; 5] = [
+    "a.pam",
+    "--fringe=3",
+    "--small-weights",
+    "--force",
+    "--quiet",
+];
+
+/// Runs the program where these files lie, stopped at one call after the other, until it ends by
 /// itself; each time `look` sees the folder and whether the program ended well. Gives the number of
 /// calls.
-fn at_each_call(how: &str, old: &Files, look: impl Fn(&Path, bool)) -> Option<usize> {
-    let library = stopper(how, old.len())?;
-    let folder = folder(&format!("{how}-{}", old.len())).join("cuts");
+fn at_each_call(
+    how: &str,
+    words: &[&str],
+    old: &Files,
+    look: impl Fn(&Path, bool),
+) -> Option<usize> {
+    let test = format!("{how}-{}-{}", words[0], old.len());
+    let library = stopper(&test)?;
+    let folder = folder(&test).join("cuts");
     for at in 1.. {
         put(&folder, old);
-        let words = [
-            "a.pam",
-            "--fringe=3",
-            "--small-weights",
-            "--force",
-            "--quiet",
-        ];
-        let mut command = program(&folder, &words);
+        let mut command = program(&folder, words);
         command.env("LD_PRELOAD", &library).env("STOP_HOW", how);
         let output = command.env("STOP_AT", at.to_string()).output().unwrap();
         let said = String::from_utf8_lossy(&output.stderr);
@@ -208,7 +218,7 @@ fn replaced_or_not() {
             assert!(second_names(&files(folder)).is_empty());
             run(folder, &["--check", "a.record.txt", "a.pam"]).ended(0, "");
         };
-        match at_each_call(how, &old, look) {
+        match at_each_call(how, &CUT, &old, look) {
             Some(calls) => {
                 let line = format!("placing: {how} at each of {calls} calls\n");
                 std::io::stderr().write_all(line.as_bytes()).unwrap();
@@ -229,7 +239,7 @@ fn written_or_not() {
         assert!(own.iter().all(|(name, bytes)| new.get(name) == Some(bytes)));
         assert!(own == new || !own.contains_key("a.record.txt"));
     };
-    if at_each_call("kill", &old, look).is_none() {
+    if at_each_call("kill", &CUT, &old, look).is_none() {
         skipped("there is no cc to stop the program at each call");
     }
 }
@@ -250,8 +260,37 @@ fn failed_or_not() {
         // Of what was to be removed one file at most could not be.
         assert!(there.len() <= own.len() + 1, "{:?}", there.keys());
     };
-    if at_each_call("fail", &old, look).is_none() {
+    if at_each_call("fail", &CUT, &old, look).is_none() {
         skipped("there is no cc to have calls fail");
+    }
+}
+
+/// The picture of the next pass comes to its place at once, or not at all, and no other file changes.
+#[test]
+fn next_pass_or_not() {
+    let name = "a.next-pass.png";
+    let folder = folder("next");
+    let picture = netpbm::pam(&soft::disc(40, 40, 8.0));
+    fs::write(folder.join("a.pam"), picture).unwrap();
+    run(&folder, &["a.pam"]).ended(0, "");
+    let words = ["--next-pass", "a.record.txt", "a.pam", "--force", "--quiet"];
+    run(&folder, &words).quiet();
+    let new = files(&folder);
+    let mut old = new.clone();
+    old.insert(name.into(), b"of before".to_vec());
+    for how in ["kill", "fail"] {
+        let look = |folder: &Path, well: bool| {
+            let there = files(folder);
+            let own = first_names(&there);
+            assert!(own == new || !well && own == old, "{:?}", there.keys());
+            assert!(how == "kill" || well == (own == new));
+            let left = there.keys().filter(|name| !own.contains_key(*name));
+            let left: Vec<&String> = left.collect();
+            assert!(left.len() <= 1 && left.iter().all(|name| name.ends_with(".part")));
+        };
+        if at_each_call(how, &words, &old, look).is_none() {
+            skipped("there is no cc to stop the program at each call");
+        }
     }
 }
 
