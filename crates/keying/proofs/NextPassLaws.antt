@@ -9,7 +9,6 @@ use lib.IntN.{pos}
 use lib.ListN.{length}
 use lib.Ieee.{Float}
 use borrow.Author.Tests.{eq-eqb, ne-eqb, eqb-true}
-use Rattle.plane.specs.Refusal.{after}
 use Rattle.plane.proofs.Refusal.{written}
 use Rattle.geometry.specs.declared.Answer.{Answer}
 use Rattle.geometry.specs.declared.Answer.the-variants as answer
@@ -70,6 +69,7 @@ module _ (colours : List Float) (background : List ℕ) (h w : ℕ) (reference :
     unfolding nextBackground
     next-is z = grown .out-is ∙ written refusal _ _ z
 
+    -- its result is as long as the background
     pub as-long : (n : ℕ) → n ≡ refusalOfAnswer a → n ≡ 0 → length (b′ .out) ≡ length background
     as-long n e z =
         let z′ : refusal ≡ 0 = sym (e ∙ refusal-is) ∙ z in

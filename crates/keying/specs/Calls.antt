@@ -65,14 +65,14 @@ pub record GrowthCalled (colours : List Float) (background : List ℕ) (h w : �
 
 -- ---- next_pass
 
--- a look at the pass that comes after a background (R89 to R91): the background after that pass, and the number of its joins. What the
--- call is lent to read stays as it was
+-- a look at the pass that comes after a background: the background after that pass, and the number of its joins (R89, R90)
 pub record NextPassCalled (colours : List Float) (background : List ℕ) (h w : ℕ) (reference : Rgb) (b : GrowthBuffers)
     (r : NextPass) (colours′ : List Float) (background′ : List ℕ) (b′ : GrowthBuffers) : Type 0 where
   pub answer : r ≡ nextPassFor (growthRefusalIn colours background h w reference b) (joinsIn colours reference h w background)
   pub out-is : b′ .out ≡ after (growthRefusalIn colours background h w reference b)
       (nextBackground colours reference h w background) (b .out)
   pub kept : (growthRefusalIn colours background h w reference b ≡ 0 → ⊥) → b′ ≡ b
+  -- what the call is lent to read stays as it was (R91)
   pub picture-kept : colours′ ≡ colours
   pub background-kept : background′ ≡ background
 

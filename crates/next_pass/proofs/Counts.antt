@@ -11,7 +11,7 @@ use lib.Dec.{eqb}
 use lib.ListN.{length, take, drop}
 use borrow.Author.Tests.{ne-eqb}
 use Rattle.plane.specs.Search.{someBelow, countBelow}
-use Rattle.plane.proofs.Search.{either, or-no, count-most, count-same}
+use Rattle.plane.proofs.Search.{either, or-no, or-right, count-most, count-same}
 use Rattle.plane.specs.Mask.{isOn}
 use Rattle.counts.proofs.Put.{part-at}
 use Rattle.next_pass.specs.NextPass.{newlyOn}
@@ -26,13 +26,9 @@ unfolding countBelow someBelow
 count-zero p zero = refl
 count-zero p (suc n) =
     ⊎-elim {C = eqb (countBelow n p + cond (p n) 1 0) 0 ≡ not (someBelow n p || p n)}
-    (λ (a : p n ≡ true). rw (a, ne-eqb (countBelow n p + 1) 0 (λ z. absurd (omega arith)), or-yes (someBelow n p)))
+    (λ (a : p n ≡ true). rw (a, ne-eqb (countBelow n p + 1) 0 (λ z. absurd (omega arith)), or-right (someBelow n p) true refl))
     (λ (a : p n ≡ false). rw (a, or-no, add-zero) (count-zero p n))
     (either (p n))
-  where
-    or-yes : (t : Bool) → t || true ≡ true
-    or-yes true = refl
-    or-yes false = refl
 
 -- a count up to m, and one of the n numbers from there on
 count-then : (p : ℕ → Bool) (m n : ℕ) → countBelow m p + countBelow n (λ (i : ℕ). p (m + i)) ≡ countBelow (m + n) p
