@@ -127,6 +127,17 @@ impl CutLent {
         (answer, out)
     }
 
+    /// The work buffers, and outputs of n pixels: the mask and the weights.
+    fn lend(&mut self, n: usize) -> (Work<'_>, &mut [u8], &mut [f64]) {
+        let work = Work {
+            nearest: &mut self.nearest,
+            shallow: &mut self.shallow,
+            deep: &mut self.deep,
+            marks: &mut self.marks,
+        };
+        (work, &mut self.mask[..n], &mut self.weights[..n])
+    }
+
     pub fn growth(
         &mut self,
         colours: &[f64],
@@ -136,13 +147,7 @@ impl CutLent {
         reference: Rgb,
         passes: i64,
     ) -> &[u8] {
-        let out = &mut self.mask[..h * w];
-        let mut work = Work {
-            nearest: &mut self.nearest,
-            shallow: &mut self.shallow,
-            deep: &mut self.deep,
-            marks: &mut self.marks,
-        };
+        let (mut work, out, _) = self.lend(h * w);
         let refusal = raw::growth(colours, background, h, w, reference, passes, &mut work, out);
         assert_eq!(refusal, 0, "growth {h} × {w}");
         out
@@ -156,13 +161,7 @@ impl CutLent {
         w: usize,
         reference: Rgb,
     ) -> (StandNextPass, &[u8]) {
-        let out = &mut self.mask[..h * w];
-        let mut work = Work {
-            nearest: &mut self.nearest,
-            shallow: &mut self.shallow,
-            deep: &mut self.deep,
-            marks: &mut self.marks,
-        };
+        let (mut work, out, _) = self.lend(h * w);
         let answer = raw::next_pass(colours, background, h, w, reference, &mut work, out);
         assert_eq!(answer.refusal, 0, "next pass {h} × {w}");
         (answer, out)
@@ -174,13 +173,7 @@ impl CutLent {
         n: usize,
         call: impl FnOnce(&mut Work, &mut [u8], &mut [f64]) -> StandCut,
     ) -> (StandCut, &[u8], &[f64]) {
-        let (mask, weights) = (&mut self.mask[..n], &mut self.weights[..n]);
-        let mut work = Work {
-            nearest: &mut self.nearest,
-            shallow: &mut self.shallow,
-            deep: &mut self.deep,
-            marks: &mut self.marks,
-        };
+        let (mut work, mask, weights) = self.lend(n);
         let answer = call(&mut work, mask, weights);
         (answer, mask, weights)
     }

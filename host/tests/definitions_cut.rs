@@ -213,17 +213,23 @@ fn random_pictures_with_a_colour() {
     assert!(gained >= 100 && lost >= 100, "only {gained} and {lost}");
 }
 
+/// A picture, a background that is no ground, in any bytes, and the median of the border.
+fn any_background(random: &mut Random) -> (Drawn, Vec<u8>, Rgb) {
+    let (h, w) = pictures::sides(random, 18);
+    let drawn = pictures::draw(random, h, w);
+    let density = [0, 20, 300, 900, 1000][random.below(5)];
+    let back = random.mask(h * w, density);
+    let back = random.any_bytes(&back);
+    let reference = pictures::reference(&drawn.colours, h, w);
+    (drawn, back, reference)
+}
+
 #[test]
 fn random_growths() {
     let mut random = Random(72);
     for _ in 0..1_500 {
-        let (h, w) = pictures::sides(&mut random, 18);
-        let drawn = pictures::draw(&mut random, h, w);
-        let density = [0, 20, 300, 900, 1000][random.below(5)];
-        let back = random.mask(h * w, density);
-        let back = random.any_bytes(&back);
-        let reference = pictures::reference(&drawn.colours, h, w);
-        let p = drawn.settings.key_bg_fringe;
+        let (drawn, back, reference) = any_background(&mut random);
+        let (h, w, p) = (drawn.h, drawn.w, drawn.settings.key_bg_fringe);
         let ours = stand::growth(&drawn.colours, &back, h, w, reference, p).unwrap();
         let expected = growth(&drawn.colours, &back, w, reference, p);
         assert_eq!(ours, expected, "{}\nbackground {back:?}", drawn.show());
@@ -243,12 +249,8 @@ fn random_looks() {
     let mut random = Random(74);
     let (mut joined, mut ended) = (0, 0);
     for _ in 0..3_000 {
-        let (h, w) = pictures::sides(&mut random, 18);
-        let drawn = pictures::draw(&mut random, h, w);
-        let density = [0, 20, 300, 900, 1000][random.below(5)];
-        let back = random.mask(h * w, density);
-        let back = random.any_bytes(&back);
-        let reference = pictures::reference(&drawn.colours, h, w);
+        let (drawn, back, reference) = any_background(&mut random);
+        let (h, w) = (drawn.h, drawn.w);
         let look = stand::next_pass(&drawn.colours, &back, h, w, reference).unwrap();
         let shown = || format!("{}\nbackground {back:?}", drawn.show());
         let expected = growth(&drawn.colours, &back, w, reference, 1);

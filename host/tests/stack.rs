@@ -120,41 +120,13 @@ fn calls_on_pictures() {
                 true => ground.reference,
                 false => Rgb::default(),
             };
-            let (refusal, _) = same_in_little(&shown("growth"), || {
-                let mut nearest = room(h, w, 7);
-                let [mut shallow, mut deep, mut marks] = [1, 2, 3].map(|i| room(h, w, i));
-                let mut work = Work {
-                    nearest: &mut nearest,
-                    shallow: &mut shallow,
-                    deep: &mut deep,
-                    marks: &mut marks,
-                };
-                let mut out = vec![7; n];
-                let refusal = raw::growth(
-                    colours,
-                    &background,
-                    h,
-                    w,
-                    reference,
-                    3,
-                    &mut work,
-                    &mut out,
-                );
-                (refusal, out)
+            let back = &background[..];
+            let refusal = passes_in_little(&shown("growth"), h, w, |work, out| {
+                raw::growth(colours, back, h, w, reference, 3, work, out)
             });
             assert_eq!(refusal, 0);
-            let (next, _) = same_in_little(&shown("next pass"), || {
-                let mut nearest = room(h, w, 7);
-                let [mut shallow, mut deep, mut marks] = [1, 2, 3].map(|i| room(h, w, i));
-                let mut work = Work {
-                    nearest: &mut nearest,
-                    shallow: &mut shallow,
-                    deep: &mut deep,
-                    marks: &mut marks,
-                };
-                let (mut out, work) = (vec![7; n], &mut work);
-                let answer = raw::next_pass(colours, &background, h, w, reference, work, &mut out);
-                (answer, out)
+            let next = passes_in_little(&shown("next pass"), h, w, |work, out| {
+                raw::next_pass(colours, back, h, w, reference, work, out)
             });
             assert_eq!(next.refusal, 0);
             let cut = cut_in_little(&shown("cut"), h, w, |work, mask, weights| {
@@ -174,14 +146,14 @@ fn calls_on_pictures() {
     assert!(keyed.min(coloured) >= 4, "hardly a picture was keyed");
 }
 
-/// What a call of the cut answers in little stack, with mask and weights as in plenty.
-fn cut_in_little(
+/// What a call with the work buffers of growth answers in little stack, with its output as in plenty.
+fn passes_in_little<T: PartialEq + Send>(
     what: &str,
     h: usize,
     w: usize,
-    call: impl Fn(&mut Work, &mut [u8], &mut [f64]) -> StandCut + Sync,
-) -> StandCut {
-    let (answer, ..) = same_in_little(what, || {
+    call: impl Fn(&mut Work, &mut [u8]) -> T + Sync,
+) -> T {
+    let (answer, _) = same_in_little(what, || {
         let mut nearest = room(h, w, 7);
         let [mut shallow, mut deep, mut marks] = [1, 2, 3].map(|i| room(h, w, i));
         let mut work = Work {
@@ -190,9 +162,24 @@ fn cut_in_little(
             deep: &mut deep,
             marks: &mut marks,
         };
-        let (mut mask, mut weights) = (vec![7; h * w], vec![7.5; h * w]);
-        let answer = call(&mut work, &mut mask, &mut weights);
-        (answer, mask, weights)
+        let mut out = vec![7; h * w];
+        let answer = call(&mut work, &mut out);
+        (answer, out)
+    });
+    answer
+}
+
+/// What a call of the cut answers in little stack, with mask and weights as in plenty.
+fn cut_in_little(
+    what: &str,
+    h: usize,
+    w: usize,
+    call: impl Fn(&mut Work, &mut [u8], &mut [f64]) -> StandCut + Sync,
+) -> StandCut {
+    let (answer, _) = passes_in_little(what, h, w, |work, mask| {
+        let mut weights = vec![7.5; h * w];
+        let answer = call(work, mask, &mut weights);
+        (answer, weights)
     });
     answer
 }

@@ -2,6 +2,7 @@
 //!
 //! ```text
 //! cargo run --release --manifest-path host/Cargo.toml --bin definitions -- [CUTS] [GROWTHS] [MOST] [SEED]
+//! cargo run --release --manifest-path host/Cargo.toml --bin definitions -- looks [LOOKS] [SEED]
 //! ```
 //!
 //! CUTS pictures of at most MOST pixels go to `subject`, GROWTHS lines and strips to `unmix_fringe`
@@ -11,6 +12,9 @@
 //! card's colour given, and its second reading of mask.rs (support/reading.rs), or a text that names
 //! none. The prover computes each of them; one declaration for all would be more than it computes at
 //! once.
+//!
+//! With `looks` the module is for crates/next_pass/proofs: LOOKS lines and strips (100 by default), each
+//! with growth of one pass by mask.rs and the number of its joins.
 
 include!(concat!(env!("OUT_DIR"), "/the_rust.rs"));
 
@@ -139,6 +143,17 @@ growthIs colours reference h w p back grown = same (growthOf colours reference h
         bodyFrom joinsFrom isJoining passOf growthOf alphaMask isSought isKeyed grownGround cutMask weightAt weightsOf \
         cropOf cutOf workTests pictureTests cutLengths cutContents cutRefusal hexOf allHex isColourText textChannel \
         textColour cardOf lt le eq add sub mul div neg ofInt ofBits toBits";
+
+    /// What the tests of looks use beside the rest.
+    const LOOK_USE: &str =
+        "use Rattle.next_pass.specs.NextPass.{nextBackground, newlyOn, joinsIn}\n";
+
+    const LOOK: &str = "\
+lookIs : List Float → Rgb → ℕ → ℕ → List ℕ → List ℕ → ℕ → Bool
+lookIs colours reference h w back next joins =
+    same (nextBackground colours reference h w back) next && eqb (joinsIn colours reference h w back) joins
+
+";
 
     fn list<T: std::fmt::Display>(of: impl IntoIterator<Item = T>) -> String {
         let mut text = String::from("(");
@@ -325,7 +340,17 @@ growthIs colours reference h w p back grown = same (growthOf colours reference h
 
     /// A line or a strip that has room for deep pixels, with the background at its left end and
     /// here and there.
-    fn growth(random: &mut Random, count: &mut Count) -> String {
+    struct Strip {
+        h: usize,
+        w: usize,
+        colours: Vec<f64>,
+        back: Vec<u8>,
+    }
+
+    /// The reference of all strips.
+    const ZERO: [f64; 3] = [-0.0, 0.0, 0.0];
+
+    fn strip(random: &mut Random) -> Strip {
         let (h, w) = [(1, 12), (1, 16), (12, 1), (16, 1), (2, 9), (2, 12)][random.below(6)];
         let n = h * w;
         let colours: Vec<f64> = (0..n)
@@ -342,9 +367,23 @@ growthIs colours reference h w p back grown = same (growthOf colours reference h
             .map(|i| (i % w + i / w < ends || also[i] == 1) as u8)
             .collect();
         let back = random.any_bytes(&back);
+        Strip {
+            h,
+            w,
+            colours,
+            back,
+        }
+    }
+
+    fn growth(random: &mut Random, count: &mut Count) -> String {
+        let Strip {
+            h,
+            w,
+            colours,
+            back,
+        } = strip(random);
         let p = random.below(4);
-        let reference = [-0.0, 0.0, 0.0];
-        let grown = mask::unmix_fringe(&colours, &bools(&back), h, w, &reference, p);
+        let grown = mask::unmix_fringe(&colours, &bools(&back), h, w, &ZERO, p);
         let deep = mask::binary_dilation8(&bools(&back), h, w, 4);
         let deep: Vec<bool> = deep.iter().map(|&d| !d).collect();
         count.growths += 1;
@@ -353,13 +392,13 @@ growthIs colours reference h w p back grown = same (growthOf colours reference h
             count.deep += 1;
             let (rows, cols) = mask::feature_transform(&deep, h, w);
             let near = mask::binary_dilation8(&bools(&back), h, w, 1);
-            count.beyond += (0..n).any(|i| {
+            count.beyond += (0..h * w).any(|i| {
                 let dy = rows[i] as i64 - (i / w) as i64;
                 let dx = cols[i] as i64 - (i % w) as i64;
                 back[i] == 0 && near[i] && dy * dy + dx * dx > 36
             }) as u32;
         }
-        let [r, g, b] = reference.map(f64::to_bits);
+        let [r, g, b] = ZERO.map(f64::to_bits);
         format!(
             "growthIs {} (rgb {r} {g} {b}) {h} {w} {p} {} {}",
             floats(&colours),
@@ -368,10 +407,52 @@ growthIs colours reference h w p back grown = same (growthOf colours reference h
         )
     }
 
+    fn look(random: &mut Random, count: &mut Count) -> String {
+        let Strip {
+            h,
+            w,
+            colours,
+            back,
+        } = strip(random);
+        let next = mask::unmix_fringe(&colours, &bools(&back), h, w, &ZERO, 1);
+        let new = next.iter().zip(&back).filter(|(&n, &b)| n && b == 0);
+        let joins = new.count();
+        count.growths += 1;
+        count.joined += (joins > 0) as u32;
+        let [r, g, b] = ZERO.map(f64::to_bits);
+        format!(
+            "lookIs {} (rgb {r} {g} {b}) {h} {w} {} {} {joins}",
+            floats(&colours),
+            list(&back),
+            masked(&next)
+        )
+    }
+
+    /// The tests of looks.
+    fn looks(number: usize, seed: u64) {
+        let mut random = Random(seed);
+        let mut count = Count::default();
+        let head = HEAD.replace("Rattle.outline.specs", "Rattle.outline.specs");
+        print!(
+            "{}{LOOK}",
+            head.replacen("\nsame :", &format!("{LOOK_USE}\nsame :"), 1)
+        );
+        let unfolding = format!("{UNFOLDING} lookIs nextBackground newlyOn joinsIn");
+        for i in 0..number {
+            let test = look(&mut random, &mut count);
+            println!("\nt{i} : T ({test})\n{unfolding}\nt{i} = tt");
+        }
+        eprintln!("{} looks, {} with a join", count.growths, count.joined);
+    }
+
     pub fn main() {
-        let words = std::env::args().skip(1);
+        let mut words = std::env::args().skip(1).peekable();
+        let only_looks = words.next_if(|word| word == "looks").is_some();
         let numbers: Vec<usize> = words.map(|word| word.parse().expect("a number")).collect();
         let or = |at: usize, otherwise| numbers.get(at).copied().unwrap_or(otherwise);
+        if only_looks {
+            return looks(or(0, 100), or(1, 1) as u64);
+        }
         let (cuts, growths, most) = (or(0, 300), or(1, 100), or(2, 25));
         let mut random = Random(or(3, 1) as u64);
         let mut count = Count::default();
