@@ -8,9 +8,9 @@ use Prim.Native.Nat.{ℕ, ◌+◌, ◌-◌, ◌≤◌, ◌<◌}
 use native.Mathlib.Omega.{arith}
 use lib.Dec.{leb}
 use borrow.Author.Tests.{leb-true, leb-false}
-use Rattle.plane.specs.Plane.{onAt}
-use Rattle.plane.specs.Search.{lastBelow}
-use Rattle.plane.specs.Box.{rowHas, columnHas, lesserOf, boxOf}
+use Rattle.plane.specs.Plane.{on_at}
+use Rattle.plane.specs.Search.{last_below}
+use Rattle.plane.specs.Box.{row_has, column_has, lesser_of, box_of}
 use Rattle.plane.specs.declared.Box.{Box}
 use Rattle.plane.proofs.Search.{either, some_is}
 use Rattle.plane.proofs.Bounds.{between}
@@ -30,36 +30,36 @@ pub record Has (b : Box) (y x : ℕ) : Type 0 where
   pub to-column : x < b.x1
 
 -- the lesser of two numbers
-pub lesser-is : (a b : ℕ) → lesserOf a b ≡ a - (a - b)
-unfolding lesserOf
+pub lesser-is : (a b : ℕ) → lesser_of a b ≡ a - (a - b)
+unfolding lesser_of
 lesser-is a b =
     ⊎_elim {C = cond (leb a b) a b ≡ a - (a - b)}
     (λ (e : leb a b ≡ true). rw e (omega (arith, leb-true a b e)))
     (λ (e : leb a b ≡ false). rw e (omega (arith, leb-false a b e)))
     (either (leb a b))
 
-module _ (mask : List ℕ) (h w margin y x : ℕ) (row : y < h) (column : x < w) (is-on : onAt mask w y x ≡ true) where
+module _ (mask : List ℕ) (h w margin y x : ℕ) (row : y < h) (column : x < w) (is-on : on_at mask w y x ≡ true) where
   -- the box has every pixel of the mask,
-  pub box-has : Has (boxOf mask h w margin) y x
-  unfolding boxOf rowHas columnHas
+  pub box-has : Has (box_of mask h w margin) y x
+  unfolding box_of row_has column_has
   box-has =
-      let r = between (rowHas mask w) h y row (some_is (λ (i : ℕ). onAt mask w y i) w x column is-on) in
-      let c = between (columnHas mask h w) w x column (some_is (λ (j : ℕ). onAt mask w j x) h y row is-on) in
+      let r = between (row_has mask w) h y row (some_is (λ (i : ℕ). on_at mask w y i) w x column is-on) in
+      let c = between (column_has mask h w) w x column (some_is (λ (j : ℕ). on_at mask w j x) h y row is-on) in
       record {
         from_row = omega (arith, r.0);
-        to_row = omega (arith, r.1, lesser-is h (lastBelow h (rowHas mask w) + 1 + margin));
+        to_row = omega (arith, r.1, lesser-is h (last_below h (row_has mask w) + 1 + margin));
         from-column = omega (arith, c.0);
-        to-column = omega (arith, c.1, lesser-is w (lastBelow w (columnHas mask h w) + 1 + margin));
+        to-column = omega (arith, c.1, lesser-is w (last_below w (column_has mask h w) + 1 + margin));
       }
 
   -- and is one of the picture where there is such a pixel
-  pub box_in : BoxIn h w (boxOf mask h w margin)
-  unfolding boxOf
+  pub box_in : BoxIn h w (box_of mask h w margin)
+  unfolding box_of
   box_in =
-      let z : Has (boxOf mask h w margin) y x = box-has in
+      let z : Has (box_of mask h w margin) y x = box-has in
       record {
         some-rows = omega (arith, z.from_row, z.to_row);
-        rows_in = omega (arith, lesser-is h (lastBelow h (rowHas mask w) + 1 + margin));
+        rows_in = omega (arith, lesser-is h (last_below h (row_has mask w) + 1 + margin));
         some-columns = omega (arith, z.from-column, z.to-column);
-        columns-in = omega (arith, lesser-is w (lastBelow w (columnHas mask h w) + 1 + margin));
+        columns-in = omega (arith, lesser-is w (last_below w (column_has mask h w) + 1 + margin));
       }

@@ -10,41 +10,41 @@ use native.Mathlib.Omega.{arith}
 use lib.ListN.{length, get_or, take, drop, length-take, length-drop}
 use lib.Seq.{get_or-take, get_or-drop}
 use borrow.Author.Tests.{eq-eqb, ne_eqb}
-use Rattle.plane.specs.Plane.{on, onAt}
-use Rattle.plane.specs.Search.{someBelow, firstBelow, lastBelow}
-use Rattle.plane.specs.Mask.{isOn}
-use Rattle.plane.specs.Box.{rowHas, columnHas}
+use Rattle.plane.specs.Plane.{on, on_at}
+use Rattle.plane.specs.Search.{some_below, first_below, last_below}
+use Rattle.plane.specs.Mask.{is_on}
+use Rattle.plane.specs.Box.{row_has, column_has}
 use Rattle.plane.proofs.Search.{either, some_same, some_is, some-found, none_is, none_found}
 use Rattle.plane.proofs.Plane.{row_in}
-use Rattle.plane.proofs.Bounds.{first_below, first-none, first-most, first-or, first-same, none_before}
+use Rattle.plane.proofs.Bounds.{first_below_lem, first-none, first-most, first-or, first-same, none_before}
 use Rattle.plane.proofs.Bounds.{last_none, last-most, last_or, last-same}
 
 -- a byte that is 0 is off, any other on
-pub byte-on : (line : List ℕ) (i : ℕ) → (get_or line i 0 ≡ 0 → ⊥) → isOn line i ≡ true
-unfolding isOn on
+pub byte-on : (line : List ℕ) (i : ℕ) → (get_or line i 0 ≡ 0 → ⊥) → is_on line i ≡ true
+unfolding is_on on
 byte-on line i e = rw (ne_eqb (get_or line i 0) 0 e)
 
-pub byte-off : (line : List ℕ) (i : ℕ) → get_or line i 0 ≡ 0 → isOn line i ≡ false
-unfolding isOn on
+pub byte-off : (line : List ℕ) (i : ℕ) → get_or line i 0 ≡ 0 → is_on line i ≡ false
+unfolding is_on on
 byte-off line i e = rw (eq-eqb (get_or line i 0) 0 e)
 
 -- the last number below k + 1 of which p holds
-pub last_step : (p : ℕ → Bool) (n k : ℕ) (t : Bool) → n ≡ suc k → t ≡ p k → lastBelow n p ≡ cond t k (lastBelow k p)
-unfolding lastBelow
+pub last_step : (p : ℕ → Bool) (n k : ℕ) (t : Bool) → n ≡ suc k → t ≡ p k → last_below n p ≡ cond t k (last_below k p)
+unfolding last_below
 last_step p n k t q e = rw (q, e)
 
 -- ---- a list is row y of a mask
 
 pub record Row (mask : List ℕ) (w y : ℕ) (row : List ℕ) : Type 0 where
   pub long : length row ≡ w
-  pub pixel : (x : ℕ) → x < w → isOn row x ≡ onAt mask w y x
+  pub pixel : (x : ℕ) → x < w → is_on row x ≡ on_at mask w y x
 
 -- the part of the mask that the code hands on as row y
-abbrev pub rowPart : List ℕ → ℕ → ℕ → List ℕ
-rowPart mask w y = take (y * w + w - y * w) (drop (y * w) mask)
+abbrev pub row_part : List ℕ → ℕ → ℕ → List ℕ
+row_part mask w y = take (y * w + w - y * w) (drop (y * w) mask)
 
-pub row-part : (mask : List ℕ) (h w y : ℕ) → length mask ≡ h * w → y < h → Row mask w y (rowPart mask w y)
-unfolding isOn onAt
+pub row-part : (mask : List ℕ) (h w y : ℕ) → length mask ≡ h * w → y < h → Row mask w y (row_part mask w y)
+unfolding is_on on_at
 row-part mask h w y size here =
     let q : y * w + w - y * w ≡ w = omega arith in
     let r = row_in y h w here in
@@ -55,21 +55,21 @@ row-part mask h w y size here =
 
 module _ {mask : List ℕ} {w y : ℕ} {row : List ℕ} (r : Row mask w y row) where
   -- whether a pixel of it is on
-  pub row-some : someBelow (length row) (isOn row) ≡ rowHas mask w y
-  unfolding rowHas
+  pub row-some : some_below (length row) (is_on row) ≡ row_has mask w y
+  unfolding row_has
   row-some = rw r.long (some_same _ _ w r.pixel)
 
   -- the first pixel that is on, of the first x; the last, from pixel x on
-  pub row_first : (x : ℕ) → x ≤ w → firstBelow (length (take x row)) (isOn (take x row)) ≡ firstBelow x (onAt mask w y)
-  unfolding isOn
+  pub row_first : (x : ℕ) → x ≤ w → first_below (length (take x row)) (is_on (take x row)) ≡ first_below x (on_at mask w y)
+  unfolding is_on
   row_first x m =
       let long = r.long in
       let e : length (take x row) ≡ x = simp length-take (omega arith) in
       rw e (first-same _ _ x (λ i l. ap on (get_or-take x row i 0 l) ∙ r.pixel i (omega arith)))
 
   pub row_last : (x n : ℕ) → x ≤ w → n ≡ length row - x
-      → lastBelow (length (take n (drop x row))) (isOn (take n (drop x row))) ≡ lastBelow (w - x) (λ (i : ℕ). onAt mask w y (x + i))
-  unfolding isOn
+      → last_below (length (take n (drop x row))) (is_on (take n (drop x row))) ≡ last_below (w - x) (λ (i : ℕ). on_at mask w y (x + i))
+  unfolding is_on
   row_last x n m q =
       let long = r.long in
       let e : length (take n (drop x row)) ≡ w - x = simp (length-take, length-drop) (omega arith) in
@@ -79,78 +79,78 @@ module _ {mask : List ℕ} {w y : ℕ} {row : List ℕ} (r : Row mask w y row) w
 -- ---- the edges of the first y rows: the first row, and the first and the last column, that have an on-pixel
 
 pub record Edges (mask : List ℕ) (w y y0 x0 x1 : ℕ) : Type 0 where
-  pub top : y0 ≡ firstBelow y (rowHas mask w)
-  pub left : x0 ≡ firstBelow w (columnHas mask y w)
-  pub right : x1 ≡ lastBelow w (columnHas mask y w)
+  pub top : y0 ≡ first_below y (row_has mask w)
+  pub left : x0 ≡ first_below w (column_has mask y w)
+  pub right : x1 ≡ last_below w (column_has mask y w)
 
 -- they lie within the row
 pub left_in : {mask : List ℕ} {w y y0 x0 x1 : ℕ} → Edges mask w y y0 x0 x1 → x0 ≤ w
-left_in {mask} {w} {y} e = omega (arith, e.left, first-most (columnHas mask y w) w)
+left_in {mask} {w} {y} e = omega (arith, e.left, first-most (column_has mask y w) w)
 
 pub right-in : {mask : List ℕ} {w y y0 x0 x1 : ℕ} → Edges mask w y y0 x0 x1 → x1 ≤ w
-right-in {mask} {w} {y} e = omega (arith, e.right, last-most (columnHas mask y w) w)
+right-in {mask} {w} {y} e = omega (arith, e.right, last-most (column_has mask y w) w)
 
 -- of no rows
 pub no_edges : (mask : List ℕ) (w : ℕ) → Edges mask w 0 0 w 0
-unfolding columnHas someBelow firstBelow
+unfolding column_has some_below first_below
 no_edges mask w =
     record { top = refl; left = sym (first-none _ w (λ k l. refl)); right = sym (last_none _ w (λ k l. refl)) }
 
 -- where a number of which p holds is below n + 1, the first one below n + 1 is that below n
-first-kept : (p : ℕ → Bool) (n : ℕ) → someBelow (n + 1) p ≡ true → firstBelow n p ≡ firstBelow (n + 1) p
-unfolding someBelow firstBelow
+first-kept : (p : ℕ → Bool) (n : ℕ) → some_below (n + 1) p ≡ true → first_below n p ≡ first_below (n + 1) p
+unfolding some_below first_below
 first-kept p n e = rw (add-one n) (go (rw (add-one n) at e))
   where
-    go : someBelow (suc n) p ≡ true → firstBelow n p ≡ firstBelow (suc n) p
+    go : some_below (suc n) p ≡ true → first_below n p ≡ first_below (suc n) p
     go d =
-        ⊎_elim {C = firstBelow n p ≡ firstBelow (suc n) p}
-        (λ (a : someBelow n p ≡ true). rw a)
-        (λ (a : someBelow n p ≡ false). (let b : p n ≡ true = rw a at d in rw (a, b) (first-none p n (none_found p n a))))
-        (either (someBelow n p))
+        ⊎_elim {C = first_below n p ≡ first_below (suc n) p}
+        (λ (a : some_below n p ≡ true). rw a)
+        (λ (a : some_below n p ≡ false). (let b : p n ≡ true = rw a at d in rw (a, b) (first-none p n (none_found p n a))))
+        (either (some_below n p))
 
 module _ (mask : List ℕ) (w y : ℕ) where
-  column-or : (x : ℕ) → columnHas mask (y + 1) w x ≡ columnHas mask y w x || onAt mask w y x
-  unfolding columnHas someBelow
+  column-or : (x : ℕ) → column_has mask (y + 1) w x ≡ column_has mask y w x || on_at mask w y x
+  unfolding column_has some_below
   column-or x = rw (add-one y)
 
   -- a row more: the first column is searched in front of the one found so far, the last from that on
-  left-more : firstBelow (firstBelow w (columnHas mask y w)) (onAt mask w y) ≡ firstBelow w (columnHas mask (y + 1) w)
-  left-more = sym (first-same _ _ w (λ x l. column-or x) ∙ first-or (columnHas mask y w) (onAt mask w y) w)
+  left-more : first_below (first_below w (column_has mask y w)) (on_at mask w y) ≡ first_below w (column_has mask (y + 1) w)
+  left-more = sym (first-same _ _ w (λ x l. column-or x) ∙ first-or (column_has mask y w) (on_at mask w y) w)
 
-  right-more : (x : ℕ) → x ≡ lastBelow w (columnHas mask y w)
-      → x + lastBelow (w - x) (λ (i : ℕ). onAt mask w y (x + i)) ≡ lastBelow w (columnHas mask (y + 1) w)
-  right-more x e = rw e (sym (last-same _ _ w (λ i l. column-or i) ∙ last_or (columnHas mask y w) (onAt mask w y) w))
+  right-more : (x : ℕ) → x ≡ last_below w (column_has mask y w)
+      → x + last_below (w - x) (λ (i : ℕ). on_at mask w y (x + i)) ≡ last_below w (column_has mask (y + 1) w)
+  right-more x e = rw e (sym (last-same _ _ w (λ i l. column-or i) ∙ last_or (column_has mask y w) (on_at mask w y) w))
 
   -- where no column is found, no row is
-  top-none : w ≡ firstBelow w (columnHas mask y w) → y ≡ firstBelow y (rowHas mask w)
-  unfolding rowHas columnHas
+  top-none : w ≡ first_below w (column_has mask y w) → y ≡ first_below y (row_has mask w)
+  unfolding row_has column_has
   top-none e =
-      sym (first-none (rowHas mask w) y (λ j m. none_is (onAt mask w j) w
-      (λ x l. none_found (λ (k : ℕ). onAt mask w k x) y (none_before (columnHas mask y w) w x (omega arith)) j m)))
+      sym (first-none (row_has mask w) y (λ j m. none_is (on_at mask w j) w
+      (λ x l. none_found (λ (k : ℕ). on_at mask w k x) y (none_before (column_has mask y w) w x (omega arith)) j m)))
 
   -- where a column is found, a row is
-  top-some : (firstBelow w (columnHas mask y w) ≡ w → ⊥) → someBelow y (rowHas mask w) ≡ true
-  unfolding rowHas columnHas
+  top-some : (first_below w (column_has mask y w) ≡ w → ⊥) → some_below y (row_has mask w) ≡ true
+  unfolding row_has column_has
   top-some some =
-      ⊎_elim {C = someBelow y (rowHas mask w) ≡ true}
-      (λ (a : someBelow w (columnHas mask y w) ≡ true).
-      let f = first_below (columnHas mask y w) w a in
+      ⊎_elim {C = some_below y (row_has mask w) ≡ true}
+      (λ (a : some_below w (column_has mask y w) ≡ true).
+      let f = first_below_lem (column_has mask y w) w a in
       let z = some-found _ y f.holds in
-      some_is (rowHas mask w) y z.0 z.1 (some_is (onAt mask w z.0) w _ f.inside z.2))
-      (λ (a : someBelow w (columnHas mask y w) ≡ false). absurd (some (first-none _ w (none_found _ w a))))
-      (either (someBelow w (columnHas mask y w)))
+      some_is (row_has mask w) y z.0 z.1 (some_is (on_at mask w z.0) w _ f.inside z.2))
+      (λ (a : some_below w (column_has mask y w) ≡ false). absurd (some (first-none _ w (none_found _ w a))))
+      (either (some_below w (column_has mask y w)))
 
 -- a row more; its number is the first row's as long as no column is found
-module _ {mask : List ℕ} {w y y0 x0 x1 a b : ℕ} (e : Edges mask w y y0 x0 x1) (p : a ≡ firstBelow x0 (onAt mask w y))
-    (q : b ≡ lastBelow (w - x1) (λ (i : ℕ). onAt mask w y (x1 + i))) where
-  left_is : a ≡ firstBelow w (columnHas mask (y + 1) w)
-  left_is = p ∙ ap (λ (k : ℕ). firstBelow k (onAt mask w y)) e.left ∙ left-more mask w y
+module _ {mask : List ℕ} {w y y0 x0 x1 a b : ℕ} (e : Edges mask w y y0 x0 x1) (p : a ≡ first_below x0 (on_at mask w y))
+    (q : b ≡ last_below (w - x1) (λ (i : ℕ). on_at mask w y (x1 + i))) where
+  left_is : a ≡ first_below w (column_has mask (y + 1) w)
+  left_is = p ∙ ap (λ (k : ℕ). first_below k (on_at mask w y)) e.left ∙ left-more mask w y
 
-  edges_more : {t : ℕ} → t ≡ firstBelow (y + 1) (rowHas mask w) → Edges mask w (y + 1) t a (x1 + b)
+  edges_more : {t : ℕ} → t ≡ first_below (y + 1) (row_has mask w) → Edges mask w (y + 1) t a (x1 + b)
   edges_more top = record { top = top; left = left_is; right = ap (λ (k : ℕ). x1 + k) q ∙ right-more mask w y x1 e.right }
 
   pub edges_none : a ≡ w → Edges mask w (y + 1) (y + 1) a (x1 + b)
   edges_none n = edges_more (top-none mask w (y + 1) (sym n ∙ left_is))
 
   pub edges_some : (a ≡ w → ⊥) → Edges mask w (y + 1) y0 a (x1 + b)
-  edges_some n = edges_more (e.top ∙ first-kept (rowHas mask w) y (top-some mask w (y + 1) (λ z. n (left_is ∙ z))))
+  edges_some n = edges_more (e.top ∙ first-kept (row_has mask w) y (top-some mask w (y + 1) (λ z. n (left_is ∙ z))))

@@ -1,13 +1,13 @@
 // The box of a mask: the first and the last row, and the first and the last column, that have an on-pixel, with a margin.
 ghost use Rattle.std.specs.Prelude.{◌≡◌, ◌+◌, ◌*◌, ◌-◌, ◌≤◌, length};
-ghost use Rattle.plane.specs.steps.Sides.{longestSide, Sides};
-ghost use Rattle.plane.specs.Search.{firstBelow, lastBelow};
-ghost use Rattle.plane.specs.Mask.{isOn};
-ghost use Rattle.plane.specs.Box.{rowHas, columnHas, boxOf};
+ghost use Rattle.plane.specs.steps.Sides.{longest_side, Sides};
+ghost use Rattle.plane.specs.Search.{first_below, last_below};
+ghost use Rattle.plane.specs.Mask.{is_on};
+ghost use Rattle.plane.specs.Box.{row_has, column_has, box_of};
 
 // The first on-pixel of a line; its length where there is none.
 fn first(line: &[u8]) -> usize
-    ensures { result ≡ firstBelow (length line.now) (isOn line.now) }
+    ensures { result ≡ first_below (length line.now) (is_on line.now) }
 {
     if !plane::any(line) {
         return line.len();
@@ -24,7 +24,7 @@ fn first(line: &[u8]) -> usize
 
 // The last on-pixel of a line; 0 where there is none.
 fn last(line: &[u8]) -> usize
-    ensures { result ≡ lastBelow (length line.now) (isOn line.now) }
+    ensures { result ≡ last_below (length line.now) (is_on line.now) }
 {
     if !plane::any(line) {
         return 0;
@@ -42,7 +42,7 @@ fn last(line: &[u8]) -> usize
 // The last row with an on-pixel; 0 where there is none.
 fn last_row(mask: &[u8], h: usize, w: usize) -> usize
     requires { length mask.now ≡ h * w }
-    ensures { result ≡ lastBelow h (rowHas mask.now w) }
+    ensures { result ≡ last_below h (row_has mask.now w) }
 {
     let mut y = h;
     while 0 < y {
@@ -66,8 +66,8 @@ fn start(at: usize, margin: usize) -> usize
 
 // The end of the last place and the margin behind it, within the picture.
 fn end(at: usize, margin: usize, side: usize) -> usize
-    requires at_le_longest_side { at ≤ longestSide }
-    requires margin_le_longest_side { margin ≤ longestSide }
+    requires at_le_longest_side { at ≤ longest_side }
+    requires margin_le_longest_side { margin ≤ longest_side }
     ensures { result ≡ side - (side - (at + 1 + margin)) }
 {
     let past = at + 1 + margin;
@@ -82,8 +82,8 @@ fn end(at: usize, margin: usize, side: usize) -> usize
 pub fn box_of(mask: &[u8], h: usize, w: usize, margin: usize) -> plane::Box
     requires sides { Sides h w }
     requires mask_len { length mask.now ≡ h * w }
-    requires margin_le_longest_side { margin ≤ longestSide }
-    ensures { result ≡ boxOf mask.now h w margin }
+    requires margin_le_longest_side { margin ≤ longest_side }
+    ensures { result ≡ box_of mask.now h w margin }
 {
     let mut y0 = 0usize;
     let mut x0 = w;

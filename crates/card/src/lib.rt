@@ -1,7 +1,7 @@
 // The card that a picture was taken on: whether its colour is given, and the colour that a text of six hexadecimal digits names.
 ghost use Rattle.std.specs.Prelude.{◌≡◌, true, ◌<◌};
-ghost use Rattle.card.specs.Hex.{hexOf, allHex};
-ghost use Rattle.card.specs.Card.{isColourText, textChannel, cardOf, isReadable};
+ghost use Rattle.card.specs.Hex.{hex_of, all_hex};
+ghost use Rattle.card.specs.Card.{is_colour_text, text_channel, card_of, is_readable};
 
 use colour::Rgb;
 
@@ -16,7 +16,7 @@ pub enum Card {
 
 // The value of a hexadecimal digit, in either case; 16 for any other byte.
 fn hex(b: u8) -> u8
-    ensures { result ≡ hexOf b }
+    ensures { result ≡ hex_of b }
 {
     if (b'0' <= b) & (b <= b'9') {
         return b - b'0';
@@ -32,7 +32,7 @@ fn hex(b: u8) -> u8
 
 // Whether every byte of a text is a hexadecimal digit.
 fn all_hex(text: &[u8]) -> bool
-    ensures { result ≡ allHex text.now }
+    ensures { result ≡ all_hex text.now }
 {
     let mut i = 0usize;
     while i < text.len() {
@@ -46,8 +46,8 @@ fn all_hex(text: &[u8]) -> bool
 
 // Channel c of a text of six digits: two of them are a byte, and the channel is that byte over 255.
 fn channel(text: &[u8], c: usize) -> f64
-    requires { (isColourText text.now ≡ true) × (c < 3) }
-    ensures { result ≡ textChannel text.now c }
+    requires { (is_colour_text text.now ≡ true) × (c < 3) }
+    ensures { result ≡ text_channel text.now c }
 {
     let high = hex(text[2 * c]);
     let low = hex(text[2 * c + 1]);
@@ -56,7 +56,7 @@ fn channel(text: &[u8], c: usize) -> f64
 
 // The card of a text: its colour where it is six hexadecimal digits.
 pub fn card_of(text: &[u8]) -> Card
-    ensures { result ≡ cardOf text.now }
+    ensures { result ≡ card_of text.now }
 {
     if text.len() != 6 {
         return Card::Unreadable;
@@ -72,7 +72,7 @@ pub fn card_of(text: &[u8]) -> Card
 
 // Whether a card can be cut on: no colour was given, or one that can be read.
 pub fn readable(card: Card) -> bool
-    ensures { result ≡ isReadable card }
+    ensures { result ≡ is_readable card }
 {
     match card {
         Card::Border => true,

@@ -1,4 +1,4 @@
--- The order of the numbers that are at least 0, by a natural number: `unitsOf f x` is x in units of the format's smallest value.
+-- The order of the numbers that are at least 0, by a natural number: `units_of f x` is x in units of the format's smallest value.
 -- `<`, `<=` and `==` of such floats are `<`, `≤` and `≡` of their units, so the laws of an order, and of a rank, are those of ℕ.
 -- Equal units are the same number, up to a zero's sign.
 -- Assumes nothing.
@@ -19,10 +19,10 @@ use Rattle.colour.proofs.Compare.{lt-or-eq}
 use Rattle.colour.proofs.Zero.{plus0, plus0-cases, lt-left, lt-right, eq-left, eq-right}
 
 -- x in units of the format's smallest value
-abbrev pub unitsOf : Format → Float → ℕ
-unitsOf f nan = 0
-unitsOf f (inf s) = 0
-unitsOf f (fin s m e) = m * up e * (2 ^ low f / down e)
+abbrev pub units_of : Format → Float → ℕ
+units_of f nan = 0
+units_of f (inf s) = 0
+units_of f (fin s m e) = m * up e * (2 ^ low f / down e)
 
 -- a number, and at least 0
 abbrev pub nonneg : Float → Bool
@@ -80,26 +80,26 @@ regroup : (m u dd de qe : ℕ) → m * u * dd * (de * qe) ≡ m * u * qe * (dd *
 regroup m u dd de qe = simp (mul_assoc, mul_comm, mul_left_comm)
 
 module _ (f : Format) (s t : Bool) (m : ℕ) (e : ℤ) (n : ℕ) (d : ℤ) (A : T (fits f (fin s m e))) (B : T (fits f (fin t n d))) where
-  scaled-left : m * up e * down d * 2 ^ low f ≡ unitsOf f (fin s m e) * (down d * down e)
+  scaled-left : m * up e * down d * 2 ^ low f ≡ units_of f (fin s m e) * (down d * down e)
   scaled-left =
       ap (λ (k : ℕ). m * up e * down d * k) (sym (down-divides e (low f) (down_le f s m e A)))
       ∙ regroup m (up e) (down d) (down e) (2 ^ low f / down e)
 
-  scaled-right : n * up d * down e * 2 ^ low f ≡ unitsOf f (fin t n d) * (down d * down e)
+  scaled-right : n * up d * down e * 2 ^ low f ≡ units_of f (fin t n d) * (down d * down e)
   scaled-right =
       ap (λ (k : ℕ). n * up d * down e * k) (sym (down-divides d (low f) (down_le f t n d B)))
       ∙ regroup n (up d) (down e) (down d) (2 ^ low f / down d)
-      ∙ ap (λ (k : ℕ). unitsOf f (fin t n d) * k) (mul_comm (down e) (down d))
+      ∙ ap (λ (k : ℕ). units_of f (fin t n d) * k) (mul_comm (down e) (down d))
 
-  lt-cross : ltb (m * up e * down d) (n * up d * down e) ≡ ltb (unitsOf f (fin s m e)) (unitsOf f (fin t n d))
+  lt-cross : ltb (m * up e * down d) (n * up d * down e) ≡ ltb (units_of f (fin s m e)) (units_of f (fin t n d))
   lt-cross = ltb-scale _ _ _ _ (2 ^ low f) (down d * down e) (pow_pos (low f)) (mul-pos (down_pos d) (down_pos e)) scaled-left scaled-right
 
-  eq-cross : eqb (m * up e * down d) (n * up d * down e) ≡ eqb (unitsOf f (fin s m e)) (unitsOf f (fin t n d))
+  eq-cross : eqb (m * up e * down d) (n * up d * down e) ≡ eqb (units_of f (fin s m e)) (units_of f (fin t n d))
   eq-cross = eqb-scale _ _ _ _ (2 ^ low f) (down d * down e) (pow_pos (low f)) (mul-pos (down_pos d) (down_pos e)) scaled-left scaled-right
 
 -- ---- with the sign cleared
-pub plus0-units : (f : Format) (x : Float) → unitsOf f (plus0 x) ≡ unitsOf f x
-plus0-units f = plus0-cases (λ a b. unitsOf f b ≡ unitsOf f a) (λ a. refl) (λ s e. refl)
+pub plus0-units : (f : Format) (x : Float) → units_of f (plus0 x) ≡ units_of f x
+plus0-units f = plus0-cases (λ a b. units_of f b ≡ units_of f a) (λ a. refl) (λ s e. refl)
 
 pub plus0-fits : (f : Format) (x : Float) → T (fits f x) → T (fits f (plus0 x))
 unfolding fits
@@ -120,7 +120,7 @@ plus0-plain (fin s zero e) t = plain zero e
 plus0-plain (fin false (suc m) e) t = plain (suc m) e
 plus0-plain (fin true (suc m) e) t = absurd (subst T (suc-not m) t)
 
-plain-lt : (f : Format) (x y : Float) → Plain x → Plain y → T (fits f x) → T (fits f y) → lt x y ≡ ltb (unitsOf f x) (unitsOf f y)
+plain-lt : (f : Format) (x y : Float) → Plain x → Plain y → T (fits f x) → T (fits f y) → lt x y ≡ ltb (units_of f x) (units_of f y)
 unfolding lt
 plain-lt f _ _ (plain m e) (plain n d) a b = lt-cross f false false m e n d a b
 
@@ -128,23 +128,23 @@ and-true : (b : Bool) → b && true ≡ b
 and-true true = refl
 and-true false = refl
 
-plain-eq : (f : Format) (x y : Float) → Plain x → Plain y → T (fits f x) → T (fits f y) → eq x y ≡ eqb (unitsOf f x) (unitsOf f y)
+plain-eq : (f : Format) (x y : Float) → Plain x → Plain y → T (fits f x) → T (fits f y) → eq x y ≡ eqb (units_of f x) (units_of f y)
 unfolding eq
 plain-eq f _ _ (plain m e) (plain n d) a b = and-true (eqb (m * up e * down d) (n * up d * down e)) ∙ eq-cross f false false m e n d a b
 
 module _ (f : Format) (x y : Float) (a : T (fits f x)) (b : T (fits f y)) (p : T (nonneg x)) (q : T (nonneg y)) where
-  pub lt-units : lt x y ≡ ltb (unitsOf f x) (unitsOf f y)
+  pub lt-units : lt x y ≡ ltb (units_of f x) (units_of f y)
   lt-units =
       lt-left x y ∙ lt-right (plus0 x) y
       ∙ plain-lt f (plus0 x) (plus0 y) (plus0-plain x p) (plus0-plain y q) (plus0-fits f x a) (plus0-fits f y b)
       ∙ rw (plus0-units f x, plus0-units f y)
 
-  pub eq-units : eq x y ≡ eqb (unitsOf f x) (unitsOf f y)
+  pub eq-units : eq x y ≡ eqb (units_of f x) (units_of f y)
   eq-units =
       eq-left x y ∙ eq-right (plus0 x) y
       ∙ plain-eq f (plus0 x) (plus0 y) (plus0-plain x p) (plus0-plain y q) (plus0-fits f x a) (plus0-fits f y b)
       ∙ rw (plus0-units f x, plus0-units f y)
 
-  pub le-units : le x y ≡ leb (unitsOf f x) (unitsOf f y)
+  pub le-units : le x y ≡ leb (units_of f x) (units_of f y)
   unfolding le
-  le-units = rw (lt-units, eq-units) (lt-or-eq (unitsOf f x) (unitsOf f y))
+  le-units = rw (lt-units, eq-units) (lt-or-eq (units_of f x) (units_of f y))

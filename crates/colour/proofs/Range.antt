@@ -14,8 +14,8 @@ use lib.Ieee.Bits.{is_true}
 use lib.Ieee.Fits.{and_l, and_r}
 use lib.Ieee.Scale.{finite}
 use Rattle.colour.specs.declared.Rgb.{Rgb}
-use Rattle.colour.specs.Number.{zero64, absOf, larger}
-use Rattle.colour.specs.Colour.{differenceOf, closeTo, colourOk, coloursOk, rgbOk}
+use Rattle.colour.specs.Number.{zero64, abs_of, larger}
+use Rattle.colour.specs.Colour.{difference_of, close_to, colour_ok, colours_ok, rgb_ok}
 use Rattle.colour.specs.steps.Range.{InRange}
 use Rattle.colour.proofs.Compare.{larger-le, larger-number}
 
@@ -24,8 +24,8 @@ pub is : (b : Bool) → b ≡ true → T b
 is b e = subst T (sym e) tt
 
 -- ---- a number in range is finite
-pub ok-finite : (x : Float) → T (colourOk x) → T (finite x)
-unfolding colourOk le lt eq
+pub ok-finite : (x : Float) → T (colour_ok x) → T (finite x)
+unfolding colour_ok le lt eq
 ok-finite nan t = t
 ok-finite (inf true) t = t
 ok-finite (inf false) t = t
@@ -71,8 +71,8 @@ neg-number nan t = t
 neg-number (inf s) t = tt
 neg-number (fin s m e) t = tt
 
-pub abs-number : (x : Float) → T (not (is_nan x)) → T (not (is_nan (absOf x)))
-unfolding absOf number
+pub abs-number : (x : Float) → T (not (is_nan x)) → T (not (is_nan (abs_of x)))
+unfolding abs_of number
 abs-number x t = cond-number (lt x zero64) (neg x) x (neg-number x t) t
 
 -- ---- closeness of two colours in range is three tests
@@ -83,52 +83,52 @@ three true false c e = absurd (subst T (sym e) tt)
 three false b c e = absurd (subst T (sym e) tt)
 
 -- the channels of a colour in range
-pub channels : (p : Rgb) → rgbOk p ≡ true → (T (colourOk p.r)) × (T (colourOk p.g)) × (T (colourOk p.b))
-unfolding rgbOk
-channels p e = three (colourOk p.r) (colourOk p.g) (colourOk p.b) e
+pub channels : (p : Rgb) → rgb_ok p ≡ true → (T (colour_ok p.r)) × (T (colour_ok p.g)) × (T (colour_ok p.b))
+unfolding rgb_ok
+channels p e = three (colour_ok p.r) (colour_ok p.g) (colour_ok p.b) e
 
 -- a colour whose channels are in range
-pub rgb-from : (p : Rgb) → colourOk p.r ≡ true → colourOk p.g ≡ true → colourOk p.b ≡ true → rgbOk p ≡ true
-unfolding rgbOk
+pub rgb-from : (p : Rgb) → colour_ok p.r ≡ true → colour_ok p.g ≡ true → colour_ok p.b ≡ true → rgb_ok p ≡ true
+unfolding rgb_ok
 rgb-from p r g b = rw (r, g, b)
 
-channel : (x y : Float) → T (colourOk x) → T (colourOk y) → T (not (is_nan (absOf (sub binary64 x y))))
+channel : (x y : Float) → T (colour_ok x) → T (colour_ok y) → T (not (is_nan (abs_of (sub binary64 x y))))
 channel x y t u = abs-number (sub binary64 x y) (sub_number binary64 x y (ok-finite x t) (ok-finite y u))
 
 pub close-tests : (p q : Rgb) → InRange p q → (tolerance : Float)
-    → closeTo tolerance q p
-    ≡ le (absOf (sub binary64 p.r q.r)) tolerance
-    && le (absOf (sub binary64 p.g q.g)) tolerance
-    && le (absOf (sub binary64 p.b q.b)) tolerance
-unfolding closeTo differenceOf
+    → close_to tolerance q p
+    ≡ le (abs_of (sub binary64 p.r q.r)) tolerance
+    && le (abs_of (sub binary64 p.g q.g)) tolerance
+    && le (abs_of (sub binary64 p.b q.b)) tolerance
+unfolding close_to difference_of
 close-tests p q h t =
     let i = channels p h.first in
     let j = channels q h.second in
     let a = channel p.r q.r i.0 j.0 in
     let b = channel p.g q.g i.1 j.1 in
-    let dr = absOf (sub binary64 p.r q.r) in
-    let dg = absOf (sub binary64 p.g q.g) in
-    let db = absOf (sub binary64 p.b q.b) in
+    let dr = abs_of (sub binary64 p.r q.r) in
+    let dg = abs_of (sub binary64 p.g q.g) in
+    let db = abs_of (sub binary64 p.b q.b) in
     larger-le (larger dr dg) db (larger-number dr dg a b) (channel p.b q.b i.2 j.2) t
     ∙ ap (λ (k : Bool). k && le db t) (larger-le dr dg a b t)
 
 -- ---- lists
 
 -- every entry of a list in range is in range
-pub colours-at : (l : List Float) → coloursOk l ≡ true → (i : ℕ) → i < length l → colourOk (get_or l i nan) ≡ true
-unfolding coloursOk
+pub colours-at : (l : List Float) → colours_ok l ≡ true → (i : ℕ) → i < length l → colour_ok (get_or l i nan) ≡ true
+unfolding colours_ok
 colours-at [] e i h = absurd (not-suc-le-zero h)
-colours-at (x ∷ l) e zero h = is_true _ (and_l (colourOk x) (coloursOk l) (is _ e))
-colours-at (x ∷ l) e (suc i) h = colours-at l (is_true _ (and_r (colourOk x) (coloursOk l) (is _ e))) i (le_of_suc-le-suc h)
+colours-at (x ∷ l) e zero h = is_true _ (and_l (colour_ok x) (colours_ok l) (is _ e))
+colours-at (x ∷ l) e (suc i) h = colours-at l (is_true _ (and_r (colour_ok x) (colours_ok l) (is _ e))) i (le_of_suc-le-suc h)
 
 -- a list whose entries are all in range is in range
-pub colours-all : (l : List Float) → ((i : ℕ) → i < length l → colourOk (get_or l i nan) ≡ true) → coloursOk l ≡ true
-unfolding coloursOk
+pub colours-all : (l : List Float) → ((i : ℕ) → i < length l → colour_ok (get_or l i nan) ≡ true) → colours_ok l ≡ true
+unfolding colours_ok
 colours-all [] h = refl
 colours-all (x ∷ l) h = rw (h 0 (omega arith), colours-all l (λ i k. h (suc i) (omega arith)))
 
 -- two lists in a row are in range exactly when each is
-pub colours-append : (l m : List Float) → coloursOk (l ++ m) ≡ coloursOk l && coloursOk m
-unfolding coloursOk
+pub colours-append : (l m : List Float) → colours_ok (l ++ m) ≡ colours_ok l && colours_ok m
+unfolding colours_ok
 colours-append [] m = refl
-colours-append (x ∷ l) m = rw (colours-append l m) (sym (and_assoc (colourOk x) (coloursOk l) (coloursOk m)))
+colours-append (x ∷ l) m = rw (colours-append l m) (sym (and_assoc (colour_ok x) (colours_ok l) (colours_ok m)))

@@ -7,15 +7,15 @@ use lib.Ieee.{Float, binary64, neg, lt, eq, fits}
 use lib.Ieee.Fits.{and_l, and_r}
 use lib.Ieee.Scale.{finite}
 use Rattle.colour.specs.declared.Rgb.{Rgb}
-use Rattle.colour.specs.Number.{zero64, two64, absOf, larger, half_of}
-use Rattle.colour.specs.Colour.{differenceOf, closeTo, sameColour}
-use Rattle.colour.specs.Join.{millionth, joinsOf}
+use Rattle.colour.specs.Number.{zero64, two64, abs_of, larger, half_of}
+use Rattle.colour.specs.Colour.{difference_of, close_to, same_colour}
+use Rattle.colour.specs.Join.{millionth, joins_of}
 use Rattle.colour.proofs.Range.{is}
 use Rattle.colour.proofs.Zero.{plus0, plus0-cases, Alike, neg-of-alike, sub_alike, add-alike, mul-alike, div-alike, lt-alike}
 use Rattle.colour.proofs.Zero.{le-alike, eq-alike}
 
-pub abs-alike : (x y : Float) → Alike x y → Alike (absOf x) (absOf y)
-unfolding absOf
+pub abs-alike : (x y : Float) → Alike x y → Alike (abs_of x) (abs_of y)
+unfolding abs_of
 abs-alike x y p = rw (lt-alike x y zero64 zero64 p refl) (go (lt y zero64))
   where
     go : (b : Bool) → Alike (cond b (neg x) x) (cond b (neg y) y)
@@ -55,8 +55,8 @@ pub record Held (p : Rgb) : Type 0 where
   pub b : T (fits binary64 p.b)
 
 -- colours that the test `==` on each channel calls equal are the same colour
-pub same-colour : (p q : Rgb) → Held p → Held q → sameColour p q ≡ true → SameColour p q
-unfolding sameColour
+pub same-colour : (p q : Rgb) → Held p → Held q → same_colour p q ≡ true → SameColour p q
+unfolding same_colour
 same-colour p q h k e =
     let t = is _ e in
     let rg = and_l (eq p.r q.r && eq p.g q.g) (eq p.b q.b) t in
@@ -70,8 +70,8 @@ pub same_refl : (p : Rgb) → SameColour p p
 same_refl p = record { r = refl; g = refl; b = refl }
 
 module _ (p p' q q' : Rgb) (h : SameColour p p') (k : SameColour q q') where
-  pub difference-alike : Alike (differenceOf p q) (differenceOf p' q')
-  unfolding differenceOf
+  pub difference-alike : Alike (difference_of p q) (difference_of p' q')
+  unfolding difference_of
   difference-alike =
       larger-alike _ _ _ _
       (larger-alike _ _ _ _
@@ -80,17 +80,17 @@ module _ (p p' q q' : Rgb) (h : SameColour p p') (k : SameColour q q') where
       (abs-alike _ _ (sub_alike binary64 p.b p'.b q.b q'.b h.b k.b))
 
   -- closeness to the reference q
-  pub close-same : (t t' : Float) → Alike t t' → closeTo t q p ≡ closeTo t' q' p'
-  unfolding closeTo
-  close-same t t' z = le-alike (differenceOf p q) (differenceOf p' q') t t' difference-alike z
+  pub close-same : (t t' : Float) → Alike t t' → close_to t q p ≡ close_to t' q' p'
+  unfolding close_to
+  close-same t t' z = le-alike (difference_of p q) (difference_of p' q') t t' difference-alike z
 
 -- the join test of two pairs of differences that are equal as numbers
-pub joins-alike : (full full' mixed mixed' : Float) → Alike full full' → Alike mixed mixed' → joinsOf full mixed ≡ joinsOf full' mixed'
-unfolding joinsOf
+pub joins-alike : (full full' mixed mixed' : Float) → Alike full full' → Alike mixed mixed' → joins_of full mixed ≡ joins_of full' mixed'
+unfolding joins_of
 joins-alike full full' mixed mixed' p q =
     rw (lt-alike millionth millionth full full' refl p, lt-alike _ _ full full' (mul-alike binary64 two64 mixed mixed' q) p) refl
 
 -- the join test of pixel p with body colour b and reference q
 pub joins-same : (p p' q q' b b' : Rgb) → SameColour p p' → SameColour q q' → SameColour b b'
-    → joinsOf (differenceOf b q) (differenceOf p q) ≡ joinsOf (differenceOf b' q') (differenceOf p' q')
+    → joins_of (difference_of b q) (difference_of p q) ≡ joins_of (difference_of b' q') (difference_of p' q')
 joins-same p p' q q' b b' h k j = joins-alike _ _ _ _ (difference-alike b b' q q' j k) (difference-alike p p' q q' h k)

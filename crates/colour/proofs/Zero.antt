@@ -16,7 +16,7 @@ use lib.Ieee.Bits.{of_bits-to_bits}
 use lib.Ieee.Fits.{up_pos, down_pos, and_l, and_r}
 use lib.Ieee.Nearest.{div_same}
 use lib.Ieee.Scale.{round_same, finite}
-use Rattle.colour.specs.Number.{zero64, plusZero}
+use Rattle.colour.specs.Number.{zero64, plus_zero}
 
 -- x with a zero's sign cleared
 unfoldable pub plus0 : Float → Float
@@ -306,18 +306,18 @@ finite-test (fin s m e) =
     ap (λ (z : Float). eq z zero64) (self-zero binary64 s (m * up e * down e) (down e * down e) (mul-pos (down_pos e) (down_pos e)))
 
 -- ---- a zero as +0
--- numbers that are alike have one plusZero
+-- numbers that are alike have one plus_zero
 zero-eq : (s : Bool) (e : ℤ) → eq (fin s zero e) zero64 ≡ true
 unfolding eq
 zero-eq true e = simp zero-mul
 zero-eq false e = simp zero-mul
 
-plus-zero-left : (x : Float) → plusZero x ≡ plusZero (plus0 x)
-unfolding plusZero
-plus-zero-left = plus0-cases (λ a b. plusZero a ≡ plusZero b) (λ a. refl) (λ s e. rw (zero-eq s e, zero-eq false e) refl)
+plus-zero-left : (x : Float) → plus_zero x ≡ plus_zero (plus0 x)
+unfolding plus_zero
+plus-zero-left = plus0-cases (λ a b. plus_zero a ≡ plus_zero b) (λ a. refl) (λ s e. rw (zero-eq s e, zero-eq false e) refl)
 
-pub plus-zero-same : (x y : Float) → Alike x y → plusZero x ≡ plusZero y
-plus-zero-same x y p = plus-zero-left x ∙ ap plusZero p ∙ sym (plus-zero-left y)
+pub plus-zero-same : (x y : Float) → Alike x y → plus_zero x ≡ plus_zero y
+plus-zero-same x y p = plus-zero-left x ∙ ap plus_zero p ∙ sym (plus-zero-left y)
 
 no_zero : (x : Float) → eq x zero64 ≡ false → x ≡ plus0 x
 unfolding plus0
@@ -326,9 +326,9 @@ no_zero (inf s) e = refl
 no_zero (fin s zero d) e = absurd (subst T (sym (zero-eq s d) ∙ e) tt)
 no_zero (fin s (suc m) d) e = refl
 
--- of a value of the format, plusZero is the number with a zero's sign cleared
-pub plus-zero-is : (x : Float) → T (fits binary64 x) → plusZero x ≡ plus0 x
-unfolding plusZero plus0 fits
+-- of a value of the format, plus_zero is the number with a zero's sign cleared
+pub plus-zero-is : (x : Float) → T (fits binary64 x) → plus_zero x ≡ plus0 x
+unfolding plus_zero plus0 fits
 plus-zero-is x t = go (eq x zero64) refl
   where
     go : (b : Bool) → eq x zero64 ≡ b → cond b zero64 x ≡ plus0 x

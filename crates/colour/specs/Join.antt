@@ -11,5 +11,5 @@ millionth = of_bits binary64 0x3eb0_c6f7_a0b5_ed8d
 
 -- joins (R27): full, the difference of body colour and reference, is above 1e-6, and twice mixed, the difference of the
 -- pixel itself, is less than full
-unfoldable pub joinsOf : Float → Float → Bool
-joinsOf full mixed = lt millionth full && lt (mul binary64 two64 mixed) full
+unfoldable pub joins_of : Float → Float → Bool
+joins_of full mixed = lt millionth full && lt (mul binary64 two64 mixed) full

@@ -15,16 +15,16 @@ abbrev pub two64 : Float
 two64 = fin false 1 (pos 1)
 
 -- the absolute value: a number below 0 is negated (R18)
-unfoldable pub absOf : Float → Float
-absOf x = cond (lt x zero64) (neg x) x
+unfoldable pub abs_of : Float → Float
+abs_of x = cond (lt x zero64) (neg x) x
 
 -- the larger of two numbers (R18)
 unfoldable pub larger : Float → Float → Float
 larger x y = cond (lt x y) y x
 
 -- a zero as +0, and any other number as it is (R17)
-unfoldable pub plusZero : Float → Float
-plusZero x = cond (eq x zero64) zero64 x
+unfoldable pub plus_zero : Float → Float
+plus_zero x = cond (eq x zero64) zero64 x
 
 -- half of the sum of two numbers (R17)
 unfoldable pub half_of : Float → Float → Float

@@ -5,5 +5,5 @@ use Rattle.std.specs.Float.{binary64}
 use Rattle.std.specs.Float.Ieee.{div, of_int}
 
 -- v / 255, rounded once (R34)
-unfoldable pub weightOf : ℕ → Float
-weightOf v = div binary64 (of_int binary64 (pos v)) (of_int binary64 (pos 255))
+unfoldable pub weight_of : ℕ → Float
+weight_of v = div binary64 (of_int binary64 (pos v)) (of_int binary64 (pos 255))

@@ -1,10 +1,10 @@
 // One colour or two: difference, closeness, the join test, the range of a colour, the settings' record.
 ghost use Rattle.std.specs.Prelude.{◌≡◌};
 ghost use Rattle.std.specs.Float.Ieee.Scale.{finite};
-ghost use Rattle.colour.specs.Number.{absOf, larger, plusZero, half_of};
-ghost use Rattle.colour.specs.Colour.{differenceOf, closeTo, colourOk, coloursOk};
-ghost use Rattle.colour.specs.Settings.{atLeastZero, passesOf, onOf};
-ghost use Rattle.colour.specs.Join.{joinsOf};
+ghost use Rattle.colour.specs.Number.{abs_of, larger, plus_zero, half_of};
+ghost use Rattle.colour.specs.Colour.{difference_of, close_to, colour_ok, colours_ok};
+ghost use Rattle.colour.specs.Settings.{at_least_zero, passes_of, on_of};
+ghost use Rattle.colour.specs.Join.{joins_of};
 ghost use Rattle.colour.specs.steps.Range.{InRange, Checked};
 
 pub mod weights;
@@ -31,7 +31,7 @@ pub struct Settings {
 
 // The absolute value, by a comparison and a negation.
 pub fn abs(x: f64) -> f64
-    ensures { result ≡ absOf x }
+    ensures { result ≡ abs_of x }
 {
     if x < 0.0 { -x } else { x }
 }
@@ -45,7 +45,7 @@ fn larger_of(x: f64, y: f64) -> f64
 
 // The largest of the three absolute channel differences.
 pub fn difference(a: Rgb, b: Rgb) -> f64
-    ensures { result ≡ differenceOf a b }
+    ensures { result ≡ difference_of a b }
 {
     let dr = abs(a.r - b.r);
     let dg = abs(a.g - b.g);
@@ -56,7 +56,7 @@ pub fn difference(a: Rgb, b: Rgb) -> f64
 // Whether a pixel is close to the reference, by three tests and no branch.
 pub fn close(tolerance: f64, reference: Rgb, p: Rgb) -> bool
     requires { InRange p reference }
-    ensures { result ≡ closeTo tolerance reference p }
+    ensures { result ≡ close_to tolerance reference p }
 {
     let dr = abs(p.r - reference.r);
     let dg = abs(p.g - reference.g);
@@ -66,14 +66,14 @@ pub fn close(tolerance: f64, reference: Rgb, p: Rgb) -> bool
 
 // Whether an edge pixel joins the background: full > 1e-6 and 2 × mixed < full.
 pub fn joins(full: f64, mixed: f64) -> bool
-    ensures { result ≡ joinsOf full mixed }
+    ensures { result ≡ joins_of full mixed }
 {
     (1e-6 < full) & (2.0 * mixed < full)
 }
 
 // Whether a number is from 0 to 1; -0 is, a NaN is not.
 pub fn colour_ok(x: f64) -> bool
-    ensures { result ≡ colourOk x }
+    ensures { result ≡ colour_ok x }
 {
     (0.0 <= x) & (x <= 1.0)
 }
@@ -83,7 +83,7 @@ const BLOCK: usize = 256;
 
 // Whether every number of a block is from 0 to 1; all of them are read.
 fn block_ok(colours: &[f64]) -> bool
-    ensures { result ≡ coloursOk colours.now }
+    ensures { result ≡ colours_ok colours.now }
 {
     let mut ok = true;
     for i in 0..colours.len() {
@@ -115,7 +115,7 @@ pub fn is_finite(x: f64) -> bool
 
 // A zero as +0, and any other number as it is.
 pub fn plus_zero(x: f64) -> f64
-    ensures { result ≡ plusZero x }
+    ensures { result ≡ plus_zero x }
 {
     if x == 0.0 { 0.0 } else { x }
 }
@@ -129,7 +129,7 @@ pub fn half(lo: f64, hi: f64) -> f64
 
 // A whole number as a count: a negative number counts as 0.
 pub fn count_of(p: i64) -> u64
-    ensures { result ≡ atLeastZero p }
+    ensures { result ≡ at_least_zero p }
 {
     if p < 0 {
         return 0;
@@ -139,14 +139,14 @@ pub fn count_of(p: i64) -> u64
 
 // The passes of growth that the settings ask for.
 pub fn passes(s: Settings) -> u64
-    ensures { result ≡ passesOf s }
+    ensures { result ≡ passes_of s }
 {
     count_of(s.key_bg_fringe)
 }
 
 // Whether a byte of alpha reaches the threshold.
 pub fn reaches(alpha: u8, threshold: i64) -> bool
-    ensures { result ≡ onOf alpha threshold }
+    ensures { result ≡ on_of alpha threshold }
 {
     threshold <= alpha as i64
 }

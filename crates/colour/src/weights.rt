@@ -1,6 +1,6 @@
 // Weights: a table of 256 f64 whose entry v is v / 255, rounded once.
 ghost use Rattle.std.specs.Prelude.{◌≡◌};
-ghost use Rattle.colour.specs.Weight.{weightOf};
+ghost use Rattle.colour.specs.Weight.{weight_of};
 
 const WEIGHTS: [f64; 256] = [
     0.0,
@@ -263,7 +263,7 @@ const WEIGHTS: [f64; 256] = [
 
 // The weight of byte v: v / 255, rounded once.
 pub fn weight(v: u8) -> f64
-    ensures { result ≡ weightOf v }
+    ensures { result ≡ weight_of v }
 {
     WEIGHTS[v as usize]
 }

@@ -2,15 +2,15 @@
 -- Assumes nothing.
 use Rattle.std.proofs.Common.{◌≡◌, ℕ, ◌+◌, ◌-◌, ◌*◌, ◌<◌, ◌≤◌, Bool, List, length, get_or, take, drop, sym, ap, ◌∙◌, ⊎_elim, arith}
 use borrow.Rule.Slice.PartMut.{put_mid}
-use Rattle.plane.specs.Plane.{on, bit, onAt}
-use Rattle.plane.specs.Mask.{isOn, mask_of}
-use Rattle.plane.specs.steps.Sides.{longestSide}
+use Rattle.plane.specs.Plane.{on, bit, on_at}
+use Rattle.plane.specs.Mask.{is_on, mask_of}
+use Rattle.plane.specs.steps.Sides.{longest_side}
 use Rattle.plane.proofs.Search.{which}
 use Rattle.plane.proofs.Plane.{row_in, table-length, table_at, plane-is}
 use Rattle.plane.proofs.Mask.{mask_at}
-use Rattle.counts.specs.Running.{windowCount}
-use Rattle.counts.specs.steps.Parts.{fullByte, rest_of, changed, movedLine}
-use Rattle.column_counts.specs.steps.Columns.{onDown, columnByte, dilatedColumns, balancedLow, balancedRest}
+use Rattle.counts.specs.Running.{window_count}
+use Rattle.counts.specs.steps.Parts.{full_byte, rest_of, changed, moved_line}
+use Rattle.column_counts.specs.steps.Columns.{on_down, column_byte, dilated_columns, balanced_low, balanced_rest}
 use Rattle.column_counts.specs.steps.Columns.{Balanceable, Counted, Swept}
 use Rattle.counts.proofs.Counting.{window-some}
 use Rattle.counts.proofs.Parts.{split-new, split-later, split-enter, split-leave, split-test}
@@ -24,22 +24,22 @@ strip-in j c n h w a b = omega (arith, row_in j h w a)
 
 -- the part of row j from column c on has the pixels of these columns
 pub strip-pixel : (plane : List ℕ) (n j w c x : ℕ) → x < n
-    → let s = j * w + c in isOn (take (s + n - s) (drop s plane)) x ≡ onDown plane w (c + x) j
-unfolding isOn onAt
+    → let s = j * w + c in is_on (take (s + n - s) (drop s plane)) x ≡ on_down plane w (c + x) j
+unfolding is_on on_at
 strip-pixel plane n j w c x l =
     let s = j * w + c in
     let q : s + x ≡ j * w + (c + x) = omega arith in
     ap on (part_at plane s (s + n - s) x (omega arith) ∙ ap (λ (y : ℕ). get_or plane y 0) q)
 
 -- a line of bytes that is moved: its length, and each byte
-pub moved_length : (line : List ℕ) (change : ℕ) (low : List ℕ) → length (movedLine line change low) ≡ length low
-unfolding movedLine
-moved_length line change low = table-length (λ (x : ℕ). changed (get_or low x 0) (isOn line x) change) 0 (length low)
+pub moved_length : (line : List ℕ) (change : ℕ) (low : List ℕ) → length (moved_line line change low) ≡ length low
+unfolding moved_line
+moved_length line change low = table-length (λ (x : ℕ). changed (get_or low x 0) (is_on line x) change) 0 (length low)
 
 pub moved_at : (line : List ℕ) (change : ℕ) (low : List ℕ) (x : ℕ) → x < length low
-    → get_or (movedLine line change low) x 0 ≡ changed (get_or low x 0) (isOn line x) change
-unfolding movedLine
-moved_at line change low x l = table_at (λ (y : ℕ). changed (get_or low y 0) (isOn line y) change) (length low) x 0 l
+    → get_or (moved_line line change low) x 0 ≡ changed (get_or low x 0) (is_on line x) change
+unfolding moved_line
+moved_at line change low x l = table_at (λ (y : ℕ). changed (get_or low y 0) (is_on line y) change) (length low) x 0 l
 
 -- ---- the counts of a strip
 
@@ -52,14 +52,14 @@ module _ {value : ℕ → ℕ} {t : ℕ} {low rest : List ℕ} (n : Counted valu
   counted-as e = record { size = n.size; each = λ x g. rw (sym (e x g)) (n.each x g) }
 
   -- where no count is above the longest side, they can be balanced
-  pub counted-small : ((x : ℕ) → x < length low → value x ≤ longestSide) → Balanceable low rest
+  pub counted-small : ((x : ℕ) → x < length low → value x ≤ longest_side) → Balanceable low rest
   counted-small f = record { size = n.size; small = λ x l. omega (arith, (n.each x l).sum, f x l) }
 
   -- balanced
-  pub counted-new : {low' rest' : List ℕ} → low' ≡ balancedLow low rest → rest' ≡ balancedRest low rest → Counted value 0 low' rest'
-  unfolding balancedLow balancedRest
+  pub counted-new : {low' rest' : List ℕ} → low' ≡ balanced_low low rest → rest' ≡ balanced_rest low rest → Counted value 0 low' rest'
+  unfolding balanced_low balanced_rest
   counted-new {low'} {rest'} p q =
-      let f : ℕ → ℕ = λ (x : ℕ). fullByte (get_or low x 0 + get_or rest x 0) in
+      let f : ℕ → ℕ = λ (x : ℕ). full_byte (get_or low x 0 + get_or rest x 0) in
       let g : ℕ → ℕ = λ (x : ℕ). rest_of (get_or low x 0 + get_or rest x 0) in
       let a : length low' ≡ length low = ap length p ∙ table-length f 0 (length low) in
       record {
@@ -98,17 +98,17 @@ module _ {value : ℕ → ℕ} {t : ℕ} {low rest : List ℕ} (n : Counted valu
 
 -- the bytes tell whether the window of row y has an on-pixel
 pub column-tested : (plane : List ℕ) (h w k c y : ℕ) {low rest : List ℕ} {t : ℕ}
-    → Counted (λ (x : ℕ). windowCount h k y (onDown plane w (c + x))) t low rest → t ≤ 127 → (x : ℕ) → x < length low
-    → get_or (mask_of (length low) (isOn low)) x 0 ≡ columnByte plane h w k y (c + x)
-unfolding isOn
+    → Counted (λ (x : ℕ). window_count h k y (on_down plane w (c + x))) t low rest → t ≤ 127 → (x : ℕ) → x < length low
+    → get_or (mask_of (length low) (is_on low)) x 0 ≡ column_byte plane h w k y (c + x)
+unfolding is_on
 column-tested plane h w k c y {low} n l x g =
-    mask_at (length low) (isOn low) x g ∙ ap bit (split-test (n.each x g) l ∙ window-some k y (onDown plane w (c + x)) h)
+    mask_at (length low) (is_on low) x g ∙ ap bit (split-test (n.each x g) l ∙ window-some k y (on_down plane w (c + x)) h)
 
 -- ---- the plane that is written, row by row of a strip
 
 -- row y of the strip is put into its place
 module _ {plane new : List ℕ} {h w k c n y : ℕ} (t : Swept plane h w k c (c + n) y new) (inside : c + n ≤ w) (low : y < h) (row : List ℕ)
-    (long : length row ≡ n) (each : (x : ℕ) → x < n → get_or row x 0 ≡ columnByte plane h w k y (c + x)) where
+    (long : length row ≡ n) (each : (x : ℕ) → x < n → get_or row x 0 ≡ column_byte plane h w k y (c + x)) where
   abbrev s : ℕ
   s = y * w + c
 
@@ -139,12 +139,12 @@ module _ {plane new : List ℕ} {h w k c n y : ℕ} (t : Swept plane h w k c (c 
         done = λ j x l g. done j x (omega arith) g;
       }
     where
-      done : (j x : ℕ) → j ≤ y → x < c + n → get_or put (j * w + x) 0 ≡ columnByte plane h w k j x
+      done : (j x : ℕ) → j ≤ y → x < c + n → get_or put (j * w + x) 0 ≡ column_byte plane h w k j x
       done j x l g =
-          ⊎_elim {C = get_or put (j * w + x) 0 ≡ columnByte plane h w k j x}
+          ⊎_elim {C = get_or put (j * w + x) 0 ≡ column_byte plane h w k j x}
           (λ (a : x < c). elsewhere j x (omega arith) (λ e. a) ∙ t.before j x (omega arith) a)
           (λ (a : c ≤ x).
-          ⊎_elim {C = get_or put (j * w + x) 0 ≡ columnByte plane h w k j x}
+          ⊎_elim {C = get_or put (j * w + x) 0 ≡ column_byte plane h w k j x}
           (λ (b : j < y). elsewhere j x (omega arith) (λ e. absurd (omega arith)) ∙ t.done j x b g)
           (λ (b : y ≤ j).
           let e : j ≡ y = omega arith in
@@ -168,7 +168,7 @@ strip-swept {e = e} t q = record {
   done = λ y x l m. absurd (omega arith);
 }
 
-pub all-swept : {plane new : List ℕ} {h w k c : ℕ} → Swept plane h w k c c 0 new → w ≤ c → new ≡ dilatedColumns plane h w k
-unfolding dilatedColumns
+pub all-swept : {plane new : List ℕ} {h w k c : ℕ} → Swept plane h w k c c 0 new → w ≤ c → new ≡ dilated_columns plane h w k
+unfolding dilated_columns
 all-swept {plane} {new} {h} {w} {k} t l =
-    plane-is h w (λ (y x : ℕ). columnByte plane h w k y x) new 0 t.size (λ y x a b. t.before y x a (omega arith))
+    plane-is h w (λ (y x : ℕ). column_byte plane h w k y x) new 0 t.size (λ y x a b. t.before y x a (omega arith))

@@ -3,9 +3,9 @@
 //
 // The count of each column stands in two parts, a byte that follows every row and the rest, and is their sum.
 ghost use Rattle.std.specs.Prelude.{◌≡◌, ◌+◌, length};
-ghost use Rattle.plane.specs.Mask.{isOn, mask_of};
-ghost use Rattle.counts.specs.steps.Parts.{movedLine};
-ghost use Rattle.column_counts.specs.steps.Columns.{dilatedColumns, balancedLow, balancedRest, Balanceable, Balanced};
+ghost use Rattle.plane.specs.Mask.{is_on, mask_of};
+ghost use Rattle.counts.specs.steps.Parts.{moved_line};
+ghost use Rattle.column_counts.specs.steps.Columns.{dilated_columns, balanced_low, balanced_rest, Balanceable, Balanced};
 ghost use Rattle.column_counts.specs.steps.Columns.{MovableRow, MovedRow, Fillable, Filled, Following, Followed};
 ghost use Rattle.column_counts.specs.steps.Columns.{Lines, Slidable, Slid};
 ghost use Rattle.column_counts.specs.steps.Columns.{Start, Swept, ColumnPlanes};
@@ -16,8 +16,8 @@ const STRIP: usize = 4096;
 // The parts balanced: of each count as much as is at most 128 in the byte, and the rest of it.
 fn balance(low: &mut [u8], rest: &mut [u32])
     requires { Balanceable low.old rest.old }
-    ensures low_after { low.new ≡ balancedLow low.old rest.old }
-    ensures rest_after { rest.new ≡ balancedRest low.old rest.old }
+    ensures low_after { low.new ≡ balanced_low low.old rest.old }
+    ensures rest_after { rest.new ≡ balanced_rest low.old rest.old }
 {
     let mut x = 0usize;
     while x < low.len() {
@@ -90,7 +90,7 @@ fn enter_rows(
 // A pixel is 1 where the count of its column is above 0.
 fn test_line(low: &[u8], out: &mut [u8])
     requires { length out.old ≡ length low.now }
-    ensures { out.new ≡ mask_of (length low.now) (isOn low.now) }
+    ensures { out.new ≡ mask_of (length low.now) (is_on low.now) }
 {
     let mut x = 0usize;
     while x < out.len() {
@@ -122,8 +122,8 @@ fn end_row(
 // The same for a line that enters and one that leaves, in one pass.
 fn step_line(enter: &[u8], leave: &[u8], low: &mut [u8], out: &mut [u8])
     requires { Lines enter.now leave.now low.old out.old }
-    ensures low_after { low.new ≡ movedLine leave.now 255 (movedLine enter.now 1 low.old) }
-    ensures out_after { out.new ≡ mask_of (length low.old) (isOn low.new) }
+    ensures low_after { low.new ≡ moved_line leave.now 255 (moved_line enter.now 1 low.old) }
+    ensures out_after { out.new ≡ mask_of (length low.old) (is_on low.new) }
 {
     let mut x = 0usize;
     while x < enter.len() {
@@ -216,7 +216,7 @@ fn sweep(
 // The pass down the columns, strip by strip: each pixel is 1 where its column has an on-pixel at most k away.
 pub fn dilate_columns(plane: &[u8], h: usize, w: usize, k: usize, out: &mut [u8])
     requires { ColumnPlanes plane.now h w k out.old }
-    ensures { out.new ≡ dilatedColumns plane.now h w k }
+    ensures { out.new ≡ dilated_columns plane.now h w k }
 {
     let mut c = 0usize;
     while c < w {

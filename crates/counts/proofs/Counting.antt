@@ -2,12 +2,12 @@
 -- Assumes nothing.
 use Rattle.std.proofs.Common.{◌≡◌, ℕ, zero, suc, ◌+◌, ◌-◌, ◌<◌, ◌≤◌, Bool, true, false, cond, ◌&&◌, ◌||◌, ltb, leb, ◌⊎◌, sym, refl, ◌∙◌, ⊎_elim, add-zero, add-one, arith, le-ltb, lt-ltb, le-leb}
 use borrow.Author.Tests.{lt-leb}
-use Rattle.plane.specs.Search.{someBelow, countBelow}
+use Rattle.plane.specs.Search.{some_below, count_below}
 use Rattle.plane.specs.Plane.{bit, apart}
 use Rattle.plane.proofs.Search.{which, either, and_no, or_no, or_right, count_most}
-use Rattle.plane.specs.Box.{lesserOf}
-use Rattle.counts.specs.Running.{windowCount, enters, leaves, running}
-use Rattle.counts.specs.steps.Window.{inWindow}
+use Rattle.plane.specs.Box.{lesser_of}
+use Rattle.counts.specs.Running.{window_count, enters, leaves, running}
+use Rattle.counts.specs.steps.Window.{in_window}
 
 -- a test joined with one that holds
 pub and_yes : (t : Bool) → t && true ≡ t
@@ -15,40 +15,40 @@ and_yes true = refl
 and_yes false = refl
 
 -- one number more
-pub count-more : (n : ℕ) (p : ℕ → Bool) → countBelow (n + 1) p ≡ countBelow n p + bit (p n)
-count-more n p = rw (add-one n) (unfold countBelow bit in refl)
+pub count-more : (n : ℕ) (p : ℕ → Bool) → count_below (n + 1) p ≡ count_below n p + bit (p n)
+count-more n p = rw (add-one n) (unfold count_below bit in refl)
 
 -- more numbers
-pub count_less : (p : ℕ → Bool) (m n : ℕ) → m ≤ n → countBelow m p ≤ countBelow n p
-unfolding countBelow
+pub count_less : (p : ℕ → Bool) (m n : ℕ) → m ≤ n → count_below m p ≤ count_below n p
+unfolding count_below
 count_less p m zero l = let z : m ≡ 0 = omega arith in rw z (omega arith)
 count_less p m (suc n) l =
-    ⊎_elim {C = countBelow m p ≤ countBelow n p + cond (p n) 1 0}
+    ⊎_elim {C = count_below m p ≤ count_below n p + cond (p n) 1 0}
     (λ (a : n < m). (let z : m ≡ suc n = omega arith in rw z (omega arith)))
     (λ (a : m ≤ n). omega (arith, count_less p m n a))
     (which n m)
 
 -- a count is not 0 exactly where the search finds
-count-some : (n : ℕ) (p : ℕ → Bool) → ltb 0 (countBelow n p) ≡ someBelow n p
-unfolding countBelow someBelow
+count-some : (n : ℕ) (p : ℕ → Bool) → ltb 0 (count_below n p) ≡ some_below n p
+unfolding count_below some_below
 count-some zero p = refl
 count-some (suc n) p =
-    ⊎_elim {C = ltb 0 (countBelow n p + cond (p n) 1 0) ≡ someBelow n p || p n}
+    ⊎_elim {C = ltb 0 (count_below n p + cond (p n) 1 0) ≡ some_below n p || p n}
     (λ (a : p n ≡ true).
-    rw a (lt-ltb 0 (countBelow n p + 1) (omega arith) ∙ sym (or_right (someBelow n p) true refl)))
+    rw a (lt-ltb 0 (count_below n p + 1) (omega arith) ∙ sym (or_right (some_below n p) true refl)))
     (λ (a : p n ≡ false). rw (a, or_no, add-zero) (count-some n p))
     (either (p n))
 
 -- where q is p from a to b, and false before a and from b on, it counts what p counts from a to b
 count-between : (p q : ℕ → Bool) (a n b : ℕ) → a ≤ b → b ≤ n → ((i : ℕ) → i < a → q i ≡ false) → ((i : ℕ) → a ≤ i → i < b → q i ≡ p i)
-    → ((i : ℕ) → b ≤ i → i < n → q i ≡ false) → countBelow n q + countBelow a p ≡ countBelow b p
-unfolding countBelow
+    → ((i : ℕ) → b ≤ i → i < n → q i ≡ false) → count_below n q + count_below a p ≡ count_below b p
+unfolding count_below
 count-between p q a zero b l m f g h = let z : a ≡ b = omega arith in rw z (omega arith)
 count-between p q a (suc n) b l m f g h =
-    ⊎_elim {C = countBelow n q + cond (q n) 1 0 + countBelow a p ≡ countBelow b p}
+    ⊎_elim {C = count_below n q + cond (q n) 1 0 + count_below a p ≡ count_below b p}
     (λ (c : n < b).
     let z : b ≡ suc n = omega arith in
-    ⊎_elim {C = countBelow n q + cond (q n) 1 0 + countBelow a p ≡ countBelow b p}
+    ⊎_elim {C = count_below n q + cond (q n) 1 0 + count_below a p ≡ count_below b p}
     (λ (d : n < a).
     let none = count-between p q n n n (omega arith) (omega arith) (λ i e. f i (omega arith))
     (λ i e k. absurd (omega arith)) (λ i e k. absurd (omega arith)) in
@@ -66,8 +66,8 @@ count-between p q a (suc n) b l m f g h =
 module _ (k x : ℕ) (p : ℕ → Bool) where
   -- the window of x holds what is counted up to its end without what is counted up to its start
   pub window-count : (n b : ℕ) → x < b → b ≤ n → b ≤ x + k + 1 → (b < n → b ≡ x + k + 1)
-      → windowCount n k x p + countBelow (x - k) p ≡ countBelow b p
-  unfolding windowCount apart
+      → window_count n k x p + count_below (x - k) p ≡ count_below b p
+  unfolding window_count apart
   window-count n b l m c e =
       let far : (i : ℕ) → k < apart x i → (p i && leb (apart x i) k) ≡ false =
       λ i g. rw (lt-leb (apart x i) k g) (and_no (p i)) in
@@ -76,14 +76,14 @@ module _ (k x : ℕ) (p : ℕ → Bool) where
       (λ i g h. (let z = e (omega arith) in far i (omega arith)))
 
   -- the count tells whether the window has one
-  pub window-some : (n : ℕ) → ltb 0 (windowCount n k x p) ≡ inWindow n k x p
-  unfolding windowCount inWindow
+  pub window-some : (n : ℕ) → ltb 0 (window_count n k x p) ≡ in_window n k x p
+  unfolding window_count in_window
   window-some n = count-some n (λ (i : ℕ). p i && leb (apart x i) k)
 
 -- ---- the running value
 
-pub lesser-is : (a b : ℕ) → lesserOf a b ≡ a - (a - b)
-unfolding lesserOf
+pub lesser-is : (a b : ℕ) → lesser_of a b ≡ a - (a - b)
+unfolding lesser_of
 lesser-is a b =
     ⊎_elim {C = cond (leb a b) a b ≡ a - (a - b)}
     (λ (l : b < a). rw (lt-leb a b l) (omega arith))
@@ -105,10 +105,10 @@ module _ (n k : ℕ) (p : ℕ → Bool) where
   end x = x + k - (x + k - n)
 
   -- what enters, and what leaves, is what is counted further
-  enters-more : (x : ℕ) → countBelow (end (x + 1)) p ≡ countBelow (end x) p + bit (enters n k p x)
+  enters-more : (x : ℕ) → count_below (end (x + 1)) p ≡ count_below (end x) p + bit (enters n k p x)
   unfolding enters bit
   enters-more x =
-      ⊎_elim {C = countBelow (end (x + 1)) p ≡ countBelow (end x) p + cond (ltb (x + k) n && p (x + k)) 1 0}
+      ⊎_elim {C = count_below (end (x + 1)) p ≡ count_below (end x) p + cond (ltb (x + k) n && p (x + k)) 1 0}
       (λ (l : x + k < n).
       let a : end (x + 1) ≡ x + k + 1 = omega arith in
       let b : end x ≡ x + k = omega arith in
@@ -119,10 +119,10 @@ module _ (n k : ℕ) (p : ℕ → Bool) where
       rw (a, b, le-ltb (x + k) n l) (omega arith))
       (which (x + k) n)
 
-  leaves-more : (x : ℕ) → countBelow (start (x + 1)) p ≡ countBelow (start x) p + bit (leaves k p x)
+  leaves-more : (x : ℕ) → count_below (start (x + 1)) p ≡ count_below (start x) p + bit (leaves k p x)
   unfolding leaves bit
   leaves-more x =
-      ⊎_elim {C = countBelow (start (x + 1)) p ≡ countBelow (start x) p + cond (ltb k x && p (x - (k + 1))) 1 0}
+      ⊎_elim {C = count_below (start (x + 1)) p ≡ count_below (start x) p + cond (ltb k x && p (x - (k + 1))) 1 0}
       (λ (l : k < x).
       let a : start (x + 1) ≡ x - (k + 1) + 1 = omega arith in
       rw (a, lt-ltb k x l) (count-more (x - (k + 1)) p))
@@ -133,16 +133,16 @@ module _ (n k : ℕ) (p : ℕ → Bool) where
       (which k x)
 
   -- what leaves is counted up to the window's end
-  leaves_in : (x : ℕ) → x < n → countBelow (start x) p + bit (leaves k p x) ≤ countBelow (end x) p + bit (enters n k p x)
+  leaves_in : (x : ℕ) → x < n → count_below (start x) p + bit (leaves k p x) ≤ count_below (end x) p + bit (enters n k p x)
   leaves_in x l = omega (arith, leaves-more x, enters-more x, count_less p (start (x + 1)) (end (x + 1)) (omega arith))
 
   -- the value with what is counted before the window's start is what is counted up to its end
-  pub running-sum : (x : ℕ) → x ≤ n → running n k p x + countBelow (start x) p ≡ countBelow (end x) p
+  pub running-sum : (x : ℕ) → x ≤ n → running n k p x + count_below (start x) p ≡ count_below (end x) p
   unfolding running
   running-sum zero l =
       let a : start 0 ≡ 0 = omega arith in
-      let b : end 0 ≡ lesserOf k n = omega (arith, lesser-is k n) in
-      rw (a, b) (unfold countBelow in omega arith)
+      let b : end 0 ≡ lesser_of k n = omega (arith, lesser-is k n) in
+      rw (a, b) (unfold count_below in omega arith)
   running-sum (suc x) l =
       let a = leaves-more x in
       let b = enters-more x in
@@ -157,7 +157,7 @@ module _ (n k : ℕ) (p : ℕ → Bool) where
   running-most x l = omega (arith, running-sum x l, count_most p (end x))
 
   -- at each pixel the running value is the count of its window
-  pub running-count : (x : ℕ) → x < n → running n k p (suc x) ≡ windowCount n k x p
+  pub running-count : (x : ℕ) → x < n → running n k p (suc x) ≡ window_count n k x p
   running-count x l =
       let q : start (suc x) ≡ x - k = omega arith in
       let s = running-sum (suc x) l in

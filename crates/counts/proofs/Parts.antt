@@ -3,7 +3,7 @@
 use Rattle.std.proofs.Common.{◌≡◌, ℕ, ◌+◌, ◌-◌, ◌%◌, ◌<◌, ◌≤◌, Bool, true, false, not, eqb, ltb, refl, ⊎_elim, arith, lt-ltb, ne_eqb}
 use Rattle.plane.proofs.Search.{which}
 use Rattle.plane.specs.Plane.{on, bit}
-use Rattle.counts.specs.steps.Parts.{fullByte, rest_of, changed, step_of, Split}
+use Rattle.counts.specs.steps.Parts.{full_byte, rest_of, changed, step_of, Split}
 
 -- a byte that nothing moves stays as it is, and one that is moved is below 256
 pub not-moved : (v change : ℕ) → v < 256 → changed v false change ≡ v
@@ -15,7 +15,7 @@ unfolding changed
 moved-small v t change = omega arith
 
 -- a count that is balanced
-pub split-new : (n : ℕ) → Split n 0 (fullByte n) (rest_of n)
+pub split-new : (n : ℕ) → Split n 0 (full_byte n) (rest_of n)
 split-new n = record { sum = omega arith; most = omega arith; least = λ l. omega arith }
 
 module _ {value t low rest : ℕ} (s : Split value t low rest) where

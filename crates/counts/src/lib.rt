@@ -1,7 +1,7 @@
 // Running counts: what the passes of the dilation by squares share. A window of k pixels each way slides along a line, and the number of
 // on-pixels in it is a running value: at each step the pixel that enters is added and the one that leaves is taken off.
 ghost use Rattle.std.specs.Prelude.{◌≡◌, ◌+◌, ◌-◌, length};
-ghost use Rattle.counts.specs.steps.Parts.{movedLine};
+ghost use Rattle.counts.specs.steps.Parts.{moved_line};
 
 // The lesser of two numbers,
 pub fn lesser(a: usize, b: usize) -> usize
@@ -24,7 +24,7 @@ pub fn behind(x: usize, k: usize) -> usize
 // less, where it leaves.
 pub fn move_line(line: &[u8], change: u8, counts: &mut [u8])
     requires { length line.now ≡ length counts.old }
-    ensures { counts.new ≡ movedLine line.now change counts.old }
+    ensures { counts.new ≡ moved_line line.now change counts.old }
 {
     let mut x = 0usize;
     while x < line.len() {

@@ -11,22 +11,22 @@ use lib.Dec.{eqb, leb}
 use lib.ListN.{length, get_or, take, drop}
 use lib.Seq.{sets-eq, length-take-le}
 use borrow.Author.Tests.{ne_eqb, le-leb, eqb-true, eqb-false}
-use Rattle.plane.specs.Refusal.{refusalOf}
-use Rattle.plane.specs.Search.{someBelow}
+use Rattle.plane.specs.Refusal.{refusal_of}
+use Rattle.plane.specs.Search.{some_below}
 use Rattle.plane.proofs.Search.{either}
 use Rattle.plane.proofs.Refusal.{declined-first, passed_first}
 use Rattle.text.specs.steps.Writing.{Wrote}
 use Rattle.pam_header.specs.declared.Header.{Header}
-use Rattle.pam_header.specs.Header.{headerOf}
+use Rattle.pam_header.specs.Header.{header_of}
 use Rattle.pam.specs.Settings.{threshold}
-use Rattle.pam.specs.Picture.{mostPixels, pixelsOf, coloursOf, alphaOf, fileTests}
-use Rattle.pam.specs.steps.File.{fileRefusal}
+use Rattle.pam.specs.Picture.{most_pixels, pixels_of, colours_of, alpha_of, file_tests}
+use Rattle.pam.specs.steps.File.{file_refusal}
 use Rattle.pam_header.proofs.Sizes.{Small, header-small}
 use Rattle.pam.proofs.Files.{file-ok, sides-of}
-use Rattle.pbm.specs.Text.{refusalText}
+use Rattle.pbm.specs.Text.{refusal_text}
 use Rattle.pbm.proofs.Lengths.{mask-long, refusal-short}
-use Rattle.cutfile.specs.Cutcard.{alphaTest, refusalUnder, textUnder, cutWith, cutText, cardText, mostText, CardCalled}
-use Rattle.cutfile.specs.steps.Room.{alphaRefusal, pictureText}
+use Rattle.cutfile.specs.Cutcard.{alpha_test, refusal_under, text_under, cut_with, cut_text, card_text, most_text, CardCalled}
+use Rattle.cutfile.specs.steps.Room.{alpha_refusal, picture_text}
 use Rattle.cutfile.proofs.Pictures.{lines-short}
 
 -- the length of the first part of a list
@@ -42,38 +42,38 @@ small true false c d = omega arith
 small false b c d = omega arith
 
 module _ (header : Header) (input : List ℕ) where
-  pub card-declined : (n : ℕ) → n ≡ fileRefusal header input → (n ≡ 0 → ⊥) → refusalText n ≡ textUnder header input
-  unfolding textUnder refusalUnder fileRefusal
+  pub card-declined : (n : ℕ) → n ≡ file_refusal header input → (n ≡ 0 → ⊥) → refusal_text n ≡ text_under header input
+  unfolding text_under refusal_under file_refusal
   card-declined n e z =
-      let f = declined-first (fileTests header input) (alphaTest (alphaOf header input) ∷ []) (λ g. z (e ∙ g)) in
+      let f = declined-first (file_tests header input) (alpha_test (alpha_of header input) ∷ []) (λ g. z (e ∙ g)) in
       rw (f, ← e, ne_eqb n 0 z)
 
-  pub card-picture : fileRefusal header input ≡ 0
-      → pictureText (coloursOf header input) (alphaOf header input) header.height header.width ≡ textUnder header input
-  unfolding textUnder refusalUnder fileRefusal alphaRefusal pictureText
-  card-picture e = rw (passed_first (fileTests header input) (alphaTest (alphaOf header input) ∷ []) refl e)
+  pub card-picture : file_refusal header input ≡ 0
+      → picture_text (colours_of header input) (alpha_of header input) header.height header.width ≡ text_under header input
+  unfolding text_under refusal_under file_refusal alpha_refusal picture_text
+  card-picture e = rw (passed_first (file_tests header input) (alpha_test (alpha_of header input) ∷ []) refl e)
 
   -- a file that is declined for nothing has passed the tests of the file
-  accepted-file : refusalUnder header input ≡ 0 → fileRefusal header input ≡ 0
-  unfolding refusalUnder fileRefusal
+  accepted-file : refusal_under header input ≡ 0 → file_refusal header input ≡ 0
+  unfolding refusal_under file_refusal
   accepted-file e =
-      let n = fileRefusal header input in
+      let n = file_refusal header input in
       ⊎_elim {C = n ≡ 0}
       (λ (t : eqb n 0 ≡ true). eqb-true n 0 t)
       (λ (t : eqb n 0 ≡ false).
-      sym (declined-first (fileTests header input) (alphaTest (alphaOf header input) ∷ []) (eqb-false n 0 t)) ∙ e)
+      sym (declined-first (file_tests header input) (alpha_test (alpha_of header input) ∷ []) (eqb-false n 0 t)) ∙ e)
       (either (eqb n 0))
 
-  accepted-short : Small header → refusalUnder header input ≡ 0
-      → length (cutText (coloursOf header input) (alphaOf header input) header.height header.width) ≤ mostText
-  unfolding cutText
+  accepted-short : Small header → refusal_under header input ≡ 0
+      → length (cut_text (colours_of header input) (alpha_of header input) header.height header.width) ≤ most_text
+  unfolding cut_text
   accepted-short small e =
       let f = file-ok header input (accepted-file e) in
-      let few : header.height * header.width ≤ mostPixels = f.few in
+      let few : header.height * header.width ≤ most_pixels = f.few in
       let s = sides-of header small f.header_ok f.few in
-      let colours = coloursOf header input in
-      let alpha = alphaOf header input in
-      let c = cutWith colours alpha header.height header.width in
+      let colours = colours_of header input in
+      let alpha = alpha_of header input in
+      let c = cut_with colours alpha header.height header.width in
       omega (
         arith,
         few,
@@ -82,38 +82,38 @@ module _ (header : Header) (input : List ℕ) where
       )
 
   long : Bool
-  long = eqb (length input) (header.body + 4 * pixelsOf header)
+  long = eqb (length input) (header.body + 4 * pixels_of header)
 
-  number_small : refusalUnder header input < 10000
-  unfolding refusalUnder refusalOf long
+  number_small : refusal_under header input < 10000
+  unfolding refusal_under refusal_of long
   number_small =
-      small header.ok (leb (pixelsOf header) mostPixels) long
-      (someBelow (length (alphaOf header input)) (λ (i : ℕ). leb threshold (get_or (alphaOf header input) i 0)))
+      small header.ok (leb (pixels_of header) most_pixels) long
+      (some_below (length (alpha_of header input)) (λ (i : ℕ). leb threshold (get_or (alpha_of header input) i 0)))
 
-  pub file-small : fileRefusal header input < 10000
-  unfolding fileRefusal refusalOf long
-  file-small = small header.ok (leb (pixelsOf header) mostPixels) long true
+  pub file-small : file_refusal header input < 10000
+  unfolding file_refusal refusal_of long
+  file-small = small header.ok (leb (pixels_of header) most_pixels) long true
 
--- no text is longer than mostText
-pub text-short : (input : List ℕ) → length (cardText input) ≤ mostText
-unfolding textUnder
+-- no text is longer than most_text
+pub text-short : (input : List ℕ) → length (card_text input) ≤ most_text
+unfolding text_under
 text-short input =
-    let header = headerOf input in
-    let n = refusalUnder header input in
-    ⊎_elim {C = length (cardText input) ≤ mostText}
+    let header = header_of input in
+    let n = refusal_under header input in
+    ⊎_elim {C = length (card_text input) ≤ most_text}
     (λ (e : eqb n 0 ≡ true). rw e (accepted-short header input (header-small input) (eqb-true n 0 e)))
     (λ (e : eqb n 0 ≡ false). rw e (omega (arith, refusal-short n (number_small header input))))
     (either (eqb n 0))
 
 -- a buffer that is long enough, with the text written to its front
-pub whole : (input old new text : List ℕ) (r : ℕ) → mostText ≤ length old → text ≡ cardText input → Wrote text old new 0 r
+pub whole : (input old new text : List ℕ) (r : ℕ) → most_text ≤ length old → text ≡ card_text input → Wrote text old new 0 r
     → CardCalled input old r new
 whole input old new text r l e w =
-    let v : Wrote (cardText input) old new 0 r = rw e at w in
-    let t = cardText input in
+    let v : Wrote (card_text input) old new 0 r = rw e at w in
+    let t = card_text input in
     let k : 0 + length t ≡ length t = zero-add (length t) in
     let n : 0 + length t ≤ length old = omega (arith, text-short input) in
     record {
-      answer = rw (le-leb mostText (length old) l) (v.end_is ∙ k);
-      out-is = rw (le-leb mostText (length old) l) (v.bytes-are ∙ sets-eq t old 0 n ∙ ap (λ (j : ℕ). t ++ drop j old) k);
+      answer = rw (le-leb most_text (length old) l) (v.end_is ∙ k);
+      out-is = rw (le-leb most_text (length old) l) (v.bytes-are ∙ sets-eq t old 0 n ∙ ap (λ (j : ℕ). t ++ drop j old) k);
     }

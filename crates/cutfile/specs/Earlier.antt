@@ -2,12 +2,12 @@
 -- which was accepted then still prints the same bytes (R80). No contract cites it.
 -- Assumes nothing.
 use Rattle.std.specs.Prelude.{ℕ, List}
-use Rattle.pam_header.specs.EarlierHeader.{earlierOf}
-use Rattle.cutfile.specs.Cutcard.{refusalUnder, textUnder}
+use Rattle.pam_header.specs.EarlierHeader.{earlier_of}
+use Rattle.cutfile.specs.Cutcard.{refusal_under, text_under}
 
 -- the number of an input's refusal, and what was printed for it (R80)
-abbrev pub earlierRefusal : List ℕ → ℕ
-earlierRefusal input = refusalUnder (earlierOf input) input
+abbrev pub earlier_refusal : List ℕ → ℕ
+earlier_refusal input = refusal_under (earlier_of input) input
 
-abbrev pub earlierText : List ℕ → List ℕ
-earlierText input = textUnder (earlierOf input) input
+abbrev pub earlier_text : List ℕ → List ℕ
+earlier_text input = text_under (earlier_of input) input

@@ -1,12 +1,12 @@
 // The work of cutcard: from the bytes of a PAM file to the bytes of a plain PBM file or of a refusal.
 ghost use Rattle.std.specs.Prelude.{◌≡◌, true, ◌≤◌, ◌<◌, ◌*◌, length};
-ghost use Rattle.colour.specs.Colour.{coloursOk};
+ghost use Rattle.colour.specs.Colour.{colours_ok};
 ghost use Rattle.text.specs.steps.Writing.{Wrote};
-ghost use Rattle.pam_header.specs.Header.{mostHeader, headerOf};
-ghost use Rattle.pam.specs.Picture.{coloursFrom, alphaFrom, coloursOf, alphaOf};
-ghost use Rattle.pam.specs.steps.File.{fileRefusal};
-ghost use Rattle.cutfile.specs.Cutcard.{mostText, CardCalled};
-ghost use Rattle.cutfile.specs.steps.Room.{Room, pictureText, answerText, answerLength};
+ghost use Rattle.pam_header.specs.Header.{most_header, header_of};
+ghost use Rattle.pam.specs.Picture.{colours_from, alpha_from, colours_of, alpha_of};
+ghost use Rattle.pam.specs.steps.File.{file_refusal};
+ghost use Rattle.cutfile.specs.Cutcard.{most_text, CardCalled};
+ghost use Rattle.cutfile.specs.steps.Room.{Room, picture_text, answer_text, answer_length};
 
 use outline::Outcome;
 use pam::{MOST_INPUT, MOST_PIXELS};
@@ -23,8 +23,8 @@ pub const MOST_TEXT: usize = 4656;
 // The text of an answer of the cut: the mask with its crop box and keyed flag, or the refusal.
 fn write_answer(out: &mut [u8], mask: &[u8], h: usize, w: usize, answer: Outcome) -> usize
     requires w_nonzero { (0 < w) × (length mask.now ≡ h * w) }
-    requires answer_in_bounds { answerLength h w answer ≤ length out.old }
-    ensures { Wrote (answerText mask.now h w answer) out.old out.new 0 result }
+    requires answer_in_bounds { answer_length h w answer ≤ length out.old }
+    ensures { Wrote (answer_text mask.now h w answer) out.old out.new 0 result }
 {
     match answer {
         Outcome::Done(keyed, crop) => pbm::write_mask(out, mask, h, w, crop, keyed),
@@ -48,8 +48,8 @@ fn cut(
 ) -> usize
     requires room { Room h w (length colours.now) (length alpha.now) (length nearest.old) (length shallow.old)
         (length deep.old) (length marks.old) (length mask.old) (length weights.old) (length out.old) }
-    requires colours_value { coloursOk colours.now ≡ true }
-    ensures { Wrote (pictureText colours.now alpha.now h w)
+    requires colours_value { colours_ok colours.now ≡ true }
+    ensures { Wrote (picture_text colours.now alpha.now h w)
         out.old out.new 0 result }
 {
     let answer = keying::subject(
@@ -84,11 +84,11 @@ fn read_and_cut(
     weights: &mut [f64],
     out: &mut [u8],
 ) -> usize
-    requires body_le_most_header { body ≤ mostHeader }
+    requires body_le_most_header { body ≤ most_header }
     requires room { Room h w (length colours.old) (length alpha.old) (length nearest.old) (length shallow.old)
         (length deep.old) (length marks.old) (length mask.old) (length weights.old) (length out.old) }
     ensures { Wrote
-        (pictureText (coloursFrom input.now body (h * w)) (alphaFrom input.now body (h * w)) h w)
+        (picture_text (colours_from input.now body (h * w)) (alpha_from input.now body (h * w)) h w)
         out.old out.new 0 result }
 {
     let n = h * w;
@@ -101,9 +101,9 @@ fn read_and_cut(
 
 // The text of a file that is not declined for its header or its length.
 fn write_picture(header: Header, input: &[u8], out: &mut [u8]) -> usize
-    requires { (header ≡ headerOf input.now) × (fileRefusal header input.now ≡ 0) × (mostText ≤ length out.old) }
+    requires { (header ≡ header_of input.now) × (file_refusal header input.now ≡ 0) × (most_text ≤ length out.old) }
     ensures { Wrote
-        (pictureText (coloursOf header input.now) (alphaOf header input.now) header.height header.width)
+        (picture_text (colours_of header input.now) (alpha_of header input.now) header.height header.width)
         out.old out.new 0 result }
 {
     let h = header.height;

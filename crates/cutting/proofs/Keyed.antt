@@ -12,22 +12,22 @@ use borrow.Author.Tests.{not-true}
 use types.Run.{OneOf}
 use denote.Enum.Declared.{tag_of}
 use Rattle.plane.specs.Plane.{on, table}
-use Rattle.plane.specs.Mask.{isOn, mask_of, someOff}
-use Rattle.plane.specs.steps.Complement.{complementOf}
+use Rattle.plane.specs.Mask.{is_on, mask_of, some_off}
+use Rattle.plane.specs.steps.Complement.{complement_of}
 use Rattle.plane.proofs.Search.{not-both, none_found}
 use Rattle.plane.proofs.Plane.{table-length, table_at}
 use Rattle.plane.proofs.Mask.{mask-on, mask-same}
 use Rattle.plane.proofs.Refusal.{and-true}
 use Rattle.colour.specs.declared.Rgb.{Rgb}
 use Rattle.colour.specs.declared.Settings.{Settings}
-use Rattle.colour.specs.Settings.{onOf, passesOf}
-use Rattle.outline.specs.Ground.{groundOf, isFound, groundPlane}
-use Rattle.outline.specs.Cut.{alphaMask, isSought, isKeyed, grownGround, cutMask}
-use Rattle.outline.specs.Answer.{groundFor}
+use Rattle.colour.specs.Settings.{on_of, passes_of}
+use Rattle.outline.specs.Ground.{ground_of, is_found, ground_plane}
+use Rattle.outline.specs.Cut.{alpha_mask, is_sought, is_keyed, grown_ground, cut_mask}
+use Rattle.outline.specs.Answer.{ground_for}
 use Rattle.outline.specs.declared.Ground.{Ground}
 use Rattle.outline.specs.contracts.Ground as ground-type
 use Rattle.outline.specs.declared.Ground.TheVariants as ground
-use Rattle.cutting.specs.steps.Key.{keyedPlane}
+use Rattle.cutting.specs.steps.Key.{keyed_plane}
 
 -- ---- what the search of the ground answered
 
@@ -36,49 +36,49 @@ module _ (colours : List Float) (h w : ℕ) (reference : Rgb) (t : Float) where
   no-so true q e = ⊎_elim {C = true ≡ false} (λ z. absurd (omega arith)) (λ z. absurd (omega arith)) e
   no-so false q e = refl
 
-  pub not_found : (g : Ground) → g ≡ groundFor 0 colours h w reference t → OneOf (1 ∷ 2 ∷ []) (tag_of ground-type.the_type g)
-      → isFound colours h w reference t ≡ false
-  unfolding groundFor
-  not_found g e o = no-so (isFound colours h w reference t) reference (rw e at o)
+  pub not_found : (g : Ground) → g ≡ ground_for 0 colours h w reference t → OneOf (1 ∷ 2 ∷ []) (tag_of ground-type.the_type g)
+      → is_found colours h w reference t ≡ false
+  unfolding ground_for
+  not_found g e o = no-so (is_found colours h w reference t) reference (rw e at o)
 
   yes-so : (b : Bool) (q r : Rgb) → cond b (ground.Found q) ground.Absent ≡ ground.Found r → (b ≡ true) × (r ≡ q)
   yes-so true q r e = let z : q ≡ r = cc in (refl, sym z)
   yes-so false q r e = let z : ◌≡◌ {A = ℕ} 0 1 = cc in absurd (omega arith)
 
-  pub was-found : (r : Rgb) → groundFor 0 colours h w reference t ≡ ground.Found r
-      → (isFound colours h w reference t ≡ true) × (r ≡ reference)
-  unfolding groundFor
-  was-found r e = yes-so (isFound colours h w reference t) reference r e
+  pub was-found : (r : Rgb) → ground_for 0 colours h w reference t ≡ ground.Found r
+      → (is_found colours h w reference t ≡ true) × (r ≡ reference)
+  unfolding ground_for
+  was-found r e = yes-so (is_found colours h w reference t) reference r e
 
-  pub found-plane : isFound colours h w reference t ≡ true → groundPlane colours h w reference t ≡ groundOf colours h w reference t
-  unfolding groundPlane
+  pub found-plane : is_found colours h w reference t ≡ true → ground_plane colours h w reference t ≡ ground_of colours h w reference t
+  unfolding ground_plane
   found-plane e = rw e
 
-  pub absent-plane : isFound colours h w reference t ≡ false → groundPlane colours h w reference t ≡ table (λ (i : ℕ). 0) 0 (h * w)
-  unfolding groundPlane
+  pub absent-plane : is_found colours h w reference t ≡ false → ground_plane colours h w reference t ≡ table (λ (i : ℕ). 0) 0 (h * w)
+  unfolding ground_plane
   absent-plane e = rw e
 
 -- ---- masks that are full
 
-zero-off : (m : List ℕ) (i : ℕ) → get_or m i 0 ≡ 0 → not (isOn m i) ≡ true
-unfolding isOn on
+zero-off : (m : List ℕ) (i : ℕ) → get_or m i 0 ≡ 0 → not (is_on m i) ≡ true
+unfolding is_on on
 zero-off m i e = rw e
 
 -- zeros turned over are all on
-pub zeros-turned : (m : List ℕ) (n : ℕ) → m ≡ table (λ (i : ℕ). 0) 0 n → complementOf m ≡ mask_of n (λ (i : ℕ). true)
-unfolding complementOf
+pub zeros-turned : (m : List ℕ) (n : ℕ) → m ≡ table (λ (i : ℕ). 0) 0 n → complement_of m ≡ mask_of n (λ (i : ℕ). true)
+unfolding complement_of
 zeros-turned m n e =
     let l : length m ≡ n = ap length e ∙ table-length (λ (i : ℕ). 0) 0 n in
-    ap (λ (k : ℕ). mask_of k (λ (i : ℕ). not (isOn m i))) l
-    ∙ mask-same n (λ (i : ℕ). not (isOn m i)) (λ (i : ℕ). true)
+    ap (λ (k : ℕ). mask_of k (λ (i : ℕ). not (is_on m i))) l
+    ∙ mask-same n (λ (i : ℕ). not (is_on m i)) (λ (i : ℕ). true)
     (λ i g. zero-off m i (ap (λ (q : List ℕ). get_or q i 0) e ∙ table_at (λ (k : ℕ). 0) n i 0 g))
 
 -- a mask of which no pixel is off is full
-full-mask : (p : ℕ → Bool) (n : ℕ) → someOff (mask_of n p) n ≡ false → mask_of n (λ (i : ℕ). true) ≡ mask_of n p
-unfolding someOff
+full-mask : (p : ℕ → Bool) (n : ℕ) → some_off (mask_of n p) n ≡ false → mask_of n (λ (i : ℕ). true) ≡ mask_of n p
+unfolding some_off
 full-mask p n e =
     mask-same n (λ (i : ℕ). true) p
-    (λ i g. on-so (p i) (ap not (sym (mask-on n p i g)) ∙ none_found (λ (k : ℕ). not (isOn (mask_of n p) k)) n e i g))
+    (λ i g. on-so (p i) (ap not (sym (mask-on n p i g)) ∙ none_found (λ (k : ℕ). not (is_on (mask_of n p) k)) n e i g))
   where
     on-so : (t : Bool) → not t ≡ false → true ≡ t
     on-so true z = refl
@@ -87,35 +87,35 @@ full-mask p n e =
 -- ---- whether a ground is sought
 
 -- asked for by the settings, and no pixel of the mask by alpha is off
-pub sought-is : (alpha : List ℕ) (n : ℕ) (s : Settings) (mask : List ℕ) (off : Bool) → off ≡ someOff mask (length mask) → length mask ≡ n
-    → mask ≡ alphaMask alpha n s → s.key_bg && not off ≡ isSought alpha n s
-unfolding isSought
+pub sought-is : (alpha : List ℕ) (n : ℕ) (s : Settings) (mask : List ℕ) (off : Bool) → off ≡ some_off mask (length mask) → length mask ≡ n
+    → mask ≡ alpha_mask alpha n s → s.key_bg && not off ≡ is_sought alpha n s
+unfolding is_sought
 sought-is alpha n s mask off e l m = rw (e, l, m)
 
 module _ (colours : List Float) (alpha : List ℕ) (h w : ℕ) (reference : Rgb) (s : Settings) where
   abbrev found : Bool
-  found = isFound colours h w reference s.key_bg_tolerance
+  found = is_found colours h w reference s.key_bg_tolerance
 
   -- the mask by alpha, where it is full
-  full : isSought alpha (h * w) s ≡ true → mask_of (h * w) (λ (i : ℕ). true) ≡ alphaMask alpha (h * w) s
-  unfolding isSought alphaMask
+  full : is_sought alpha (h * w) s ≡ true → mask_of (h * w) (λ (i : ℕ). true) ≡ alpha_mask alpha (h * w) s
+  unfolding is_sought alpha_mask
   full e =
-      let off = someOff (alphaMask alpha (h * w) s) (h * w) in
-      full-mask (λ (i : ℕ). onOf (get_or alpha i 0) s.alpha_threshold) (h * w) (not-true off (and-true s.key_bg (not off) e).1)
+      let off = some_off (alpha_mask alpha (h * w) s) (h * w) in
+      full-mask (λ (i : ℕ). on_of (get_or alpha i 0) s.alpha_threshold) (h * w) (not-true off (and-true s.key_bg (not off) e).1)
 
-  pub sought-flag : isSought alpha (h * w) s ≡ true → found ≡ isKeyed colours alpha h w reference s
-  unfolding isKeyed
+  pub sought-flag : is_sought alpha (h * w) s ≡ true → found ≡ is_keyed colours alpha h w reference s
+  unfolding is_keyed
   sought-flag e = rw e
 
-  pub sought-mask : isSought alpha (h * w) s ≡ true
-      → keyedPlane colours h w reference s.key_bg_tolerance (passesOf s) ≡ cutMask colours alpha h w reference s
-  unfolding keyedPlane cutMask isKeyed grownGround
+  pub sought-mask : is_sought alpha (h * w) s ≡ true
+      → keyed_plane colours h w reference s.key_bg_tolerance (passes_of s) ≡ cut_mask colours alpha h w reference s
+  unfolding keyed_plane cut_mask is_keyed grown_ground
   sought-mask e = rw (full e, e)
 
-  pub unsought-flag : isSought alpha (h * w) s ≡ false → false ≡ isKeyed colours alpha h w reference s
-  unfolding isKeyed
+  pub unsought-flag : is_sought alpha (h * w) s ≡ false → false ≡ is_keyed colours alpha h w reference s
+  unfolding is_keyed
   unsought-flag e = rw e
 
-  pub unsought-mask : isSought alpha (h * w) s ≡ false → alphaMask alpha (h * w) s ≡ cutMask colours alpha h w reference s
-  unfolding cutMask isKeyed
+  pub unsought-mask : is_sought alpha (h * w) s ≡ false → alpha_mask alpha (h * w) s ≡ cut_mask colours alpha h w reference s
+  unfolding cut_mask is_keyed
   unsought-mask e = rw e

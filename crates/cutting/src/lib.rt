@@ -1,11 +1,11 @@
 // The cut of an accepted picture: its mask, whether it was keyed, and its crop box.
 ghost use Rattle.std.specs.Prelude.{◌≡◌, true, ℕ, ◌*◌, length};
 ghost use Rattle.plane.specs.steps.Sides.{Sides};
-ghost use Rattle.card.specs.steps.Range.{cardOk};
-ghost use Rattle.outline.specs.Border.{referenceOn};
-ghost use Rattle.outline.specs.Ground.{isFound};
-ghost use Rattle.outline.specs.Cut.{isKeyed, cutMask, margin, cropOf};
-ghost use Rattle.cutting.specs.steps.Key.{keyedPlane, KeyRoom, Reference};
+ghost use Rattle.card.specs.steps.Range.{card_ok};
+ghost use Rattle.outline.specs.Border.{reference_on};
+ghost use Rattle.outline.specs.Ground.{is_found};
+ghost use Rattle.outline.specs.Cut.{is_keyed, cut_mask, margin, crop_of};
+ghost use Rattle.cutting.specs.steps.Key.{keyed_plane, KeyRoom, Reference};
 
 use card::Card;
 use colour::{Rgb, Settings};
@@ -31,8 +31,8 @@ fn key(
 ) -> bool
     requires key_room { KeyRoom colours.now h w nearest.old shallow.old deep.old marks.old mask.old }
     requires reference { Reference given }
-    ensures value { result ≡ isFound colours.now h w given tolerance }
-    ensures mask_after { mask.new ≡ keyedPlane colours.now h w given tolerance passes }
+    ensures value { result ≡ is_found colours.now h w given tolerance }
+    ensures mask_after { mask.new ≡ keyed_plane colours.now h w given tolerance passes }
 {
     let answer = ground::ground_from(colours, h, w, given, tolerance, nearest, mask);
     let Ground::Found(reference) = answer else {
@@ -62,10 +62,10 @@ pub fn cut_mask(
 ) -> bool
     requires key_room { KeyRoom colours.now h w nearest.old shallow.old deep.old marks.old mask.old }
     requires alpha_len { length alpha.now ≡ h * w }
-    requires card_value { cardOk card ≡ true }
-    ensures value { result ≡ isKeyed colours.now alpha.now h w (referenceOn card colours.now h w) s }
-    ensures mask_after { mask.new ≡ cutMask colours.now alpha.now h w
-        (referenceOn card colours.now h w) s }
+    requires card_value { card_ok card ≡ true }
+    ensures value { result ≡ is_keyed colours.now alpha.now h w (reference_on card colours.now h w) s }
+    ensures mask_after { mask.new ≡ cut_mask colours.now alpha.now h w
+        (reference_on card colours.now h w) s }
 {
     weights::reach(alpha, s.alpha_threshold, mask);
     let sought = s.key_bg & !plane::some_off(mask);
@@ -83,7 +83,7 @@ pub fn cut_mask(
 // The crop box: the mask's with its margin, or the whole picture where cropping is off or the mask is full.
 pub fn crop_of(mask: &[u8], h: usize, w: usize, cropping: bool) -> Box
     requires { (Sides h w) × (length mask.now ≡ h * w) }
-    ensures { result ≡ cropOf mask.now h w margin cropping }
+    ensures { result ≡ crop_of mask.now h w margin cropping }
 {
     let asked = cropping & plane::some_off(mask);
     if asked {

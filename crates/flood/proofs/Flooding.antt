@@ -4,13 +4,13 @@ use Rattle.std.proofs.Common.{◌≡◌, ℕ, ◌+◌, ◌-◌, ◌%◌, ◌<◌
 use lib.ListN.{get_or-eq_default}
 use borrow.Author.Tests.{eqb-false}
 use Rattle.plane.proofs.Search.{which, either, not-both}
-use Rattle.plane.specs.Mask.{isOn}
+use Rattle.plane.specs.Mask.{is_on}
 use Rattle.labels.specs.Labels.{beside, Joined, onward}
 use Rattle.plane.proofs.Mask.{on-inside}
 use Rattle.labels.proofs.Joined.{end_on}
 use Rattle.labels.proofs.Steps.{beside-above, beside-below, beside-left, beside-right, beside-sides}
-use Rattle.outline.specs.Border.{onBorder}
-use Rattle.flood.specs.steps.Flood.{State, pushed, visited, visitIf, spreadFrom, onTop, popped}
+use Rattle.outline.specs.Border.{on_border}
+use Rattle.flood.specs.steps.Flood.{State, pushed, visited, visit_if, spread_from, on_top, popped}
 use Rattle.flood.proofs.Room.{Kept, room_for, pushed_room, popped-room}
 
 -- what pixel k holds
@@ -23,7 +23,7 @@ OnStack s k = (e : ℕ) × (e < s.top) × (get_or s.stack e 0 ≡ k)
 
 -- pixel k is joined to a border pixel
 abbrev pub FromBorder : List ℕ → ℕ → ℕ → ℕ → Type 0
-FromBorder mask h w k = (j : ℕ) × (onBorder h w j ≡ true) × Joined mask w j k
+FromBorder mask h w k = (j : ℕ) × (on_border h w j ≡ true) × Joined mask w j k
 
 -- after a store at i
 set_cases : (l : List ℕ) (i k v : ℕ) → i < length l → ((k ≡ i) × (get_or (set l i v) k 0 ≡ v)) ⊎ (get_or (set l i v) k 0 ≡ get_or l k 0)
@@ -36,17 +36,17 @@ set_cases l i k v h =
 -- of the close pixels `mask`, while pixel `hold` is being spread from (none, if it is no pixel)
 pub record Flooding (mask : List ℕ) (h w hold : ℕ) (s : State) : Type 0 where
   pub kept : Kept (length mask) s
-  pub lit : (k : ℕ) → at s k ≡ 1 → isOn mask k ≡ true
-  pub due : (k : ℕ) → isOn mask k ≡ true → (at s k ≡ 1) ⊎ (at s k ≡ 2)
+  pub lit : (k : ℕ) → at s k ≡ 1 → is_on mask k ≡ true
+  pub due : (k : ℕ) → is_on mask k ≡ true → (at s k ≡ 1) ⊎ (at s k ≡ 2)
   pub sound : (k : ℕ) → at s k ≡ 2 → FromBorder mask h w k
   pub stacked : (e : ℕ) → e < s.top → FromBorder mask h w (get_or s.stack e 0)
-  pub closed : (k j : ℕ) → at s k ≡ 2 → beside w k j ≡ true → isOn mask j ≡ true → (at s j ≡ 2) ⊎ ((k ≡ hold) ⊎ OnStack s k)
+  pub closed : (k j : ℕ) → at s k ≡ 2 → beside w k j ≡ true → is_on mask j ≡ true → (at s j ≡ 2) ⊎ ((k ≡ hold) ⊎ OnStack s k)
 
 module _ (mask : List ℕ) (h w : ℕ) where
   abbrev Reach : ℕ → Type 0
   Reach k = FromBorder mask h w k
 
-  further : (p q : ℕ) → Reach p → beside w p q ≡ true → isOn mask q ≡ true → Reach q
+  further : (p q : ℕ) → Reach p → beside w p q ≡ true → is_on mask q ≡ true → Reach q
   further p q r b o = (r.0, r.1, onward r.2 b o)
 
   reach-inside : (p : ℕ) → Reach p → p < length mask
@@ -56,7 +56,7 @@ module _ (mask : List ℕ) (h w : ℕ) where
   pub record Visits (hold : ℕ) (has : Bool) (q : ℕ) (s t : State) : Type 0 where
     pub floods : Flooding mask h w hold t
     pub stays : (k : ℕ) → at s k ≡ 2 → at t k ≡ 2
-    pub done : has ≡ true → isOn mask q ≡ true → at t q ≡ 2
+    pub done : has ≡ true → is_on mask q ≡ true → at t q ≡ 2
 
   module _ (hold : ℕ) (s : State) (f : Flooding mask h w hold s) where
     -- a pixel that waits and is reached is pushed
@@ -110,7 +110,7 @@ module _ (mask : List ℕ) (h w : ℕ) where
       }
 
     -- a visit to q, which is reached if it is close
-    module _ (q : ℕ) (r : isOn mask q ≡ true → Reach q) where
+    module _ (q : ℕ) (r : is_on mask q ≡ true → Reach q) where
       onto : at s q ≡ 1 → Reach q
       onto e = r (f.lit q e)
 
@@ -134,9 +134,9 @@ module _ (mask : List ℕ) (h w : ℕ) where
           (either (eqb (at s q) 1))
 
   -- the same where the plane may have no such pixel
-  pub visits : (hold : ℕ) (has : Bool) (q : ℕ) (s : State) → (has ≡ true → isOn mask q ≡ true → Reach q)
-      → Flooding mask h w hold s → Visits hold has q s (visitIf has q s)
-  unfolding visitIf
+  pub visits : (hold : ℕ) (has : Bool) (q : ℕ) (s : State) → (has ≡ true → is_on mask q ≡ true → Reach q)
+      → Flooding mask h w hold s → Visits hold has q s (visit_if has q s)
+  unfolding visit_if
   visits hold true q s r f = visited-floods hold s f q (r refl)
   visits hold false q s r f = record { floods = f; stays = λ k l. l; done = λ z. not-both false z refl }
 
@@ -145,7 +145,7 @@ module _ (mask : List ℕ) (h w : ℕ) where
   not-past s k x e l = let z = get_or-eq_default s.plane 0 {n = x} (omega (arith, k.long)) in omega arith
 
   -- the top of the stack is taken off and held
-  pub popped-floods : (s : State) → 0 < s.top → Flooding mask h w (length mask) s → Flooding mask h w (onTop s) (popped s)
+  pub popped-floods : (s : State) → 0 < s.top → Flooding mask h w (length mask) s → Flooding mask h w (on_top s) (popped s)
   popped-floods s l f = record {
     kept = record { room = popped-room f.kept.room; long = f.kept.long };
     lit = f.lit;
@@ -169,7 +169,7 @@ module _ (mask : List ℕ) (h w : ℕ) where
 
   -- and let go when its close neighbours are 2
   released : (p : ℕ) (s : State) → Flooding mask h w p s
-      → ((j : ℕ) → beside w p j ≡ true → isOn mask j ≡ true → at s j ≡ 2) → Flooding mask h w (length mask) s
+      → ((j : ℕ) → beside w p j ≡ true → is_on mask j ≡ true → at s j ≡ 2) → Flooding mask h w (length mask) s
   released p s f g = record {
     kept = f.kept;
     lit = f.lit;
@@ -182,8 +182,8 @@ module _ (mask : List ℕ) (h w : ℕ) where
 
   -- so one spread keeps it, and every 2
   pub spread-floods : (p : ℕ) (s : State) → 0 < w → Reach p → Flooding mask h w p s
-      → let t = spreadFrom w (length mask) p s in Flooding mask h w (length mask) t × ((k : ℕ) → at s k ≡ 2 → at t k ≡ 2)
-  unfolding spreadFrom
+      → let t = spread_from w (length mask) p s in Flooding mask h w (length mask) t × ((k : ℕ) → at s k ≡ 2 → at t k ≡ 2)
+  unfolding spread_from
   spread-floods p s wide r f =
       let x = p % w in
       let v1 = visits p (leb w p) (p - w) s (λ t. further p (p - w) r (beside-above w wide p (leb-true w p t))) f in
@@ -196,7 +196,7 @@ module _ (mask : List ℕ) (h w : ℕ) where
             ⊎_elim (λ z. v4.stays j (v3.stays j (v2.stays j (rw z.1 (v1.done (le-leb w p z.0) (rw z.1 at o))))))
             (⊎_elim
             (λ z. (
-            let e : isOn mask (p + w) ≡ true = rw z at o in
+            let e : is_on mask (p + w) ≡ true = rw z at o in
             v4.stays j (v3.stays j (rw z (v2.done (lt-ltb (p + w) (length mask) (on-inside mask (p + w) e)) e)))))
             (⊎_elim (λ z. v4.stays j (rw z.1 (v3.done (lt-ltb 0 x z.0) (rw z.1 at o))))
             (λ z. rw z.1 (v4.done (lt-ltb x (w - 1) (omega (arith, z.0))) (rw z.1 at o)))))

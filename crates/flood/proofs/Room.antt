@@ -4,8 +4,8 @@ use Rattle.std.proofs.Common.{◌≡◌, ℕ, ◌+◌, ◌-◌, ◌*◌, ◌%◌
 use Rattle.plane.proofs.Plane.{area-most}
 use Rattle.plane.proofs.Search.{either, count_most}
 use Rattle.labels.proofs.Counts.{count-without}
-use Rattle.flood.specs.steps.Flood.{State, state, pushed, visited, visitIf, spreadFrom}
-use Rattle.flood.specs.steps.Flood.{onTop, popped, spreadTop, waiting, Room, Spreads, Closed}
+use Rattle.flood.specs.steps.Flood.{State, state, pushed, visited, visit_if, spread_from}
+use Rattle.flood.specs.steps.Flood.{on_top, popped, spread_top, waiting, Room, Spreads, Closed}
 
 abbrev waits : List ℕ → ℕ → Bool
 waits plane k = eqb (get_or plane k 0) 1
@@ -88,19 +88,19 @@ visited-kept area q s l k =
     let i : q < length s.plane = omega (arith, k.long) in
     record { room = visited-room s q k.room i; long = k.long ∙ sym (visited-long s q) }
 
-pub if_kept : {area q : ℕ} {has : Bool} {s : State} → (has ≡ true → q < area) → Kept area s → Kept area (visitIf has q s)
-unfolding visitIf
+pub if_kept : {area q : ℕ} {has : Bool} {s : State} → (has ≡ true → q < area) → Kept area s → Kept area (visit_if has q s)
+unfolding visit_if
 if_kept {has = true} l k = visited-kept _ _ _ (l refl) k
 if_kept {has = false} l k = k
 
-if-total : {area q : ℕ} {has : Bool} {s : State} → (has ≡ true → q < area) → Kept area s → total (visitIf has q s) ≡ total s
-unfolding visitIf
+if-total : {area q : ℕ} {has : Bool} {s : State} → (has ≡ true → q < area) → Kept area s → total (visit_if has q s) ≡ total s
+unfolding visit_if
 if-total {has = true} l k = visited-total _ _ (omega (arith, l refl, k.long))
 if-total {has = false} l k = refl
 
 -- a visit asks for the pixel only where there is one
-pub if-same : (s : State) (has : Bool) {q r : ℕ} → (has ≡ true → q ≡ r) → visitIf has q s ≡ visitIf has r s
-unfolding visitIf
+pub if-same : (s : State) (has : Bool) {q r : ℕ} → (has ≡ true → q ≡ r) → visit_if has q s ≡ visit_if has r s
+unfolding visit_if
 if-same s true e = ap (λ (k : ℕ). visited k s) (e refl)
 if-same s false e = refl
 
@@ -115,24 +115,24 @@ module _ {w : ℕ} {s : State} (g : Spreads w s) where
   area = length s.plane
 
   -- they are to pixels of the plane
-  pub above_in : leb w (onTop s) ≡ true → onTop s - w < area
+  pub above_in : leb w (on_top s) ≡ true → on_top s - w < area
   above_in t = omega (arith, g.inside)
 
-  pub below_in : ltb (onTop s + w) area ≡ true → onTop s + w < area
-  below_in t = ltb-true (onTop s + w) area t
+  pub below_in : ltb (on_top s + w) area ≡ true → on_top s + w < area
+  below_in t = ltb-true (on_top s + w) area t
 
-  pub left_in : ltb 0 (onTop s % w) ≡ true → onTop s - 1 < area
+  pub left_in : ltb 0 (on_top s % w) ≡ true → on_top s - 1 < area
   left_in t = omega (arith, g.inside)
 
-  pub right-in : ltb (onTop s % w) (w - 1) ≡ true → onTop s + 1 < area
-  right-in t = g.row (ltb-true (onTop s % w) (w - 1) t)
+  pub right-in : ltb (on_top s % w) (w - 1) ≡ true → on_top s + 1 < area
+  right-in t = g.row (ltb-true (on_top s % w) (w - 1) t)
 
   pub kept-first : Kept area (popped s)
   kept-first = record { room = popped-room g.room; long = refl }
 
   -- so one spread takes one off the height with those that wait
-  pub spread-total : total (spreadTop w s) + 1 ≡ s.top + waiting s.plane
-  unfolding spreadFrom total
+  pub spread-total : total (spread_top w s) + 1 ≡ s.top + waiting s.plane
+  unfolding spread_from total
   spread-total =
       let k1 = if_kept above_in kept-first in
       let k2 = if_kept below_in k1 in

@@ -1,14 +1,14 @@
 // The flood: which close pixels of a plane the border reaches by steps up, down, left and right.
 ghost use Rattle.std.specs.Prelude.{◌≡◌, ◌*◌, ◌<◌, ◌≤◌, true, length, slice_index};
 ghost use Rattle.plane.specs.steps.Sides.{Sides};
-ghost use Rattle.outline.specs.Border.{borderList};
-ghost use Rattle.outline.specs.Ground.{groundFrom};
-ghost use Rattle.flood.specs.steps.Flood.{state, visitIf, spreadTop, seeded, marked, Room, Spreads, Closed};
+ghost use Rattle.outline.specs.Border.{border_list};
+ghost use Rattle.outline.specs.Ground.{ground_from};
+ghost use Rattle.flood.specs.steps.Flood.{state, visit_if, spread_top, seeded, marked, Room, Spreads, Closed};
 
 // How many pixels the border list has.
 pub fn border_count(h: usize, w: usize) -> usize
     requires { Sides h w }
-    ensures { result ≡ length (borderList h w) }
+    ensures { result ≡ length (border_list h w) }
 {
     if h < 2 {
         return w + w;
@@ -19,8 +19,8 @@ pub fn border_count(h: usize, w: usize) -> usize
 // Pixel k of the border list.
 pub fn border_pixel(h: usize, w: usize, k: usize) -> usize
     requires sides { Sides h w }
-    requires k_in_bounds { k < length (borderList h w) }
-    ensures { result ≡ slice_index (borderList h w) k }
+    requires k_in_bounds { k < length (border_list h w) }
+    ensures { result ≡ slice_index (border_list h w) k }
 {
     if k < w {
         return k;
@@ -40,7 +40,7 @@ fn visit(has: bool, q: usize, top: usize, stack: &mut [u32], out: &mut [u8]) -> 
     requires q_in_bounds { has ≡ true → q < length out.old }
     requires room { Room (state top stack.old out.old) }
     ensures { state result stack.new out.new
-        ≡ visitIf has q (state top stack.old out.old) }
+        ≡ visit_if has q (state top stack.old out.old) }
 {
     if !has {
         return top;
@@ -57,7 +57,7 @@ fn visit(has: bool, q: usize, top: usize, stack: &mut [u32], out: &mut [u8]) -> 
 fn spread(w: usize, top: usize, stack: &mut [u32], out: &mut [u8]) -> usize
     requires { Spreads w (state top stack.old out.old) }
     ensures { state result stack.new out.new
-        ≡ spreadTop w (state top stack.old out.old) }
+        ≡ spread_top w (state top stack.old out.old) }
 {
     let area = out.len();
     let t0 = top - 1;
@@ -75,7 +75,7 @@ fn seed_border(h: usize, w: usize, stack: &mut [u32], out: &mut [u8]) -> usize
     requires closed { Closed out.old h w }
     requires w_in_bounds { h * w ≤ length stack.old }
     ensures { state result stack.new out.new
-        ≡ seeded (borderList h w) (state 0 stack.old out.old) }
+        ≡ seeded (border_list h w) (state 0 stack.old out.old) }
 {
     let mut top = 0usize;
     for k in 0..border_count(h, w) {
@@ -88,7 +88,7 @@ fn seed_border(h: usize, w: usize, stack: &mut [u32], out: &mut [u8]) -> usize
 fn reach(h: usize, w: usize, stack: &mut [u32], out: &mut [u8])
     requires closed { Closed out.old h w }
     requires w_in_bounds { h * w ≤ length stack.old }
-    ensures { marked out.new ≡ groundFrom out.old h w }
+    ensures { marked out.new ≡ ground_from out.old h w }
 {
     let mut top = seed_border(h, w, stack, out);
     while 0 < top {
@@ -109,7 +109,7 @@ fn settle(out: &mut [u8])
 pub fn flood(h: usize, w: usize, stack: &mut [u32], out: &mut [u8])
     requires closed { Closed out.old h w }
     requires w_in_bounds { h * w ≤ length stack.old }
-    ensures { out.new ≡ groundFrom out.old h w }
+    ensures { out.new ≡ ground_from out.old h w }
 {
     reach(h, w, stack, out);
     settle(out)

@@ -14,26 +14,26 @@ use Rattle.plane.proofs.Refusal.{Within, passed, written, kept, sides-are, sides
 use Rattle.nearest.specs.steps.Room.{Room}
 use Rattle.geometry.specs.declared.Answer.TheVariants as answer
 use Rattle.geometry.specs.declared.Labelled.TheVariants as labelled
-use Rattle.geometry.specs.Answer.{answerFor, labelledFor}
-use Rattle.geometry.specs.Refusal.{planeRefusal, nearestRefusal, fillRefusal, cropRefusal}
-use Rattle.geometry.specs.Calls.{nearestRefusalIn, PlaneCalled}
+use Rattle.geometry.specs.Answer.{answer_for, labelled_for}
+use Rattle.geometry.specs.Refusal.{plane_refusal, nearest_refusal, fill_refusal, crop_refusal}
+use Rattle.geometry.specs.Calls.{nearest_refusal_in, PlaneCalled}
 
 -- ---- answers
 
-pub done : (n : ℕ) → n ≡ 0 → answer.Done ≡ answerFor n
-unfolding answerFor
+pub done : (n : ℕ) → n ≡ 0 → answer.Done ≡ answer_for n
+unfolding answer_for
 done n e = rw (eq-eqb n 0 e)
 
-pub declined : (n : ℕ) → (n ≡ 0 → ⊥) → answer.Refused n ≡ answerFor n
-unfolding answerFor
+pub declined : (n : ℕ) → (n ≡ 0 → ⊥) → answer.Refused n ≡ answer_for n
+unfolding answer_for
 declined n e = rw (ne_eqb n 0 e)
 
-pub counted : (n parts : ℕ) → n ≡ 0 → labelled.Parts parts ≡ labelledFor n parts
-unfolding labelledFor
+pub counted : (n parts : ℕ) → n ≡ 0 → labelled.Parts parts ≡ labelled_for n parts
+unfolding labelled_for
 counted n parts e = rw (eq-eqb n 0 e)
 
-pub not-counted : (n parts : ℕ) → (n ≡ 0 → ⊥) → labelled.Refused n ≡ labelledFor n parts
-unfolding labelledFor
+pub not-counted : (n parts : ℕ) → (n ≡ 0 → ⊥) → labelled.Refused n ≡ labelled_for n parts
+unfolding labelled_for
 not-counted n parts e = rw (ne_eqb n 0 e)
 
 -- a call that is declined leaves its output and its work buffer as they were
@@ -57,8 +57,8 @@ pub record PlaneOk (h w mask out work : ℕ) : Type 0 where
   pub output : out ≡ h * w
   pub room : room_for h w ≤ work
 
-pub plane-ok : (h w mask out work : ℕ) → planeRefusal h w mask out work ≡ 0 → PlaneOk h w mask out work
-unfolding planeRefusal
+pub plane-ok : (h w mask out work : ℕ) → plane_refusal h w mask out work ≡ 0 → PlaneOk h w mask out work
+unfolding plane_refusal
 plane-ok h w mask out work e =
     let p = passed _ refl e in
     record {
@@ -70,8 +70,8 @@ plane-ok h w mask out work e =
     }
 
 pub nearest-ok : (mask : List ℕ) (h w : ℕ) (work : List ℕ) (rows cols : List ℤ)
-    → nearestRefusalIn mask h w work rows cols ≡ 0 → Room h w mask work rows cols
-unfolding nearestRefusal
+    → nearest_refusal_in mask h w work rows cols ≡ 0 → Room h w mask work rows cols
+unfolding nearest_refusal
 nearest-ok mask h w work rows cols e =
     let p = passed _ refl e in
     let s = sides-are h w p.0 in
@@ -90,8 +90,8 @@ pub record FillOk (h w colours mask out work : ℕ) : Type 0 where
   pub output : out ≡ 3 * (h * w)
   pub room : room_for h w ≤ work
 
-pub fill-ok : (h w colours mask out work : ℕ) → fillRefusal h w colours mask out work ≡ 0 → FillOk h w colours mask out work
-unfolding fillRefusal
+pub fill-ok : (h w colours mask out work : ℕ) → fill_refusal h w colours mask out work ≡ 0 → FillOk h w colours mask out work
+unfolding fill_refusal
 fill-ok h w colours mask out work e =
     let p = passed _ refl e in
     record {
@@ -108,8 +108,8 @@ pub record InPlane (n w x0 x1 y : ℕ) : Type 0 where
   pub right : y * w + x1 ≤ n
   pub small : n ≤ 4294967296
 
-pub in-plane : (n h w y0 y1 x0 x1 y : ℕ) → cropRefusal n h w y0 y1 x0 x1 y ≡ 0 → InPlane n w x0 x1 y
-unfolding cropRefusal
+pub in-plane : (n h w y0 y1 x0 x1 y : ℕ) → crop_refusal n h w y0 y1 x0 x1 y ≡ 0 → InPlane n w x0 x1 y
+unfolding crop_refusal
 in-plane n h w y0 y1 x0 x1 y e =
     let p = passed _ refl e in
     let s : Sides h w = sides-are h w p.0 in

@@ -2,7 +2,7 @@
 -- Assumes nothing.
 use Rattle.std.specs.Prelude.{ℕ, ◌+◌, ◌*◌, ◌-◌, ◌/◌, ◌%◌, List, get_or}
 use Rattle.std.proofs.Math.Option.{Option, none, some}
-use Rattle.plane.specs.Plane.{planeOf}
+use Rattle.plane.specs.Plane.{plane_of}
 use Rattle.nearest.specs.Nearest.{nearest}
 
 -- the index of the pixel that an answer of nearest stands for; nothing on: row -1 reads row h - 1, column 0 (R14)
@@ -11,5 +11,5 @@ source_of h w none = (h - 1) * w
 source_of h w (some q) = q.1 * w + q.0
 
 -- the filled colours: h * w pixels of three channels (R14)
-unfoldable pub filledColours : List ℕ → List ℕ → ℕ → ℕ → List ℕ
-filledColours colours mask h w = planeOf (h * w) 3 (λ (i c : ℕ). get_or colours (3 * source_of h w (nearest mask h w (i / w) (i % w)) + c) 0)
+unfoldable pub filled_colours : List ℕ → List ℕ → ℕ → ℕ → List ℕ
+filled_colours colours mask h w = plane_of (h * w) 3 (λ (i c : ℕ). get_or colours (3 * source_of h w (nearest mask h w (i / w) (i % w)) + c) 0)

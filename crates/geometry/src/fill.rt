@@ -1,6 +1,6 @@
 // The loop of fill: the colours of the pixels that the plane of indices names.
 ghost use Rattle.std.specs.Prelude.{◌≡◌, cond, ◌*◌, length, get_or};
-ghost use Rattle.geometry.specs.steps.Source.{sourceAt, coloursFrom, Reads};
+ghost use Rattle.geometry.specs.steps.Source.{source_at, colours_from, Reads};
 
 // Three numbers.
 fn copy_colour(from: &[u64], to: &mut [u64])
@@ -29,7 +29,7 @@ pub fn colours_from(
     out: &mut [u64],
 )
     requires { Reads colours.now h w indices.now out.old }
-    ensures { out.new ≡ coloursFrom colours.now h w indices.now some }
+    ensures { out.new ≡ colours_from colours.now h w indices.now some }
 {
     let n = h * w;
     let last = n - w;

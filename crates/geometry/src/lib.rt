@@ -3,10 +3,10 @@ mod fill;
 mod refusals;
 
 ghost use Rattle.std.specs.Prelude.{◌≡◌, length};
-ghost use Rattle.geometry.specs.Answer.{refusalOfAnswer};
+ghost use Rattle.geometry.specs.Answer.{refusal_of_answer};
 ghost use Rattle.geometry.specs.Calls.{NearestCalled, LabelsCalled, SquaresCalled, DistanceCalled, FillCalled};
-ghost use Rattle.geometry.specs.Refusal.{cropRefusal};
-ghost use Rattle.geometry.specs.Crop.{cropPart};
+ghost use Rattle.geometry.specs.Refusal.{crop_refusal};
+ghost use Rattle.geometry.specs.Crop.{crop_part};
 
 // What a call answers: it is done, or declined by its number.
 #[derive(Drop)]
@@ -24,7 +24,7 @@ pub enum Labelled {
 
 // The number of an answer: 0 where the call was accepted.
 pub fn refusal_of(answer: Answer) -> u32
-    ensures { result ≡ refusalOfAnswer answer }
+    ensures { result ≡ refusal_of_answer answer }
 {
     match answer {
         Answer::Done => 0,
@@ -138,7 +138,7 @@ pub fn crop_row_refusal(
     x1: usize,
     y: usize,
 ) -> u32
-    ensures { result ≡ cropRefusal (length plane.now) h w y0 y1 x0 x1 y }
+    ensures { result ≡ crop_refusal (length plane.now) h w y0 y1 x0 x1 y }
 {
     refusals::crop_refusal(plane.len(), h, w, y0, y1, x0, x1, y)
 }
@@ -154,7 +154,7 @@ pub fn crop_row(
     x1: usize,
     y: usize,
 ) -> &[u8]
-    ensures { result.now ≡ cropPart plane.now h w y0 y1 x0 x1 y }
+    ensures { result.now ≡ crop_part plane.now h w y0 y1 x0 x1 y }
 {
     if crop_row_refusal(plane, h, w, y0, y1, x0, x1, y) != 0 {
         return &plane[0..0];

@@ -1,10 +1,10 @@
 // The tests behind the refusals, in order: each function returns at the first that fails. Tests with one number are made at once.
 ghost use Rattle.std.specs.Prelude.{◌≡◌};
-ghost use Rattle.geometry.specs.Refusal.{planeRefusal, nearestRefusal, fillRefusal, cropRefusal};
+ghost use Rattle.geometry.specs.Refusal.{plane_refusal, nearest_refusal, fill_refusal, crop_refusal};
 
 // Labels, squares and square distance: the lengths of the mask, the output and the work buffer.
 pub fn plane_refusal(h: usize, w: usize, mask: usize, out: usize, work: usize) -> u32
-    ensures { result ≡ planeRefusal h w mask out work }
+    ensures { result ≡ plane_refusal h w mask out work }
 {
     if !plane::sides_ok(h, w) {
         return 1;
@@ -28,7 +28,7 @@ pub fn nearest_refusal(
     cols: usize,
     work: usize,
 ) -> u32
-    ensures { result ≡ nearestRefusal h w mask rows cols work }
+    ensures { result ≡ nearest_refusal h w mask rows cols work }
 {
     if !plane::sides_ok(h, w) {
         return 1;
@@ -45,7 +45,7 @@ pub fn nearest_refusal(
 
 // Fill: the lengths of the colours, the mask, the output and the work buffer.
 pub fn fill_refusal(h: usize, w: usize, colours: usize, mask: usize, out: usize, work: usize) -> u32
-    ensures { result ≡ fillRefusal h w colours mask out work }
+    ensures { result ≡ fill_refusal h w colours mask out work }
 {
     if !plane::sides_ok(h, w) {
         return 1;
@@ -71,7 +71,7 @@ pub fn crop_refusal(
     x1: usize,
     y: usize,
 ) -> u32
-    ensures { result ≡ cropRefusal n h w y0 y1 x0 x1 y }
+    ensures { result ≡ crop_refusal n h w y0 y1 x0 x1 y }
 {
     if !plane::sides_ok(h, w) {
         return 1;

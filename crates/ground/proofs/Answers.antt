@@ -11,15 +11,15 @@ use lib.ListN.{length, get_or, get_or-eq_default}
 use lib.Ieee.{Float}
 use Rattle.plane.specs.Plane.{bit, table}
 use Rattle.plane.specs.steps.Sides.{Sides}
-use Rattle.plane.specs.Mask.{mask_of, someOff}
+use Rattle.plane.specs.Mask.{mask_of, some_off}
 use Rattle.plane.proofs.Plane.{table-length, table_at}
 use Rattle.plane.proofs.Search.{which, and_no}
 use Rattle.colour.specs.declared.Rgb.{Rgb}
 use Rattle.outline.specs.declared.Ground.{Ground}
 use Rattle.outline.specs.declared.Ground.TheVariants.{Found, Absent}
-use Rattle.outline.specs.Border.{borderList}
-use Rattle.outline.specs.Ground.{isClose, closePlane, groundFrom, groundOf, countOn, found_from, isFound, groundPlane}
-use Rattle.outline.specs.Answer.{groundFor}
+use Rattle.outline.specs.Border.{border_list}
+use Rattle.outline.specs.Ground.{is_close, close_plane, ground_from, ground_of, count_on, found_from, is_found, ground_plane}
+use Rattle.outline.specs.Answer.{ground_for}
 use Rattle.flood.specs.steps.Flood.{Closed}
 
 pub bit-most : (b : Bool) → bit b ≤ 1
@@ -30,22 +30,22 @@ bit-most false = omega arith
 module _ (colours : List Float) (h w : ℕ) (reference : Rgb) (tolerance : Float) where
   -- the close pixels of the picture
   abbrev close : List ℕ
-  close = closePlane colours h w reference tolerance
+  close = close_plane colours h w reference tolerance
 
-  pub close-is : (n : ℕ) (p : List ℕ) → n ≡ h * w → p ≡ mask_of n (isClose colours reference tolerance) → p ≡ close
-  unfolding closePlane mask_of
+  pub close-is : (n : ℕ) (p : List ℕ) → n ≡ h * w → p ≡ mask_of n (is_close colours reference tolerance) → p ≡ close
+  unfolding close_plane mask_of
   close-is n p l q = q ∙ rw l
 
   close-length : length close ≡ h * w
-  unfolding closePlane
-  close-length = table-length (λ (i : ℕ). bit (isClose colours reference tolerance i)) 0 (h * w)
+  unfolding close_plane
+  close-length = table-length (λ (i : ℕ). bit (is_close colours reference tolerance i)) 0 (h * w)
 
   close-bits : (k : ℕ) → get_or close k 0 ≤ 1
-  unfolding closePlane
+  unfolding close_plane
   close-bits k =
-      let f : ℕ → ℕ = λ i. bit (isClose colours reference tolerance i) in
+      let f : ℕ → ℕ = λ i. bit (is_close colours reference tolerance i) in
       ⊎_elim {C = get_or close k 0 ≤ 1}
-      (λ (l : k < h * w). rw (table_at f (h * w) k 0 l) (bit-most (isClose colours reference tolerance k)))
+      (λ (l : k < h * w). rw (table_at f (h * w) k 0 l) (bit-most (is_close colours reference tolerance k)))
       (λ (l : h * w ≤ k). (let z = get_or-eq_default close 0 {n = k} (omega (arith, close-length)) in omega arith))
       (which k (h * w))
 
@@ -54,42 +54,42 @@ module _ (colours : List Float) (h w : ℕ) (reference : Rgb) (tolerance : Float
 
   -- what is answered and written
   abbrev pub Answered : Ground → List ℕ → Type 0
-  Answered r z = (r ≡ groundFor 0 colours h w reference tolerance) × (z ≡ groundPlane colours h w reference tolerance)
+  Answered r z = (r ≡ ground_for 0 colours h w reference tolerance) × (z ≡ ground_plane colours h w reference tolerance)
 
   -- whether nine tenths of the border list are on
-  abbrev nineTenths : List ℕ → Bool
-  nineTenths p = leb (9 * length (borderList h w)) (10 * countOn p (borderList h w))
+  abbrev nine_tenths : List ℕ → Bool
+  nine_tenths p = leb (9 * length (border_list h w)) (10 * count_on p (border_list h w))
 
   -- a plane of 0
   abbrev Cleared : List ℕ → ℕ → Type 0
   Cleared z n = (n ≡ h * w) × (z ≡ table (λ (i : ℕ). 0) 0 n)
 
-  absent : (n : ℕ) (z : List ℕ) → isFound colours h w reference tolerance ≡ false → Cleared z n → Answered Absent z
-  unfolding groundFor groundPlane
+  absent : (n : ℕ) (z : List ℕ) → is_found colours h w reference tolerance ≡ false → Cleared z n → Answered Absent z
+  unfolding ground_for ground_plane
   absent n z t e = (rw t, rw (t, ← e.0) e.1)
 
   -- too few are close
-  pub absent-few : (p : List ℕ) (n : ℕ) (z : List ℕ) → p ≡ close → nineTenths p ≡ false → Cleared z n → Answered Absent z
-  unfolding isFound found_from
-  absent-few p n z e t q = let u : nineTenths close ≡ false = rw e at t in absent n z (rw u) q
+  pub absent-few : (p : List ℕ) (n : ℕ) (z : List ℕ) → p ≡ close → nine_tenths p ≡ false → Cleared z n → Answered Absent z
+  unfolding is_found found_from
+  absent-few p n z e t q = let u : nine_tenths close ≡ false = rw e at t in absent n z (rw u) q
 
-  module _ (p v : List ℕ) (e : p ≡ close) (q : v ≡ groundFrom p h w) (m : length v ≡ h * w) where
-    ground-is : v ≡ groundOf colours h w reference tolerance
-    unfolding groundOf
-    ground-is = q ∙ ap (λ (t : List ℕ). groundFrom t h w) e
+  module _ (p v : List ℕ) (e : p ≡ close) (q : v ≡ ground_from p h w) (m : length v ≡ h * w) where
+    ground-is : v ≡ ground_of colours h w reference tolerance
+    unfolding ground_of
+    ground-is = q ∙ ap (λ (t : List ℕ). ground_from t h w) e
 
-    off-is : (b : Bool) → someOff v (length v) ≡ b → someOff (groundOf colours h w reference tolerance) (h * w) ≡ b
+    off-is : (b : Bool) → some_off v (length v) ≡ b → some_off (ground_of colours h w reference tolerance) (h * w) ≡ b
     off-is b t = rw (← ground-is, ← m) t
 
     -- all is ground
-    pub absent-full : (n : ℕ) (z : List ℕ) → someOff v (length v) ≡ false → Cleared z n → Answered Absent z
-    unfolding isFound found_from groundOf
-    absent-full n z t y = absent n z (ap (λ (b : Bool). nineTenths close && b) (off-is false t) ∙ and_no (nineTenths close)) y
+    pub absent-full : (n : ℕ) (z : List ℕ) → some_off v (length v) ≡ false → Cleared z n → Answered Absent z
+    unfolding is_found found_from ground_of
+    absent-full n z t y = absent n z (ap (λ (b : Bool). nine_tenths close && b) (off-is false t) ∙ and_no (nine_tenths close)) y
 
     -- the ground is found
-    pub found : nineTenths p ≡ true → someOff v (length v) ≡ true → Answered (Found reference) v
-    unfolding groundFor groundPlane isFound found_from groundOf
+    pub found : nine_tenths p ≡ true → some_off v (length v) ≡ true → Answered (Found reference) v
+    unfolding ground_for ground_plane is_found found_from ground_of
     found s t =
-        let u : nineTenths close ≡ true = rw e at s in
-        let f : isFound colours h w reference tolerance ≡ true = rw (u, off-is true t) in
+        let u : nine_tenths close ≡ true = rw e at s in
+        let f : is_found colours h w reference tolerance ≡ true = rw (u, off-is true t) in
         (rw f, rw f ground-is)

@@ -11,10 +11,10 @@ use lib.Seq.{take-suc, take-suc-set}
 use lib.Ieee.{Float, nan}
 use Rattle.colour.specs.Number.{Binary64}
 use Rattle.colour.proofs.Range.{colours-at, colours-all}
-use Rattle.median.specs.steps.Values.{floatsOf}
+use Rattle.median.specs.steps.Values.{floats_of}
 use Rattle.median.specs.steps.Select.{Channel}
 use Rattle.median.proofs.Values.{floats-length}
-use Rattle.outline.specs.Border.{borderList, channelAt}
+use Rattle.outline.specs.Border.{border_list, channel_at}
 use Rattle.outline.proofs.Borders.{mapped_at}
 use Rattle.flood.proofs.Border.{border-length, border-in}
 use Rattle.ground.specs.steps.Picture.{Picture}
@@ -36,20 +36,20 @@ sides-sum zero w a b = absurd (not-suc-le-zero a)
 sides-sum (suc n) w a b = let z : n * 1 ≤ n * w = mul-le-mul_left n b in omega (arith, suc-mul n w, mul-one n)
 
 module _ {colours : List Float} {h w : ℕ} {work : List ℕ} (p : Picture colours h w work) where
-  pub values-room : (v : List ℕ) → length v ≡ length work → length (borderList h w) ≤ length (floatsOf v)
+  pub values-room : (v : List ℕ) → length v ≡ length work → length (border_list h w) ≤ length (floats_of v)
   values-room v e =
       omega (arith, floats-length v, p.room, border-length h w, sides-sum h w p.sides.some-rows p.sides.some-columns)
 
   module _ {c : ℕ} (channel : c < 3) where
     -- ---- they are in range, and binary64 numbers
     abbrev values : List Float
-    values = map (channelAt colours c) (borderList h w)
+    values = map (channel_at colours c) (border_list h w)
 
     entry : (k : ℕ) → k < length values → (i : ℕ) × (3 * i + c < length colours) × (get_or values k nan ≡ get_or colours (3 * i + c) nan)
-    unfolding channelAt
+    unfolding channel_at
     entry k l =
-        let m : k < length (borderList h w) = omega (arith, length-map (borderList h w) (channelAt colours c)) in
-        (get_or (borderList h w) k 0, omega (arith, p.input, border-in k p.sides m), mapped_at (channelAt colours c) (borderList h w) k m)
+        let m : k < length (border_list h w) = omega (arith, length-map (border_list h w) (channel_at colours c)) in
+        (get_or (border_list h w) k 0, omega (arith, p.input, border-in k p.sides m), mapped_at (channel_at colours c) (border_list h w) k m)
 
     pub border-held : Binary64 colours → Binary64 values
     border-held f k l = let z = entry k l in rw z.2 (f (3 * z.0 + c) z.1)
@@ -57,6 +57,6 @@ module _ {colours : List Float} {h w : ℕ} {work : List ℕ} (p : Picture colou
     -- so the median of them is asked rightly
     pub border-channel : Channel values
     border-channel = record {
-      some = omega (arith, length-map (borderList h w) (channelAt colours c), border-length h w, p.sides.some-columns);
+      some = omega (arith, length-map (border_list h w) (channel_at colours c), border-length h w, p.sides.some-columns);
       ok = colours-all values (λ k l. (let z = entry k l in rw z.2 (colours-at colours p.range (3 * z.0 + c) z.1)));
     }

@@ -3,11 +3,11 @@
 ghost use Rattle.std.specs.Prelude.{◌≡◌, true, ℕ, ◌*◌, ◌<◌, leb, length};
 ghost use Rattle.plane.specs.Plane.{table};
 ghost use Rattle.plane.specs.Mask.{mask_of};
-ghost use Rattle.colour.specs.Colour.{colourOk, rgbOk};
-ghost use Rattle.card.specs.steps.Range.{cardOk};
-ghost use Rattle.outline.specs.Border.{borderList, referenceChannel, referenceOf, referenceOn};
-ghost use Rattle.outline.specs.Ground.{isClose, countOn, groundPlane};
-ghost use Rattle.outline.specs.Answer.{groundFor};
+ghost use Rattle.colour.specs.Colour.{colour_ok, rgb_ok};
+ghost use Rattle.card.specs.steps.Range.{card_ok};
+ghost use Rattle.outline.specs.Border.{border_list, reference_channel, reference_of, reference_on};
+ghost use Rattle.outline.specs.Ground.{is_close, count_on, ground_plane};
+ghost use Rattle.outline.specs.Answer.{ground_for};
 ghost use Rattle.flood.specs.steps.Flood.{Closed};
 ghost use Rattle.ground.specs.steps.Picture.{Picture, Given, Closes};
 
@@ -19,8 +19,8 @@ use outline::Ground;
 fn channel(colours: &[f64], h: usize, w: usize, c: usize, work: &mut [u32]) -> f64
     requires picture { Picture colours.now h w work.old }
     requires c_bound { c < 3 }
-    ensures value { result ≡ referenceChannel colours.now h w c }
-    ensures result_value { colourOk result ≡ true }
+    ensures value { result ≡ reference_channel colours.now h w c }
+    ensures result_value { colour_ok result ≡ true }
 {
     let n = flood::border_count(h, w);
     for k in 0..n {
@@ -33,8 +33,8 @@ fn channel(colours: &[f64], h: usize, w: usize, c: usize, work: &mut [u32]) -> f
 // The reference colour of the border.
 pub fn reference(colours: &[f64], h: usize, w: usize, work: &mut [u32]) -> Rgb
     requires { Picture colours.now h w work.old }
-    ensures value { result ≡ referenceOf colours.now h w }
-    ensures result_value { rgbOk result ≡ true }
+    ensures value { result ≡ reference_of colours.now h w }
+    ensures result_value { rgb_ok result ≡ true }
 {
     let r = channel(colours, h, w, 0, work);
     let g = channel(colours, h, w, 1, work);
@@ -45,9 +45,9 @@ pub fn reference(colours: &[f64], h: usize, w: usize, work: &mut [u32]) -> Rgb
 // The reference on a card: the colour that is given, or else that of the border.
 pub fn reference_on(colours: &[f64], h: usize, w: usize, card: Card, work: &mut [u32]) -> Rgb
     requires picture { Picture colours.now h w work.old }
-    requires card_value { cardOk card ≡ true }
-    ensures value { result ≡ referenceOn card colours.now h w }
-    ensures result_value { rgbOk result ≡ true }
+    requires card_value { card_ok card ≡ true }
+    ensures value { result ≡ reference_on card colours.now h w }
+    ensures result_value { rgb_ok result ≡ true }
 {
     let Card::Given(given) = card else {
         return reference(colours, h, w, work);
@@ -58,7 +58,7 @@ pub fn reference_on(colours: &[f64], h: usize, w: usize, card: Card, work: &mut 
 // 1 where a pixel is close to the reference, else 0.
 fn close_plane(colours: &[f64], reference: Rgb, tolerance: f64, out: &mut [u8])
     requires { Closes colours.now reference out.old }
-    ensures { out.new ≡ mask_of (length out.old) (isClose colours.now reference tolerance) }
+    ensures { out.new ≡ mask_of (length out.old) (is_close colours.now reference tolerance) }
 {
     for i in 0..out.len() {
         let p = Rgb {
@@ -73,7 +73,7 @@ fn close_plane(colours: &[f64], reference: Rgb, tolerance: f64, out: &mut [u8])
 // Whether at least nine tenths of the border list are on.
 fn mostly(mask: &[u8], h: usize, w: usize) -> bool
     requires { Closed mask.now h w }
-    ensures { result ≡ leb (9 * length (borderList h w)) (10 * countOn mask.now (borderList h w)) }
+    ensures { result ≡ leb (9 * length (border_list h w)) (10 * count_on mask.now (border_list h w)) }
 {
     let total = flood::border_count(h, w);
     let mut count = 0usize;
@@ -104,9 +104,9 @@ pub fn ground_from(
     out: &mut [u8],
 ) -> Ground
     requires given { Given colours.now h w work.old out.old }
-    requires reference_value { rgbOk reference ≡ true }
-    ensures value { result ≡ groundFor 0 colours.now h w reference tolerance }
-    ensures out_after { out.new ≡ groundPlane colours.now h w reference tolerance }
+    requires reference_value { rgb_ok reference ≡ true }
+    ensures value { result ≡ ground_for 0 colours.now h w reference tolerance }
+    ensures out_after { out.new ≡ ground_plane colours.now h w reference tolerance }
 {
     close_plane(colours, reference, tolerance, out);
     if !mostly(out, h, w) {
@@ -132,9 +132,9 @@ pub fn flat_ground(
     out: &mut [u8],
 ) -> Ground
     requires given { Given colours.now h w work.old out.old }
-    requires card_value { cardOk card ≡ true }
-    ensures value { result ≡ groundFor 0 colours.now h w (referenceOn card colours.now h w) tolerance }
-    ensures out_after { out.new ≡ groundPlane colours.now h w (referenceOn card colours.now h w) tolerance }
+    requires card_value { card_ok card ≡ true }
+    ensures value { result ≡ ground_for 0 colours.now h w (reference_on card colours.now h w) tolerance }
+    ensures out_after { out.new ≡ ground_plane colours.now h w (reference_on card colours.now h w) tolerance }
 {
     let card_colour = reference_on(colours, h, w, card, work);
     ground_from(colours, h, w, card_colour, tolerance, work, out)

@@ -9,47 +9,47 @@ use native.Mathlib.Omega.{arith}
 use lib.ListN.{length}
 use Rattle.plane.proofs.Mask.{mask-same, mask-length, mask-on, index_on}
 use Rattle.plane.specs.Plane.{bit, apart, table}
-use Rattle.plane.specs.Search.{someBelow}
+use Rattle.plane.specs.Search.{some_below}
 use Rattle.plane.proofs.Search.{either, some_same}
 use Rattle.plane.proofs.Plane.{row_of, column-of, plane-index, table_same, on_bit}
-use Rattle.plane.specs.Mask.{isOn, mask_of}
-use Rattle.plane.specs.steps.Complement.{complementOf}
-use Rattle.squares.specs.Squares.{reach, inSquare, squaresPlane}
+use Rattle.plane.specs.Mask.{is_on, mask_of}
+use Rattle.plane.specs.steps.Complement.{complement_of}
+use Rattle.squares.specs.Squares.{reach, in_square, squares_plane}
 use Rattle.squares.proofs.Laws.{reach-some, square-is, squares-length}
-use Rattle.outline.specs.Growth.{nearGround, isEdge, isShallow, isDeep}
-use Rattle.growth.specs.steps.Marks.{edgeTest, edgeMark}
+use Rattle.outline.specs.Growth.{near_ground, is_edge, is_shallow, is_deep}
+use Rattle.growth.specs.steps.Marks.{edge_test, edge_mark}
 
 -- ---- planes by dilation
 
 module _ (back : List ℕ) (h w : ℕ) (wide : 0 < w) where
   -- the pixels that are not within k of the background
   abbrev far : ℕ → ℕ → Bool
-  far k i = not (nearGround back h w k i)
+  far k i = not (near_ground back h w k i)
 
   abbrev shallows : ℕ → Bool
-  shallows = isShallow back h w
+  shallows = is_shallow back h w
 
   -- the dilation tells what is near the background
-  dilated-on : (k i : ℕ) → 0 < k → i < h * w → isOn (squaresPlane back h w k) i ≡ nearGround back h w k i
-  unfolding isOn squaresPlane nearGround
+  dilated-on : (k i : ℕ) → 0 < k → i < h * w → is_on (squares_plane back h w k) i ≡ near_ground back h w k i
+  unfolding is_on squares_plane near_ground
   dilated-on k i p l =
-      rw (plane-index h w (λ (y x : ℕ). bit (inSquare back h w (reach h w k) y x)) i 0 wide l, on_bit, reach-some h w k p)
+      rw (plane-index h w (λ (y x : ℕ). bit (in_square back h w (reach h w k) y x)) i 0 wide l, on_bit, reach-some h w k p)
 
   -- what is not near it, by the dilation
-  far_from : (k : ℕ) → 0 < k → complementOf (squaresPlane back h w k) ≡ mask_of (h * w) (far k)
-  unfolding complementOf
+  far_from : (k : ℕ) → 0 < k → complement_of (squares_plane back h w k) ≡ mask_of (h * w) (far k)
+  unfolding complement_of
   far_from k p =
-      let there : ℕ → Bool = λ (i : ℕ). not (isOn (squaresPlane back h w k) i) in
+      let there : ℕ → Bool = λ (i : ℕ). not (is_on (squares_plane back h w k) i) in
       ap (λ (n : ℕ). mask_of n there) (squares-length back h w k)
       ∙ mask-same (h * w) there (far k) (λ i l. ap not (dilated-on k i p l))
 
-  pub deep-laid : complementOf (squaresPlane back h w 4) ≡ mask_of (h * w) (isDeep back h w)
-  unfolding isDeep
+  pub deep-laid : complement_of (squares_plane back h w 4) ≡ mask_of (h * w) (is_deep back h w)
+  unfolding is_deep
   deep-laid = far_from 4 (omega arith)
 
   -- the background is near itself
-  self-near : (i : ℕ) → i < h * w → isOn back i ≡ true → nearGround back h w 1 i ≡ true
-  unfolding nearGround apart
+  self-near : (i : ℕ) → i < h * w → is_on back i ≡ true → near_ground back h w 1 i ≡ true
+  unfolding near_ground apart
   self-near i l e =
       square-is
       (record {
@@ -63,14 +63,14 @@ module _ (back : List ℕ) (h w : ℕ) (wide : 0 < w) where
       })
 
   shallow-is : (i : ℕ) → i < h * w → far 1 i ≡ shallows i
-  unfolding isShallow
+  unfolding is_shallow
   shallow-is i l =
-      ⊎_elim {C = far 1 i ≡ not (isOn back i) && far 1 i}
-      (λ (e : isOn back i ≡ true). rw (e, self-near i l e))
-      (λ (e : isOn back i ≡ false). rw e)
-      (either (isOn back i))
+      ⊎_elim {C = far 1 i ≡ not (is_on back i) && far 1 i}
+      (λ (e : is_on back i ≡ true). rw (e, self-near i l e))
+      (λ (e : is_on back i ≡ false). rw e)
+      (either (is_on back i))
 
-  pub shallow-laid : complementOf (squaresPlane back h w 1) ≡ mask_of (h * w) shallows
+  pub shallow-laid : complement_of (squares_plane back h w 1) ≡ mask_of (h * w) shallows
   shallow-laid = far_from 1 (omega arith) ∙ mask-same (h * w) (far 1) shallows shallow-is
 
   tests : (s a b : Bool) → s && not a && not (not a && not b) ≡ s && (not a && b)
@@ -81,12 +81,12 @@ module _ (back : List ℕ) (h w : ℕ) (wide : 0 < w) where
 
   -- the edge pixels are what is neither background nor shallow
   pub edge-laid : (shallow : List ℕ) → shallow ≡ mask_of (h * w) shallows
-      → mask_of (h * w) (edgeTest (someBelow (length shallow) (isOn shallow)) back shallow) ≡ table (edgeMark back h w) 0 (h * w)
-  unfolding mask_of edgeTest edgeMark isEdge isShallow
+      → mask_of (h * w) (edge_test (some_below (length shallow) (is_on shallow)) back shallow) ≡ table (edge_mark back h w) 0 (h * w)
+  unfolding mask_of edge_test edge_mark is_edge is_shallow
   edge-laid shallow e =
-      let same : (i : ℕ) → i < h * w → isOn shallow i ≡ shallows i = λ i l. rw e (mask-on (h * w) shallows i l) in
-      let known : someBelow (length shallow) (isOn shallow) ≡ someBelow (h * w) shallows =
-      ap (λ (n : ℕ). someBelow n (isOn shallow)) (ap length e ∙ mask-length (h * w) shallows)
-      ∙ some_same (isOn shallow) shallows (h * w) same in
-      table_same (λ (i : ℕ). bit (edgeTest (someBelow (length shallow) (isOn shallow)) back shallow i)) (edgeMark back h w) (h * w) 0
-      (λ i l. rw (known, same i l) (ap bit (tests (someBelow (h * w) shallows) (isOn back i) (nearGround back h w 1 i))))
+      let same : (i : ℕ) → i < h * w → is_on shallow i ≡ shallows i = λ i l. rw e (mask-on (h * w) shallows i l) in
+      let known : some_below (length shallow) (is_on shallow) ≡ some_below (h * w) shallows =
+      ap (λ (n : ℕ). some_below n (is_on shallow)) (ap length e ∙ mask-length (h * w) shallows)
+      ∙ some_same (is_on shallow) shallows (h * w) same in
+      table_same (λ (i : ℕ). bit (edge_test (some_below (length shallow) (is_on shallow)) back shallow i)) (edge_mark back h w) (h * w) 0
+      (λ i l. rw (known, same i l) (ap bit (tests (some_below (h * w) shallows) (is_on back i) (near_ground back h w 1 i))))

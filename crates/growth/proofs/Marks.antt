@@ -12,26 +12,26 @@ use lib.Ieee.{Float}
 use lib.ListN.{length}
 use borrow.Author.Tests.{lt-ltb, le-ltb}
 use Rattle.plane.proofs.Mask.{mask-same}
-use Rattle.plane.specs.Plane.{bit, onAt, table, index_of}
-use Rattle.plane.specs.Search.{someBelow}
+use Rattle.plane.specs.Plane.{bit, on_at, table, index_of}
+use Rattle.plane.specs.Search.{some_below}
 use Rattle.plane.proofs.Search.{none_found, some_same}
 use Rattle.plane.proofs.Plane.{pixel-in, table-length, table_at, table_same, on_bit}
-use Rattle.plane.specs.Mask.{isOn, mask_of}
+use Rattle.plane.specs.Mask.{is_on, mask_of}
 use Rattle.nearest.specs.Nearest.{nearest}
 use Rattle.nearest.proofs.Laws.{nothing-on}
 use Rattle.colour.specs.declared.Rgb.{Rgb}
-use Rattle.nearest.specs.steps.Indices.{indicesPlane}
-use Rattle.outline.specs.Growth.{isEdge, isShallow, isReach, bodyFrom, joinsFrom, isJoining, passOf}
-use Rattle.window.specs.steps.Window.{nearPixel}
-use Rattle.growth.specs.steps.Marks.{joinsWith, waits, edgeMark, nearMark, searchMark, lastMark, decidedMark, Laid}
+use Rattle.nearest.specs.steps.Indices.{indices_plane}
+use Rattle.outline.specs.Growth.{is_edge, is_shallow, is_reach, body_from, joins_from, is_joining, pass_of}
+use Rattle.window.specs.steps.Window.{near_pixel}
+use Rattle.growth.specs.steps.Marks.{joins_with, waits, edge_mark, near_mark, search_mark, last_mark, decided_mark, Laid}
 use Rattle.window.proofs.Searching.{near_none, near-some}
 use Rattle.window.proofs.Indices.{index-inside, indices-at}
 
 -- without a deep pixel none is near enough
-pub near-empty : (deep : List ℕ) (h w y x : ℕ) → someBelow (h * w) (isOn deep) ≡ false → nearPixel deep h w y x ≡ h * w
-unfolding isReach onAt isOn
+pub near-empty : (deep : List ℕ) (h w y x : ℕ) → some_below (h * w) (is_on deep) ≡ false → near_pixel deep h w y x ≡ h * w
+unfolding is_reach on_at is_on
 near-empty deep h w y x e =
-    let z = nothing-on deep h w y x (λ j i a b. none_found (isOn deep) (h * w) e (j * w + i) (pixel-in j i h w a b)) in
+    let z = nothing-on deep h w y x (λ j i a b. none_found (is_on deep) (h * w) e (j * w + i) (pixel-in j i h w a b)) in
     near_none deep h w y x (rw z)
 
 -- a mark that is decided does not wait
@@ -42,20 +42,20 @@ bit-decided false = refl
 
 module _ (colours : List Float) (reference : Rgb) (deep shallow : List ℕ) (h w : ℕ) (wide : 0 < w) where
   -- pixel i is decided by its body pixel; its nearest shallow pixel
-  abbrev byBody : ℕ → ℕ
-  byBody i = bit (joinsWith colours reference (bodyFrom deep shallow h w i) i)
+  abbrev by_body : ℕ → ℕ
+  by_body i = bit (joins_with colours reference (body_from deep shallow h w i) i)
 
-  abbrev nearShallow : ℕ → ℕ
-  nearShallow i = index_of w (nearest shallow h w (i / w) (i % w))
+  abbrev near_shallow : ℕ → ℕ
+  near_shallow i = index_of w (nearest shallow h w (i / w) (i % w))
 
   abbrev Marked : ℕ → Type 0
   Marked i =
-      (nearMark colours reference deep h w i ≡ byBody i)
-      ⊎ ((nearMark colours reference deep h w i ≡ waits) × (bodyFrom deep shallow h w i ≡ nearShallow i))
+      (near_mark colours reference deep h w i ≡ by_body i)
+      ⊎ ((near_mark colours reference deep h w i ≡ waits) × (body_from deep shallow h w i ≡ near_shallow i))
 
   -- a deep pixel is near enough and gives the body colour, or the pixel waits and the nearest shallow pixel does
-  marked : (i : ℕ) → i < h * w → (t : Bool) → isReach (i / w) (i % w) (nearest deep h w (i / w) (i % w)) ≡ t → Marked i
-  unfolding bodyFrom nearMark
+  marked : (i : ℕ) → i < h * w → (t : Bool) → is_reach (i / w) (i % w) (nearest deep h w (i / w) (i % w)) ≡ t → Marked i
+  unfolding body_from near_mark
   marked i l true e =
       let found = nearest deep h w (i / w) (i % w) in
       let inside = index-inside deep h w (i / w) (i % w) found (omega arith) refl in
@@ -64,39 +64,39 @@ module _ (colours : List Float) (reference : Rgb) (deep shallow : List ℕ) (h w
 
   module _ (marks : List ℕ) where
     abbrev searched : ℕ → ℕ
-    searched = searchMark colours reference deep h w marks
+    searched = search_mark colours reference deep h w marks
 
     abbrev decided : ℕ → ℕ
-    decided = decidedMark colours reference deep shallow h w marks
+    decided = decided_mark colours reference deep shallow h w marks
 
     -- the mark after the search, and then the last mark by the nearest shallow pixel
     abbrev Last : ℕ → Type 0
-    Last i = cond (eqb (searched i) waits) (bit (joinsWith colours reference (nearShallow i) i)) (searched i) ≡ decided i
+    Last i = cond (eqb (searched i) waits) (bit (joins_with colours reference (near_shallow i) i)) (searched i) ≡ decided i
 
-    last-is : (i : ℕ) → i < h * w → (t : Bool) → isOn marks i ≡ t → Last i
-    unfolding searchMark decidedMark
+    last-is : (i : ℕ) → i < h * w → (t : Bool) → is_on marks i ≡ t → Last i
+    unfolding search_mark decided_mark
     last-is i l true t =
         ⊎_elim {C = Last i}
-        (λ (d : nearMark colours reference deep h w i ≡ byBody i). rw (t, d, bit-decided))
-        (λ (d : (nearMark colours reference deep h w i ≡ waits) × (bodyFrom deep shallow h w i ≡ nearShallow i)). rw (t, d.0, d.1))
-        (marked i l (isReach (i / w) (i % w) (nearest deep h w (i / w) (i % w))) refl)
+        (λ (d : near_mark colours reference deep h w i ≡ by_body i). rw (t, d, bit-decided))
+        (λ (d : (near_mark colours reference deep h w i ≡ waits) × (body_from deep shallow h w i ≡ near_shallow i)). rw (t, d.0, d.1))
+        (marked i l (is_reach (i / w) (i % w) (nearest deep h w (i / w) (i % w))) refl)
     last-is i l false t = rw t
 
     -- the waiting pixels are decided by the plane of indices
-    pub decided-last : (near now : List ℕ) → near ≡ indicesPlane shallow h w → now ≡ table searched 0 (h * w)
-        → table (lastMark colours reference near now) 0 (length now) ≡ table decided 0 (h * w)
-    unfolding lastMark
+    pub decided-last : (near now : List ℕ) → near ≡ indices_plane shallow h w → now ≡ table searched 0 (h * w)
+        → table (last_mark colours reference near now) 0 (length now) ≡ table decided 0 (h * w)
+    unfolding last_mark
     decided-last near now e f =
-        ap (table (lastMark colours reference near now) 0) (ap length f ∙ table-length searched 0 (h * w))
-        ∙ table_same (lastMark colours reference near now) decided (h * w) 0
-        (λ i l. rw (f, e, table_at searched (h * w) i 0 l, indices-at shallow h w wide i l) (last-is i l (isOn marks i) refl))
+        ap (table (last_mark colours reference near now) 0) (ap length f ∙ table-length searched 0 (h * w))
+        ∙ table_same (last_mark colours reference near now) decided (h * w) 0
+        (λ i l. rw (f, e, table_at searched (h * w) i 0 l, indices-at shallow h w wide i l) (last-is i l (is_on marks i) refl))
 
     -- where none waits all are decided
-    pub decided-all : someBelow (h * w) (λ (i : ℕ). eqb (searched i) waits) ≡ false → table searched 0 (h * w) ≡ table decided 0 (h * w)
+    pub decided-all : some_below (h * w) (λ (i : ℕ). eqb (searched i) waits) ≡ false → table searched 0 (h * w) ≡ table decided 0 (h * w)
     decided-all settled =
         table_same searched decided (h * w) 0
         (λ i l.
-        let z : Last i = last-is i l (isOn marks i) refl in
+        let z : Last i = last-is i l (is_on marks i) refl in
         rw (none_found (λ (k : ℕ). eqb (searched k) waits) (h * w) settled i l) at z)
 
 -- ---- the pixels that join
@@ -110,28 +110,28 @@ tests false e j = refl
 module _ (colours : List Float) (reference : Rgb)
     (h w : ℕ) (back shallow deep edges : List ℕ) (laid : Laid back h w shallow deep edges) where
   abbrev joining : ℕ → Bool
-  joining = isJoining colours reference back h w
+  joining = is_joining colours reference back h w
 
-  edge_on : (i : ℕ) → i < h * w → isOn edges i ≡ someBelow (h * w) (isShallow back h w) && isEdge back h w i
-  unfolding isOn edgeMark
-  edge_on i l = rw (laid.marks-are, table_at (edgeMark back h w) (h * w) i 0 l, on_bit)
+  edge_on : (i : ℕ) → i < h * w → is_on edges i ≡ some_below (h * w) (is_shallow back h w) && is_edge back h w i
+  unfolding is_on edge_mark
+  edge_on i l = rw (laid.marks-are, table_at (edge_mark back h w) (h * w) i 0 l, on_bit)
 
-  joining-is : (i : ℕ) → i < h * w → decidedMark colours reference deep shallow h w edges i ≡ bit (joining i)
-  unfolding decidedMark isJoining joinsFrom joinsWith
+  joining-is : (i : ℕ) → i < h * w → decided_mark colours reference deep shallow h w edges i ≡ bit (joining i)
+  unfolding decided_mark is_joining joins_from joins_with
   joining-is i l = rw (edge_on i l, laid.shallow-is, laid.deep_is, tests)
 
-  module _ (marks : List ℕ) (decided : marks ≡ table (decidedMark colours reference deep shallow h w edges) 0 (h * w)) where
+  module _ (marks : List ℕ) (decided : marks ≡ table (decided_mark colours reference deep shallow h w edges) 0 (h * w)) where
     -- the marks after the decision are the pixels that join
-    pub joins-on : (i : ℕ) → i < h * w → isOn marks i ≡ joining i
-    unfolding isOn
-    joins-on i l = rw (decided, table_at (decidedMark colours reference deep shallow h w edges) (h * w) i 0 l, joining-is i l, on_bit)
+    pub joins-on : (i : ℕ) → i < h * w → is_on marks i ≡ joining i
+    unfolding is_on
+    joins-on i l = rw (decided, table_at (decided_mark colours reference deep shallow h w edges) (h * w) i 0 l, joining-is i l, on_bit)
 
-    pub joins-some : (n : ℕ) → n ≡ h * w → someBelow n (isOn marks) ≡ someBelow (h * w) joining
-    joins-some n e = rw e (some_same (isOn marks) joining (h * w) joins-on)
+    pub joins-some : (n : ℕ) → n ≡ h * w → some_below n (is_on marks) ≡ some_below (h * w) joining
+    joins-some n e = rw e (some_same (is_on marks) joining (h * w) joins-on)
 
-    pub joins-pass : (n : ℕ) → n ≡ h * w → mask_of n (λ (i : ℕ). isOn back i || isOn marks i) ≡ passOf colours reference back h w
-    unfolding passOf
+    pub joins-pass : (n : ℕ) → n ≡ h * w → mask_of n (λ (i : ℕ). is_on back i || is_on marks i) ≡ pass_of colours reference back h w
+    unfolding pass_of
     joins-pass n e =
         rw e
-        (mask-same (h * w) (λ (i : ℕ). isOn back i || isOn marks i) (λ (i : ℕ). isOn back i || joining i)
-        (λ i l. ap (λ (t : Bool). isOn back i || t) (joins-on i l)))
+        (mask-same (h * w) (λ (i : ℕ). is_on back i || is_on marks i) (λ (i : ℕ). is_on back i || joining i)
+        (λ i l. ap (λ (t : Bool). is_on back i || t) (joins-on i l)))

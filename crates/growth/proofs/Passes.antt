@@ -7,11 +7,11 @@ use Prim.Native.Nat.{ℕ, zero, suc, ◌*◌, ◌-◌, ◌<◌}
 use native.Mathlib.Omega.{arith}
 use lib.Ieee.{Float}
 use Rattle.plane.proofs.Mask.{mask-same, mask-on}
-use Rattle.plane.specs.Search.{someBelow}
+use Rattle.plane.specs.Search.{some_below}
 use Rattle.plane.proofs.Search.{none_found, or_no}
-use Rattle.plane.specs.Mask.{isOn, mask_of}
+use Rattle.plane.specs.Mask.{is_on, mask_of}
 use Rattle.colour.specs.declared.Rgb.{Rgb}
-use Rattle.outline.specs.Growth.{isJoining, passOf, growthOf}
+use Rattle.outline.specs.Growth.{is_joining, pass_of, growth_of}
 
 -- fewer are left after a pass
 pub rest-less : (t : Bool) (n : ℕ) → 0 < n → cond t (n - 1) 0 < n
@@ -20,27 +20,27 @@ rest-less false n l = l
 
 module _ (colours : List Float) (reference : Rgb) (h w : ℕ) (back : List ℕ) where
   abbrev joining : ℕ → Bool
-  joining = isJoining colours reference back h w
+  joining = is_joining colours reference back h w
 
   abbrev next : List ℕ
-  next = passOf colours reference back h w
+  next = pass_of colours reference back h w
 
   -- a pass without a join leaves the background as it is
-  stays : someBelow (h * w) joining ≡ false → mask_of (h * w) (isOn back) ≡ mask_of (h * w) (isOn next)
-  unfolding passOf
+  stays : some_below (h * w) joining ≡ false → mask_of (h * w) (is_on back) ≡ mask_of (h * w) (is_on next)
+  unfolding pass_of
   stays e =
-      mask-same (h * w) (isOn back) (isOn next)
-      (λ i l. rw (mask-on (h * w) (λ (k : ℕ). isOn back k || joining k) i l, none_found joining (h * w) e i l, or_no))
+      mask-same (h * w) (is_on back) (is_on next)
+      (λ i l. rw (mask-on (h * w) (λ (k : ℕ). is_on back k || joining k) i l, none_found joining (h * w) e i l, or_no))
 
   -- one pass, and those that are left
   pub growth-step : (p left : ℕ) (joined : Bool) (new : List ℕ) → 0 < p → left ≡ cond joined (p - 1) 0
-      → joined ≡ someBelow (h * w) joining → new ≡ next → growthOf colours reference h w p back ≡ growthOf colours reference h w left new
-  unfolding growthOf
+      → joined ≡ some_below (h * w) joining → new ≡ next → growth_of colours reference h w p back ≡ growth_of colours reference h w left new
+  unfolding growth_of
   growth-step zero left joined new l r e f = absurd (omega arith)
   growth-step (suc p) left true new l r e f = let q : suc p - 1 ≡ p = omega arith in rw (sym e, r, q, f)
   growth-step (suc p) left false new l r e f = rw (sym e, r, f) (stays (sym e))
 
   -- none is left
-  pub growth-done : (p n : ℕ) → p ≡ 0 → n ≡ h * w → mask_of n (isOn back) ≡ growthOf colours reference h w p back
-  unfolding growthOf
+  pub growth-done : (p n : ℕ) → p ≡ 0 → n ≡ h * w → mask_of n (is_on back) ≡ growth_of colours reference h w p back
+  unfolding growth_of
   growth-done p n e f = rw (e, f)

@@ -2,13 +2,13 @@
 ghost use Rattle.std.specs.Prelude.{◌≡◌, cond, not, ◌||◌, ℕ, ◌+◌, ◌*◌, ◌-◌, ◌<◌, ◌≤◌, eqb, length, take};
 ghost use Rattle.plane.specs.Plane.{on, bit, table};
 ghost use Rattle.plane.specs.steps.Sides.{Sides};
-ghost use Rattle.plane.specs.Search.{someBelow};
-ghost use Rattle.plane.specs.Mask.{isOn, mask_of};
+ghost use Rattle.plane.specs.Search.{some_below};
+ghost use Rattle.plane.specs.Mask.{is_on, mask_of};
 ghost use Rattle.nearest.specs.steps.Room.{IndexRoom};
-ghost use Rattle.outline.specs.Border.{colourAt};
-ghost use Rattle.outline.specs.Growth.{isJoining, passOf, growthOf};
+ghost use Rattle.outline.specs.Border.{colour_at};
+ghost use Rattle.outline.specs.Growth.{is_joining, pass_of, growth_of};
 ghost use Rattle.window.specs.steps.Window.{Made};
-ghost use Rattle.growth.specs.steps.Marks.{joinsWith, edgeTest, nearMark, waits, searchMark, lastMark, decidedMark};
+ghost use Rattle.growth.specs.steps.Marks.{joins_with, edge_test, near_mark, waits, search_mark, last_mark, decided_mark};
 ghost use Rattle.growth.specs.steps.Marks.{Picture, Searches, Indexed, Decides, Planes, Laid, Room};
 
 use plane::byte;
@@ -16,7 +16,7 @@ use plane::byte;
 // The mark of a pixel that waits for its nearest shallow pixel.
 const WAITS: u8 = 2;
 
-// How far deep pixels are from the background (deepReach).
+// How far deep pixels are from the background (deep_reach).
 const DEEP_REACH: u64 = 4;
 
 // The edge pixels: neither background nor shallow; none where there is no shallow pixel at all.
@@ -24,7 +24,7 @@ fn edges(some: bool, back: &[u8], shallow: &[u8], marks: &mut [u8])
     requires shallow_len { length shallow.now ≡ length back.now }
     requires marks_len { length marks.old ≡ length back.now }
     ensures { marks.new ≡ mask_of (length back.now)
-        (edgeTest some back.now shallow.now) }
+        (edge_test some back.now shallow.now) }
 {
     let mut i = 0usize;
     while i < back.len() {
@@ -53,7 +53,7 @@ fn lay(back: &[u8], h: usize, w: usize, shallow: &mut [u8], deep: &mut [u8], mar
 // The colour of pixel i.
 fn colour_at(colours: &[f64], i: usize) -> colour::Rgb
     requires { 3 * i + 2 < length colours.now }
-    ensures { result ≡ colourAt colours.now i }
+    ensures { result ≡ colour_at colours.now i }
 {
     let k = 3 * i;
     colour::Rgb {
@@ -67,7 +67,7 @@ fn colour_at(colours: &[f64], i: usize) -> colour::Rgb
 fn joins_with(colours: &[f64], reference: colour::Rgb, b: usize, i: usize) -> bool
     requires b_in_bounds { 3 * b + 2 < length colours.now }
     requires i_in_bounds { 3 * i + 2 < length colours.now }
-    ensures { result ≡ joinsWith colours.now reference b i }
+    ensures { result ≡ joins_with colours.now reference b i }
 {
     let full = colour::difference(colour_at(colours, b), reference);
     let mixed = colour::difference(colour_at(colours, i), reference);
@@ -89,7 +89,7 @@ fn search_mark(
 ) -> u8
     requires searches { Searches colours.now h w deep.now nearest.now made some }
     requires i_bound { i < h * w }
-    ensures { result ≡ cond (on mark) (nearMark colours.now reference deep.now h w i) 0 }
+    ensures { result ≡ cond (on mark) (near_mark colours.now reference deep.now h w i) 0 }
 {
     if mark == 0 {
         return 0;
@@ -119,9 +119,9 @@ fn search(
     requires searches { Searches colours.now h w deep.now nearest.now made some }
     requires marks_len { length marks.old ≡ h * w }
     ensures marks_after { marks.new ≡ table
-        (searchMark colours.now reference deep.now h w marks.old) 0 (h * w) }
-    ensures value { result ≡ someBelow (h * w) (λ (i : ℕ).
-        eqb (searchMark colours.now reference deep.now h w marks.old i) waits) }
+        (search_mark colours.now reference deep.now h w marks.old) 0 (h * w) }
+    ensures value { result ≡ some_below (h * w) (λ (i : ℕ).
+        eqb (search_mark colours.now reference deep.now h w marks.old i) waits) }
 {
     let mut found = false;
     let mut m = 0u8;
@@ -141,7 +141,7 @@ fn search(
 fn last_mark(colours: &[f64], reference: colour::Rgb, body: u32, mark: u8, i: usize) -> u8
     requires body_in_bounds { 3 * body + 2 < length colours.now }
     requires i_in_bounds { 3 * i + 2 < length colours.now }
-    ensures { result ≡ cond (eqb mark waits) (bit (joinsWith colours.now reference body i)) mark }
+    ensures { result ≡ cond (eqb mark waits) (bit (joins_with colours.now reference body i)) mark }
 {
     if mark != WAITS {
         return mark;
@@ -153,7 +153,7 @@ fn last_mark(colours: &[f64], reference: colour::Rgb, body: u32, mark: u8, i: us
 fn decide_waiting(colours: &[f64], reference: colour::Rgb, nearest: &[u32], marks: &mut [u8])
     requires { Indexed colours.now nearest.now marks.old }
     ensures { marks.new ≡ table
-        (lastMark colours.now reference nearest.now marks.old) 0 (length marks.old) }
+        (last_mark colours.now reference nearest.now marks.old) 0 (length marks.old) }
 {
     let mut i = 0usize;
     while i < marks.len() {
@@ -166,8 +166,8 @@ fn decide_waiting(colours: &[f64], reference: colour::Rgb, nearest: &[u32], mark
 fn settle(marks: &[u8], back: &mut [u8]) -> bool
     requires { length marks.now ≡ length back.old }
     ensures back_after { back.new ≡ mask_of (length back.old)
-        (λ (i : ℕ). isOn back.old i || isOn marks.now i) }
-    ensures value { result ≡ someBelow (length back.old) (isOn marks.now) }
+        (λ (i : ℕ). is_on back.old i || is_on marks.now i) }
+    ensures value { result ≡ some_below (length back.old) (is_on marks.now) }
 {
     let mut joined = false;
     let mut i = 0usize;
@@ -182,7 +182,7 @@ fn settle(marks: &[u8], back: &mut [u8]) -> bool
 
 // The background's bytes as 0 and 1.
 fn tidy(back: &mut [u8])
-    ensures { back.new ≡ mask_of (length back.old) (isOn back.old) }
+    ensures { back.new ≡ mask_of (length back.old) (is_on back.old) }
 {
     let mut i = 0usize;
     while i < back.len() {
@@ -219,7 +219,7 @@ fn make_nearest(
     nearest: &mut [u32],
 ) -> bool
     requires index_room { IndexRoom h w deep.now nearest.old }
-    requires some_value { some ≡ someBelow (h * w) (isOn deep.now) }
+    requires some_value { some ≡ some_below (h * w) (is_on deep.now) }
     ensures { Made deep.now (take (h * w) nearest.new) result h w }
 {
     let made = some & many(marks);
@@ -243,7 +243,7 @@ fn decide(
 )
     requires { Decides colours.now h w shallow.now deep.now nearest.old marks.old }
     ensures { marks.new ≡ table
-        (decidedMark colours.now reference deep.now shallow.now h w marks.old) 0 (h * w) }
+        (decided_mark colours.now reference deep.now shallow.now h w marks.old) 0 (h * w) }
 {
     let n = marks.len();
     let some = plane::any(deep);
@@ -280,8 +280,8 @@ fn pass(
 ) -> bool
     requires picture { Picture colours.now h w }
     requires planes { Planes h w nearest.old shallow.old deep.old marks.old back.old }
-    ensures back_after { back.new ≡ passOf colours.now reference back.old h w }
-    ensures value { result ≡ someBelow (h * w) (isJoining colours.now reference back.old h w) }
+    ensures back_after { back.new ≡ pass_of colours.now reference back.old h w }
+    ensures value { result ≡ some_below (h * w) (is_joining colours.now reference back.old h w) }
 {
     lay(back, h, w, shallow, deep, marks);
     decide(colours, h, w, reference, shallow, deep, nearest, marks);
@@ -311,7 +311,7 @@ fn run(
 )
     requires picture { Picture colours.now h w }
     requires planes { Planes h w nearest.old shallow.old deep.old marks.old back.old }
-    ensures { back.new ≡ growthOf colours.now reference h w passes back.old }
+    ensures { back.new ≡ growth_of colours.now reference h w passes back.old }
 {
     let mut left = passes;
     while 0 < left {
@@ -338,7 +338,7 @@ pub fn grow(
     back: &mut [u8],
 )
     requires { Room colours.now h w nearest.old shallow.old deep.old marks.old back.old }
-    ensures { back.new ≡ growthOf colours.now reference h w passes back.old }
+    ensures { back.new ≡ growth_of colours.now reference h w passes back.old }
 {
     let n = back.len();
     run(

@@ -11,42 +11,42 @@ use lib.Ieee.{Float}
 use borrow.Author.Tests.{eq-eqb, ne_eqb, eqb-true, leb-true}
 use Rattle.plane.specs.steps.Sides.{Sides}
 use Rattle.plane.specs.declared.Box.{Box}
-use Rattle.plane.specs.Refusal.{Test, refusalOf, room_for}
+use Rattle.plane.specs.Refusal.{Test, refusal_of, room_for}
 use Rattle.plane.proofs.Refusal.{passed, declined-first, passed_first, sides-are, written, kept}
 use Rattle.geometry.specs.declared.Answer.TheVariants as answer
 use Rattle.geometry.proofs.Accepted.{done, declined}
 use Rattle.colour.specs.declared.Rgb.{Rgb}
 use Rattle.colour.specs.declared.Settings.{Settings}
-use Rattle.colour.specs.Colour.{coloursOk}
-use Rattle.colour.specs.Settings.{atLeastZero}
+use Rattle.colour.specs.Colour.{colours_ok}
+use Rattle.colour.specs.Settings.{at_least_zero}
 use Rattle.card.specs.declared.Card.{Card}
-use Rattle.outline.specs.Border.{referenceOn}
-use Rattle.outline.specs.Growth.{growthOf}
-use Rattle.outline.specs.Cut.{Cut, isKeyed, cutMask, weightsOf, cropOf, margin, cut_of}
-use Rattle.outline.specs.Calls.{Buffers, refusalIn, cut_in, HeldIn}
-use Rattle.outline.specs.Refusal.{workTests, groundLengths, growthLengths, cutLengths, pictureTests, cutContents}
-use Rattle.outline.specs.Refusal.{groundRefusal, growthRefusal, cutRefusal}
-use Rattle.outline.specs.Answer.{groundFor, outcomeFor, refusalOfOutcome}
+use Rattle.outline.specs.Border.{reference_on}
+use Rattle.outline.specs.Growth.{growth_of}
+use Rattle.outline.specs.Cut.{Cut, is_keyed, cut_mask, weights_of, crop_of, margin, cut_of}
+use Rattle.outline.specs.Calls.{Buffers, refusal_in, cut_in, HeldIn}
+use Rattle.outline.specs.Refusal.{work_tests, ground_lengths, growth_lengths, cut_lengths, picture_tests, cut_contents}
+use Rattle.outline.specs.Refusal.{ground_refusal, growth_refusal, cut_refusal}
+use Rattle.outline.specs.Answer.{ground_for, outcome_for, refusal_of_outcome}
 use Rattle.outline.specs.declared.Ground.TheVariants as ground
 use Rattle.outline.specs.declared.Outcome.TheVariants as outcome
-use Rattle.keying.specs.Calls.{groundRefusalIn, GroundCalled, GrowthBuffers, growthRefusalIn, GrowthCalled, Called}
+use Rattle.keying.specs.Calls.{ground_refusal_in, GroundCalled, GrowthBuffers, growth_refusal_in, GrowthCalled, Called}
 
 -- ---- answers
 
 pub ground-declined : (n : ℕ) (colours : List Float) (h w : ℕ) (reference : Rgb) (t : Float) → (n ≡ 0 → ⊥)
-    → ground.Refused n ≡ groundFor n colours h w reference t
-unfolding groundFor
+    → ground.Refused n ≡ ground_for n colours h w reference t
+unfolding ground_for
 ground-declined n colours h w reference t e = rw (ne_eqb n 0 e)
 
-pub cut-declined : (n : ℕ) (c : Cut) → (n ≡ 0 → ⊥) → outcome.Refused n ≡ outcomeFor n c
-unfolding outcomeFor
+pub cut-declined : (n : ℕ) (c : Cut) → (n ≡ 0 → ⊥) → outcome.Refused n ≡ outcome_for n c
+unfolding outcome_for
 cut-declined n c e = rw (ne_eqb n 0 e)
 
-pub refusal-of-outcome : (n : ℕ) (c : Cut) → refusalOfOutcome (outcomeFor n c) ≡ n
-unfolding outcomeFor
+pub refusal-of-outcome : (n : ℕ) (c : Cut) → refusal_of_outcome (outcome_for n c) ≡ n
+unfolding outcome_for
 refusal-of-outcome n c = at (eqb n 0) refl
   where
-    at : (t : Bool) → eqb n 0 ≡ t → refusalOfOutcome (cond t (outcome.Done c.keyed c.box) (outcome.Refused n)) ≡ n
+    at : (t : Bool) → eqb n 0 ≡ t → refusal_of_outcome (cond t (outcome.Done c.keyed c.box) (outcome.Refused n)) ≡ n
     at true e = sym (eqb-true n 0 e)
     at false e = refl
 
@@ -57,11 +57,11 @@ pub record GroundOk (colours : List Float) (h w out work : ℕ) : Type 0 where
   pub input : length colours ≡ 3 * (h * w)
   pub output : out ≡ h * w
   pub room : room_for h w ≤ work
-  pub range : coloursOk colours ≡ true
+  pub range : colours_ok colours ≡ true
 
-pub ground-ok : (colours : List Float) (h w : ℕ) (card : Card) (t : Float) (out work : ℕ) → groundRefusal colours h w card t out work ≡ 0
+pub ground-ok : (colours : List Float) (h w : ℕ) (card : Card) (t : Float) (out work : ℕ) → ground_refusal colours h w card t out work ≡ 0
     → GroundOk colours h w out work
-unfolding groundRefusal groundLengths pictureTests
+unfolding ground_refusal ground_lengths picture_tests
 ground-ok colours h w card t out work e =
     let p = passed _ refl e in
     record {
@@ -83,8 +83,8 @@ pub record GrowthOk (colours : List Float) (background : List ℕ) (h w : ℕ) (
   pub marks-long : room_for h w ≤ length b.marks
 
 pub growth-ok : (colours : List Float) (background : List ℕ) (h w : ℕ) (reference : Rgb) (b : GrowthBuffers)
-    → growthRefusalIn colours background h w reference b ≡ 0 → GrowthOk colours background h w b
-unfolding growthRefusal growthLengths workTests
+    → growth_refusal_in colours background h w reference b ≡ 0 → GrowthOk colours background h w b
+unfolding growth_refusal growth_lengths work_tests
 growth-ok colours background h w reference b e =
     let p = passed _ refl e in
     record {
@@ -102,59 +102,59 @@ growth-ok colours background h w reference b e =
 
 module _ (colours : List Float) (h w : ℕ) (card : Card) (t : Float) (work out : List ℕ) where
   abbrev ground-lengths : List Test
-  ground-lengths = groundLengths h w (length colours) (length out) (length work)
+  ground-lengths = ground_lengths h w (length colours) (length out) (length work)
 
-  ground-by-lengths : (refusalOf ground-lengths ≡ 0 → ⊥) → refusalOf ground-lengths ≡ groundRefusalIn colours h w card t work out
-  unfolding groundRefusal
+  ground-by-lengths : (refusal_of ground-lengths ≡ 0 → ⊥) → refusal_of ground-lengths ≡ ground_refusal_in colours h w card t work out
+  unfolding ground_refusal
   ground-by-lengths bad = sym (declined-first ground-lengths _ bad)
 
-  pub ground-by-picture : refusalOf ground-lengths ≡ 0
-      → refusalOf (pictureTests card colours t) ≡ groundRefusalIn colours h w card t work out
-  unfolding groundRefusal
-  ground-by-picture e = sym (passed_first ground-lengths _ (unfold groundLengths in refl) e)
+  pub ground-by-picture : refusal_of ground-lengths ≡ 0
+      → refusal_of (picture_tests card colours t) ≡ ground_refusal_in colours h w card t work out
+  unfolding ground_refusal
+  ground-by-picture e = sym (passed_first ground-lengths _ (unfold ground_lengths in refl) e)
 
 module _ (colours : List Float) (alpha : List ℕ) (h w : ℕ) (card : Card) (s : Settings) (b : Buffers) where
   abbrev pub cut-lengths : List Test
   cut-lengths =
-      cutLengths h w (length colours) (length alpha) (length b.mask) (length b.weights)
+      cut_lengths h w (length colours) (length alpha) (length b.mask) (length b.weights)
       (length b.nearest) (length b.shallow) (length b.deep) (length b.marks)
 
-  cut-by-lengths : (refusalOf cut-lengths ≡ 0 → ⊥) → refusalOf cut-lengths ≡ refusalIn colours alpha h w card s b
-  unfolding cutRefusal
+  cut-by-lengths : (refusal_of cut-lengths ≡ 0 → ⊥) → refusal_of cut-lengths ≡ refusal_in colours alpha h w card s b
+  unfolding cut_refusal
   cut-by-lengths bad = sym (declined-first cut-lengths _ bad)
 
-  alpha-long : refusalOf cut-lengths ≡ 0 → length alpha ≡ h * w
-  unfolding cutLengths workTests
+  alpha-long : refusal_of cut-lengths ≡ 0 → length alpha ≡ h * w
+  unfolding cut_lengths work_tests
   alpha-long e = let p = passed _ refl e in eqb-true _ _ p.1.1.0
 
-  pub cut-by-contents : refusalOf cut-lengths ≡ 0
-      → refusalOf (cutContents card colours alpha (length alpha) s) ≡ refusalIn colours alpha h w card s b
-  unfolding cutRefusal
+  pub cut-by-contents : refusal_of cut-lengths ≡ 0
+      → refusal_of (cut_contents card colours alpha (length alpha) s) ≡ refusal_in colours alpha h w card s b
+  unfolding cut_refusal
   cut-by-contents e =
-      ap (λ (n : ℕ). refusalOf (cutContents card colours alpha n s)) (alpha-long e)
-      ∙ sym (passed_first cut-lengths _ (unfold cutLengths workTests in refl) e)
+      ap (λ (n : ℕ). refusal_of (cut_contents card colours alpha n s)) (alpha-long e)
+      ∙ sym (passed_first cut-lengths _ (unfold cut_lengths work_tests in refl) e)
 
 -- ---- what a call has done
 
 -- a search of the ground that is declined leaves its buffers as they were
 pub ground-refused : (colours : List Float) (h w : ℕ) (card : Card) (t : Float) (work out : List ℕ) (n : ℕ)
-    → n ≡ groundRefusalIn colours h w card t work out → (n ≡ 0 → ⊥) → GroundCalled colours h w card t work out (ground.Refused n) work out
+    → n ≡ ground_refusal_in colours h w card t work out → (n ≡ 0 → ⊥) → GroundCalled colours h w card t work out (ground.Refused n) work out
 ground-refused colours h w card t work out n e bad =
-    let bad' : groundRefusalIn colours h w card t work out ≡ 0 → ⊥ = λ q. bad (e ∙ q) in
+    let bad' : ground_refusal_in colours h w card t work out ≡ 0 → ⊥ = λ q. bad (e ∙ q) in
     record { answer = ap ground.Refused e ∙ ground-declined _ _ _ _ _ _ bad'; out-is = sym (kept _ _ _ bad'); kept = λ _. refl }
 
 -- so does one whose lengths are declined, whatever else it is lent
 pub ground-wrong-lengths : (colours : List Float) (h w : ℕ) (card : Card) (t : Float) (work out : List ℕ) (n : ℕ)
-    → n ≡ refusalOf (groundLengths h w (length colours) (length out) (length work)) → (n ≡ 0 → ⊥)
+    → n ≡ refusal_of (ground_lengths h w (length colours) (length out) (length work)) → (n ≡ 0 → ⊥)
     → GroundCalled colours h w card t work out (ground.Refused n) work out
 ground-wrong-lengths colours h w card t work out n e bad =
     ground-refused colours h w card t work out n (e ∙ ground-by-lengths colours h w card t work out (λ q. bad (e ∙ q))) bad
 
 -- a cut that is declined leaves its buffers as they were
 pub cut-refused : (colours : List Float) (alpha : List ℕ) (h w : ℕ) (card : Card) (s : Settings) (b : Buffers) (n : ℕ)
-    → n ≡ refusalIn colours alpha h w card s b → (n ≡ 0 → ⊥) → HeldIn colours s → Called colours alpha h w card s b (outcome.Refused n) b
+    → n ≡ refusal_in colours alpha h w card s b → (n ≡ 0 → ⊥) → HeldIn colours s → Called colours alpha h w card s b (outcome.Refused n) b
 cut-refused colours alpha h w card s b n e bad held =
-    let bad' : refusalIn colours alpha h w card s b ≡ 0 → ⊥ = λ q. bad (e ∙ q) in
+    let bad' : refusal_in colours alpha h w card s b ≡ 0 → ⊥ = λ q. bad (e ∙ q) in
     record {
       answer = ap outcome.Refused e ∙ cut-declined _ (cut_in colours alpha h w card s) bad';
       mask_is = sym (kept _ _ _ bad');
@@ -165,38 +165,38 @@ cut-refused colours alpha h w card s b n e bad held =
 
 -- so does one whose lengths are declined, whatever else it is lent
 pub cut-wrong-lengths : (colours : List Float) (alpha : List ℕ) (h w : ℕ) (card : Card) (s : Settings) (b : Buffers) (n : ℕ)
-    → n ≡ refusalOf (cut-lengths colours alpha h w card s b) → (n ≡ 0 → ⊥) → HeldIn colours s → Called colours alpha h w card s b (outcome.Refused n) b
+    → n ≡ refusal_of (cut-lengths colours alpha h w card s b) → (n ≡ 0 → ⊥) → HeldIn colours s → Called colours alpha h w card s b (outcome.Refused n) b
 cut-wrong-lengths colours alpha h w card s b n e bad =
     cut-refused colours alpha h w card s b n (e ∙ cut-by-lengths colours alpha h w card s b (λ q. bad (e ∙ q))) bad
 
 -- a cut that is accepted has made the mask, and from it weights and crop box
 pub cut-made : (colours : List Float) (alpha : List ℕ) (h w : ℕ) (card : Card) (s : Settings) (b b' : Buffers) (keyed : Bool) (box : Box)
-    → refusalIn colours alpha h w card s b ≡ 0 → keyed ≡ isKeyed colours alpha h w (referenceOn card colours h w) s
-    → b'.mask ≡ cutMask colours alpha h w (referenceOn card colours h w) s → b'.weights ≡ weightsOf b'.mask alpha (h * w)
-    → box ≡ cropOf b'.mask h w margin s.crop_to_alpha → HeldIn colours s
+    → refusal_in colours alpha h w card s b ≡ 0 → keyed ≡ is_keyed colours alpha h w (reference_on card colours h w) s
+    → b'.mask ≡ cut_mask colours alpha h w (reference_on card colours h w) s → b'.weights ≡ weights_of b'.mask alpha (h * w)
+    → box ≡ crop_of b'.mask h w margin s.crop_to_alpha → HeldIn colours s
     → Called colours alpha h w card s b (outcome.Done keyed box) b'
-unfolding outcomeFor cut_of
+unfolding outcome_for cut_of
 cut-made colours alpha h w card s b b' keyed box z k m v d held =
     record {
       answer = rw (eq-eqb _ 0 z, k, d, m);
       mask_is = m ∙ sym (written _ _ _ z);
-      weights-is = v ∙ ap (λ (q : List ℕ). weightsOf q alpha (h * w)) m ∙ sym (written _ _ _ z);
+      weights-is = v ∙ ap (λ (q : List ℕ). weights_of q alpha (h * w)) m ∙ sym (written _ _ _ z);
       kept = λ bad. absurd (bad z);
       held = held;
     }
 
 -- growth that is declined leaves its buffers as they were
 pub growth-refused : (colours : List Float) (background : List ℕ) (h w : ℕ) (reference : Rgb) (p : ℤ) (b : GrowthBuffers) (n : ℕ)
-    → n ≡ growthRefusalIn colours background h w reference b → (n ≡ 0 → ⊥)
+    → n ≡ growth_refusal_in colours background h w reference b → (n ≡ 0 → ⊥)
     → GrowthCalled colours background h w reference p b (answer.Refused n) b
 growth-refused colours background h w reference p b n e bad =
-    let bad' : growthRefusalIn colours background h w reference b ≡ 0 → ⊥ = λ q. bad (e ∙ q) in
+    let bad' : growth_refusal_in colours background h w reference b ≡ 0 → ⊥ = λ q. bad (e ∙ q) in
     record { answer = ap answer.Refused e ∙ declined _ bad'; out-is = sym (kept _ _ _ bad'); kept = λ _. refl }
 
 -- growth that is accepted has carried a copy of the background through its passes
 pub growth-made : (colours : List Float) (background : List ℕ) (h w : ℕ) (reference : Rgb) (p : ℤ)
     (b b' : GrowthBuffers) (n : ℕ) (copy : List ℕ)
-    → growthRefusalIn colours background h w reference b ≡ 0 → n ≡ atLeastZero p → copy ≡ background
-    → b'.out ≡ growthOf colours reference h w n copy → GrowthCalled colours background h w reference p b answer.Done b'
+    → growth_refusal_in colours background h w reference b ≡ 0 → n ≡ at_least_zero p → copy ≡ background
+    → b'.out ≡ growth_of colours reference h w n copy → GrowthCalled colours background h w reference p b answer.Done b'
 growth-made colours background h w reference p b b' n copy z e c o =
     record { answer = done _ z; out-is = o ∙ rw (e, c) (sym (written _ _ _ z)); kept = λ bad. absurd (bad z) }

@@ -14,8 +14,8 @@ use Rattle.plane.proofs.Refusal.{written}
 use Rattle.colour.specs.declared.Settings.{Settings}
 use Rattle.card.specs.declared.Card.{Card}
 use Rattle.outline.specs.Cut.{Cut}
-use Rattle.outline.specs.Answer.{outcomeFor, refusalOfOutcome}
-use Rattle.outline.specs.Calls.{Buffers, refusalIn, cut_in}
+use Rattle.outline.specs.Answer.{outcome_for, refusal_of_outcome}
+use Rattle.outline.specs.Calls.{Buffers, refusal_in, cut_in}
 use Rattle.outline.specs.Premises.{TwoCalls}
 use Rattle.outline.specs.declared.Outcome.{Outcome}
 use Rattle.outline.proofs.TwoPictures.{two-pictures}
@@ -25,23 +25,23 @@ use Rattle.keying.proofs.Accepted.{cut-declined, refusal-of-outcome}
 module _ (one two : List Float) (alpha : List ℕ) (h w : ℕ) (card card' : Card) (s t : Settings) (b c b' c' : Buffers) (r q : Outcome)
     (calls : TwoCalls one two alpha h w card card' s t b c) (first : Called one alpha h w card s b r b')
     (second : Called two alpha h w card' t c q c') where
-  refusals : refusalIn one alpha h w card s b ≡ refusalIn two alpha h w card' t c
+  refusals : refusal_in one alpha h w card s b ≡ refusal_in two alpha h w card' t c
   refusals = (two-pictures one two alpha h w card card' s t b c calls).refusals-alike
 
-  cuts : refusalIn one alpha h w card s b ≡ 0 → cut_in one alpha h w card s ≡ cut_in two alpha h w card' t
+  cuts : refusal_in one alpha h w card s b ≡ 0 → cut_in one alpha h w card s ≡ cut_in two alpha h w card' t
   cuts z = (two-pictures one two alpha h w card card' s t b c calls).cuts-alike z first.held second.held
 
   answers : r ≡ q
   answers =
-      let n = refusalIn one alpha h w card s b in
+      let n = refusal_in one alpha h w card s b in
       let x = cut_in one alpha h w card s in
       let y = cut_in two alpha h w card' t in
       first.answer
-      ∙ ⊎_elim {C = outcomeFor n x ≡ outcomeFor (refusalIn two alpha h w card' t c) y}
+      ∙ ⊎_elim {C = outcome_for n x ≡ outcome_for (refusal_in two alpha h w card' t c) y}
       (λ (e : eqb n 0 ≡ true). (let z = eqb-true _ 0 e in rw (cuts z, refusals)))
       (λ (e : eqb n 0 ≡ false).
       let bad = eqb-false _ 0 e in
-      sym (cut-declined _ x bad) ∙ cut-declined _ y bad ∙ ap (λ (k : ℕ). outcomeFor k y) refusals)
+      sym (cut-declined _ x bad) ∙ cut-declined _ y bad ∙ ap (λ (k : ℕ). outcome_for k y) refusals)
       (either (eqb n 0))
       ∙ sym second.answer
 
@@ -62,10 +62,10 @@ module _ (one two : List Float) (alpha : List ℕ) (h w : ℕ) (card card' : Car
       }
     where
       -- two outputs of accepted calls are equal where what is written to them is
-      kept-alike : {A : Type 0} {new₁ new₂ out₁ out₂ : A} (old₁ old₂ : A) → refusalIn one alpha h w card s b ≡ 0
-          → out₁ ≡ after (refusalIn one alpha h w card s b) new₁ old₁ → out₂ ≡ after (refusalIn two alpha h w card' t c) new₂ old₂
+      kept-alike : {A : Type 0} {new₁ new₂ out₁ out₂ : A} (old₁ old₂ : A) → refusal_in one alpha h w card s b ≡ 0
+          → out₁ ≡ after (refusal_in one alpha h w card s b) new₁ old₁ → out₂ ≡ after (refusal_in two alpha h w card' t c) new₂ old₂
           → new₁ ≡ new₂ → out₁ ≡ out₂
       kept-alike _ _ z p q e = p ∙ written _ _ _ z ∙ e ∙ sym (q ∙ written _ _ _ (sym refusals ∙ z))
 
-      accepted : refusalOfOutcome r ≡ 0 → refusalIn one alpha h w card s b ≡ 0
-      accepted e = sym (ap refusalOfOutcome first.answer ∙ refusal-of-outcome _ (cut_in one alpha h w card s)) ∙ e
+      accepted : refusal_of_outcome r ≡ 0 → refusal_in one alpha h w card s b ≡ 0
+      accepted e = sym (ap refusal_of_outcome first.answer ∙ refusal-of-outcome _ (cut_in one alpha h w card s)) ∙ e

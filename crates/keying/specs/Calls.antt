@@ -4,35 +4,35 @@
 use Rattle.std.specs.Prelude.{ℕ, ◌≡◌, List, length, ℤ, Float}
 use Rattle.plane.specs.Refusal.{after}
 use Rattle.geometry.specs.declared.Answer.{Answer}
-use Rattle.geometry.specs.Answer.{answerFor}
+use Rattle.geometry.specs.Answer.{answer_for}
 use Rattle.colour.specs.declared.Rgb.{Rgb}
 use Rattle.colour.specs.declared.Settings.{Settings}
-use Rattle.colour.specs.Settings.{atLeastZero}
+use Rattle.colour.specs.Settings.{at_least_zero}
 use Rattle.card.specs.declared.Card.{Card}
-use Rattle.outline.specs.Border.{referenceOn}
-use Rattle.outline.specs.Ground.{groundPlane}
-use Rattle.outline.specs.Growth.{growthOf}
-use Rattle.outline.specs.Refusal.{groundRefusal, growthRefusal}
-use Rattle.outline.specs.Answer.{groundFor, outcomeFor, refusalOfOutcome}
-use Rattle.outline.specs.Calls.{Buffers, refusalIn, cut_in, HeldIn}
+use Rattle.outline.specs.Border.{reference_on}
+use Rattle.outline.specs.Ground.{ground_plane}
+use Rattle.outline.specs.Growth.{growth_of}
+use Rattle.outline.specs.Refusal.{ground_refusal, growth_refusal}
+use Rattle.outline.specs.Answer.{ground_for, outcome_for, refusal_of_outcome}
+use Rattle.outline.specs.Calls.{Buffers, refusal_in, cut_in, HeldIn}
 use Rattle.outline.specs.declared.Ground.{Ground}
 use Rattle.outline.specs.declared.Outcome.{Outcome}
 use Rattle.next_pass.specs.declared.NextPass.{NextPass}
-use Rattle.next_pass.specs.NextPass.{nextBackground, joinsIn, nextPassFor}
+use Rattle.next_pass.specs.NextPass.{next_background, joins_in, next_pass_for}
 
 -- ---- flat_background, flat_background_with_colour
 
 -- the refusal of a call with these buffers, 0 where it is accepted (R55, R82)
-abbrev pub groundRefusalIn : List Float → ℕ → ℕ → Card → Float → List ℕ → List ℕ → ℕ
-groundRefusalIn colours h w card tolerance work out = groundRefusal colours h w card tolerance (length out) (length work)
+abbrev pub ground_refusal_in : List Float → ℕ → ℕ → Card → Float → List ℕ → List ℕ → ℕ
+ground_refusal_in colours h w card tolerance work out = ground_refusal colours h w card tolerance (length out) (length work)
 
 -- the ground of a picture on a card, by the reference of that card (R22, R83)
 pub record GroundCalled (colours : List Float) (h w : ℕ) (card : Card) (tolerance : Float) (work out : List ℕ)
     (r : Ground) (work' out' : List ℕ) : Type 0 where
-  pub answer : r ≡ groundFor (groundRefusalIn colours h w card tolerance work out) colours h w (referenceOn card colours h w) tolerance
-  pub out-is : out' ≡ after (groundRefusalIn colours h w card tolerance work out)
-      (groundPlane colours h w (referenceOn card colours h w) tolerance) out
-  pub kept : (groundRefusalIn colours h w card tolerance work out ≡ 0 → ⊥) → work' ≡ work
+  pub answer : r ≡ ground_for (ground_refusal_in colours h w card tolerance work out) colours h w (reference_on card colours h w) tolerance
+  pub out-is : out' ≡ after (ground_refusal_in colours h w card tolerance work out)
+      (ground_plane colours h w (reference_on card colours h w) tolerance) out
+  pub kept : (ground_refusal_in colours h w card tolerance work out ≡ 0 → ⊥) → work' ≡ work
 
 -- ---- unmix_fringe
 
@@ -45,28 +45,28 @@ pub record GrowthBuffers : Type 0 where
   pub marks : List ℕ
 
 -- the refusal of a call with these buffers (R56)
-abbrev pub growthRefusalIn : List Float → List ℕ → ℕ → ℕ → Rgb → GrowthBuffers → ℕ
-growthRefusalIn colours background h w reference b =
-    growthRefusal colours (length background) h w reference (length b.out)
+abbrev pub growth_refusal_in : List Float → List ℕ → ℕ → ℕ → Rgb → GrowthBuffers → ℕ
+growth_refusal_in colours background h w reference b =
+    growth_refusal colours (length background) h w reference (length b.out)
     (length b.nearest) (length b.shallow) (length b.deep) (length b.marks)
 
 -- the background after at most p passes (R29)
 pub record GrowthCalled (colours : List Float) (background : List ℕ) (h w : ℕ) (reference : Rgb) (p : ℤ) (b : GrowthBuffers)
     (r : Answer) (b' : GrowthBuffers) : Type 0 where
-  pub answer : r ≡ answerFor (growthRefusalIn colours background h w reference b)
-  pub out-is : b'.out ≡ after (growthRefusalIn colours background h w reference b)
-      (growthOf colours reference h w (atLeastZero p) background) b.out
-  pub kept : (growthRefusalIn colours background h w reference b ≡ 0 → ⊥) → b' ≡ b
+  pub answer : r ≡ answer_for (growth_refusal_in colours background h w reference b)
+  pub out-is : b'.out ≡ after (growth_refusal_in colours background h w reference b)
+      (growth_of colours reference h w (at_least_zero p) background) b.out
+  pub kept : (growth_refusal_in colours background h w reference b ≡ 0 → ⊥) → b' ≡ b
 
 -- ---- next_pass
 
 -- a look at the pass that comes after a background: the background after that pass, and the number of its joins (R89, R90)
 pub record NextPassCalled (colours : List Float) (background : List ℕ) (h w : ℕ) (reference : Rgb) (b : GrowthBuffers)
     (r : NextPass) (colours' : List Float) (background' : List ℕ) (b' : GrowthBuffers) : Type 0 where
-  pub answer : r ≡ nextPassFor (growthRefusalIn colours background h w reference b) (joinsIn colours reference h w background)
-  pub out-is : b'.out ≡ after (growthRefusalIn colours background h w reference b)
-      (nextBackground colours reference h w background) b.out
-  pub kept : (growthRefusalIn colours background h w reference b ≡ 0 → ⊥) → b' ≡ b
+  pub answer : r ≡ next_pass_for (growth_refusal_in colours background h w reference b) (joins_in colours reference h w background)
+  pub out-is : b'.out ≡ after (growth_refusal_in colours background h w reference b)
+      (next_background colours reference h w background) b.out
+  pub kept : (growth_refusal_in colours background h w reference b ≡ 0 → ⊥) → b' ≡ b
   -- what the call is lent to read stays as it was (R91)
   pub picture-kept : colours' ≡ colours
   pub background-kept : background' ≡ background
@@ -76,15 +76,15 @@ pub record NextPassCalled (colours : List Float) (background : List ℕ) (h w : 
 -- a call of the cut on a card, with these buffers, has answered r and left these (R63)
 pub record Called (colours : List Float) (alpha : List ℕ) (h w : ℕ) (card : Card) (s : Settings) (b : Buffers)
     (r : Outcome) (b' : Buffers) : Type 0 where
-  pub answer : r ≡ outcomeFor (refusalIn colours alpha h w card s b) (cut_in colours alpha h w card s)
-  pub mask_is : b'.mask ≡ after (refusalIn colours alpha h w card s b) (cut_in colours alpha h w card s).mask b.mask
-  pub weights-is : b'.weights ≡ after (refusalIn colours alpha h w card s b) (cut_in colours alpha h w card s).weights b.weights
-  pub kept : (refusalIn colours alpha h w card s b ≡ 0 → ⊥) → b' ≡ b
+  pub answer : r ≡ outcome_for (refusal_in colours alpha h w card s b) (cut_in colours alpha h w card s)
+  pub mask_is : b'.mask ≡ after (refusal_in colours alpha h w card s b) (cut_in colours alpha h w card s).mask b.mask
+  pub weights-is : b'.weights ≡ after (refusal_in colours alpha h w card s b) (cut_in colours alpha h w card s).weights b.weights
+  pub kept : (refusal_in colours alpha h w card s b ≡ 0 → ⊥) → b' ≡ b
   -- what is lent are binary64 numbers, as every f64 in memory is
   pub held : HeldIn colours s
 
 -- two calls have one outline: the same answer, and, accepted, the same mask and the same weights bit for bit (R66)
 pub record OneOutline (r q : Outcome) (b' c' : Buffers) : Type 0 where
   pub answers : r ≡ q
-  pub masks : refusalOfOutcome r ≡ 0 → b'.mask ≡ c'.mask
-  pub weights : refusalOfOutcome r ≡ 0 → b'.weights ≡ c'.weights
+  pub masks : refusal_of_outcome r ≡ 0 → b'.mask ≡ c'.mask
+  pub weights : refusal_of_outcome r ≡ 0 → b'.weights ≡ c'.weights

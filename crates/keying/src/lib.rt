@@ -1,11 +1,11 @@
 // Keying: the public calls of the upper layer. Each declines by its number, and a call that declines writes nothing. Ground and cut come
 // in two forms, without the card's colour and with a text that names it; both judge the lengths, and then share the rest.
 ghost use Rattle.std.specs.Prelude.{◌≡◌, true, length};
-ghost use Rattle.plane.specs.Refusal.{refusalOf};
+ghost use Rattle.plane.specs.Refusal.{refusal_of};
 ghost use Rattle.card.specs.declared.Card.TheVariants.{Border};
-ghost use Rattle.card.specs.Card.{cardOf};
-ghost use Rattle.card.specs.steps.Range.{cardOk};
-ghost use Rattle.outline.specs.Refusal.{groundLengths, cutLengths};
+ghost use Rattle.card.specs.Card.{card_of};
+ghost use Rattle.card.specs.steps.Range.{card_ok};
+ghost use Rattle.outline.specs.Refusal.{ground_lengths, cut_lengths};
 ghost use Rattle.keying.specs.Calls.{GroundCalled, GrowthCalled, NextPassCalled, Called};
 
 use card::Card;
@@ -24,8 +24,8 @@ fn ground_on(
     work: &mut [u32],
     out: &mut [u8],
 ) -> Ground
-    requires work_value { refusalOf (groundLengths h w (length colours.now) (length out.old) (length work.old)) ≡ 0 }
-    requires card_value { cardOk card ≡ true }
+    requires work_value { refusal_of (ground_lengths h w (length colours.now) (length out.old) (length work.old)) ≡ 0 }
+    requires card_value { card_ok card ≡ true }
     ensures { GroundCalled colours.now h w card tolerance
         work.old out.old result
         work.new out.new }
@@ -67,7 +67,7 @@ pub fn flat_background_with_colour(
     work: &mut [u32],
     out: &mut [u8],
 ) -> Ground
-    ensures { GroundCalled colours.now h w (cardOf text.now) tolerance
+    ensures { GroundCalled colours.now h w (card_of text.now) tolerance
         work.old out.old result
         work.new out.new }
 {
@@ -198,9 +198,9 @@ fn cut_on(
     mask: &mut [u8],
     weights: &mut [f64],
 ) -> Outcome
-    requires marks_value { refusalOf (cutLengths h w (length colours.now) (length alpha.now) (length mask.old) (length weights.old)
+    requires marks_value { refusal_of (cut_lengths h w (length colours.now) (length alpha.now) (length mask.old) (length weights.old)
         (length nearest.old) (length shallow.old) (length deep.old) (length marks.old)) ≡ 0 }
-    requires card_value { cardOk card ≡ true }
+    requires card_value { card_ok card ≡ true }
     ensures { Called colours.now alpha.now h w card s
         (record {
           mask = mask.entry.now;
@@ -309,7 +309,7 @@ pub fn subject_with_colour(
     mask: &mut [u8],
     weights: &mut [f64],
 ) -> Outcome
-    ensures { Called colours.now alpha.now h w (cardOf text.now) s
+    ensures { Called colours.now alpha.now h w (card_of text.now) s
         (record {
           mask = mask.entry.now;
           weights = weights.old;

@@ -4,16 +4,16 @@
 use mathlib.Core.Path.{◌≡◌, refl}
 use mathlib.Core.List.{List, [], ◌∷◌}
 use Prim.Native.Nat.{ℕ}
-use Rattle.plane.specs.Plane.{on, apart, table, rowsUpto, planeOf}
-use Rattle.plane.specs.Search.{countBelow}
-use Rattle.plane.specs.Mask.{isOn}
-use Rattle.labels.specs.Labels.{beside, renamed, merge, joinTwo, joinWith, joinUpto, firstPixel, isFirst}
-use Rattle.plane.specs.Box.{lesserOf}
-use Rattle.labels.specs.Labels.{parts, label_of, label_at, labelsPlane}
+use Rattle.plane.specs.Plane.{on, apart, table, rows_upto, plane_of}
+use Rattle.plane.specs.Search.{count_below}
+use Rattle.plane.specs.Mask.{is_on}
+use Rattle.labels.specs.Labels.{beside, renamed, merge, join_two, join_with, join_upto, first_pixel, is_first}
+use Rattle.plane.specs.Box.{lesser_of}
+use Rattle.labels.specs.Labels.{parts, label_of, label_at, labels_plane}
 
 -- a mask's labels and their number
 abbrev pub answer : List ℕ → ℕ → ℕ → List ℕ × ℕ
-answer mask h w = (labelsPlane mask h w, parts mask h w)
+answer mask h w = (labels_plane mask h w, parts mask h w)
 
 pub cases : answer (1 ∷ 0 ∷ 0 ∷ 1 ∷ []) 2 2
     ∷ answer (1 ∷ 0 ∷ 1 ∷ 1 ∷ 1 ∷ 1 ∷ []) 2 3
@@ -30,5 +30,5 @@ pub cases : answer (1 ∷ 0 ∷ 0 ∷ 1 ∷ []) 2 2
     ∷ (0 ∷ 0 ∷ 0 ∷ 0 ∷ [], 0)
     ∷ []
 cases =
-    unfold on apart table rowsUpto planeOf countBelow isOn beside lesserOf renamed merge joinTwo joinWith joinUpto
-    firstPixel isFirst parts label_of label_at labelsPlane in refl
+    unfold on apart table rows_upto plane_of count_below is_on beside lesser_of renamed merge join_two join_with join_upto
+    first_pixel is_first parts label_of label_at labels_plane in refl

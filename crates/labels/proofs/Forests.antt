@@ -12,7 +12,7 @@ use lib.Seq.{get_or-set_same, get_or-set_other}
 use borrow.Author.Tests.{eqb-true, eqb-false}
 use Rattle.plane.proofs.Search.{which, either}
 use Rattle.labels.specs.Labels.{renamed}
-use Rattle.plane.specs.Box.{lesserOf}
+use Rattle.plane.specs.Box.{lesser_of}
 use Rattle.labels.specs.steps.Trees.{Forest, Found, Joinable, Linked}
 use Rattle.labels.proofs.Firsts.{renamed-left, renamed-right, Cases, renamed-cases, lesser-cases, lesser-low}
 
@@ -34,18 +34,18 @@ less-of {k} {i} l n = ⊎_elim {C = k < i} (λ (z : k < i). z) (λ (z : i ≤ k)
 pub positive : (n : ℕ) → (n ≡ 0 → ⊥) → 0 < n
 positive n h = less-of (omega arith) (λ q. h (sym q))
 
-lesser-left-is : (a b : ℕ) → a ≤ b → lesserOf a b ≡ a
+lesser-left-is : (a b : ℕ) → a ≤ b → lesser_of a b ≡ a
 lesser-left-is a b l =
-    ⊎_elim {C = lesserOf a b ≡ a} (λ z. z.0) (λ z. omega (arith, z.0, z.1)) (lesser-cases a b)
+    ⊎_elim {C = lesser_of a b ≡ a} (λ z. z.0) (λ z. omega (arith, z.0, z.1)) (lesser-cases a b)
 
-lesser-right-is : (a b : ℕ) → b ≤ a → lesserOf a b ≡ b
+lesser-right-is : (a b : ℕ) → b ≤ a → lesser_of a b ≡ b
 lesser-right-is a b l =
-    ⊎_elim {C = lesserOf a b ≡ b} (λ z. omega (arith, z.0, z.1)) (λ z. z.0) (lesser-cases a b)
+    ⊎_elim {C = lesser_of a b ≡ b} (λ z. omega (arith, z.0, z.1)) (λ z. z.0) (lesser-cases a b)
 
 -- what is renamed to: the lesser keeps its number
-pub renamed-lesser : (a b : ℕ) → renamed a b (lesserOf a b) ≡ lesserOf a b
+pub renamed-lesser : (a b : ℕ) → renamed a b (lesser_of a b) ≡ lesser_of a b
 renamed-lesser a b =
-    ⊎_elim {C = renamed a b (lesserOf a b) ≡ lesserOf a b}
+    ⊎_elim {C = renamed a b (lesser_of a b) ≡ lesser_of a b}
     (λ z. ap (renamed a b) z.0 ∙ renamed-left a b)
     (λ z. ap (renamed a b) z.0 ∙ renamed-right a b)
     (lesser-cases a b)
@@ -137,11 +137,11 @@ module _ {parents : List ℕ} {m : ℕ} {rep : ℕ → ℕ} (f : Forest parents 
       beyond = λ l i. f.beyond l (omega arith);
     }
 
-  -- the greater of two roots gets the lesserOf as its parent
+  -- the greater of two roots gets the lesser_of as its parent
   module _ (x y z : ℕ) (x-root : rep x ≡ x) (y-root : rep y ≡ y) (x-some : 0 < x) (y-some : 0 < y) (z-is : (z ≡ x) ⊎ (z ≡ y))
       (x-low : x ≤ z) (y-low : y ≤ z) (z-in : z ≤ m) where
     abbrev s : ℕ
-    s = lesserOf x y
+    s = lesser_of x y
 
     abbrev new : List ℕ
     new = set parents z s
@@ -173,7 +173,7 @@ module _ {parents : List ℕ} {m : ℕ} {rep : ℕ → ℕ} (f : Forest parents 
     keeps : (l : ℕ) → (l ≡ z → ⊥) → rep l ≡ l → to l ≡ l
     keeps l n e = ap (renamed x y) e ∙ go (renamed-cases x y l)
       where
-        -- one of the two that is not z is the lesserOf
+        -- one of the two that is not z is the lesser_of
         least : (l ≡ x) ⊎ (l ≡ y) → s ≡ l
         least (inl q) = ⊎_elim {C = s ≡ l} (λ b. absurd (n (q ∙ sym b))) (λ b. lesser-left-is x y (omega arith) ∙ sym q) z-is
         least (inr q) = ⊎_elim {C = s ≡ l} (λ b. lesser-right-is x y (omega arith) ∙ sym q) (λ b. absurd (n (q ∙ sym b))) z-is
@@ -224,7 +224,7 @@ module _ {old one two : List ℕ} {m a b x y : ℕ} (g : Joinable old m a b) (p 
     y-is = q.root rep (p.same-trees rep f)
 
     linked-at : (z : ℕ) → (z ≡ rep a) ⊎ (z ≡ rep b) → rep a ≤ z → rep b ≤ z → z ≤ m
-        → Forest (set two z (lesserOf (rep a) (rep b))) m (λ (l : ℕ). renamed (rep a) (rep b) (rep l))
+        → Forest (set two z (lesser_of (rep a) (rep b))) m (λ (l : ℕ). renamed (rep a) (rep b) (rep l))
     linked-at z = link end (rep a) (rep b) z (f.again a) (f.again b) (f.some a g.a-some) (f.some b g.b-some)
 
   pub roots-in : (x ≤ m) × (y ≤ m) × (m < length two)
@@ -241,7 +241,7 @@ module _ {old one two : List ℕ} {m a b x y : ℕ} (g : Joinable old m a b) (p 
     root = λ rep f. less f;
   }
     where
-      less : {rep : ℕ → ℕ} → Forest old m rep → x ≡ lesserOf (rep a) (rep b)
+      less : {rep : ℕ → ℕ} → Forest old m rep → x ≡ lesser_of (rep a) (rep b)
       less {rep} f = let i = x-is f in let j = y-is f in i ∙ sym (lesser-left-is (rep a) (rep b) (omega arith))
 
   pub linked-more : y ≤ x → Linked old (set two x y) m a b y
@@ -253,5 +253,5 @@ module _ {old one two : List ℕ} {m a b x y : ℕ} (g : Joinable old m a b) (p 
     root = λ rep f. less f;
   }
     where
-      less : {rep : ℕ → ℕ} → Forest old m rep → y ≡ lesserOf (rep a) (rep b)
+      less : {rep : ℕ → ℕ} → Forest old m rep → y ≡ lesser_of (rep a) (rep b)
       less {rep} f = let i = x-is f in let j = y-is f in j ∙ sym (lesser-right-is (rep a) (rep b) (omega arith))

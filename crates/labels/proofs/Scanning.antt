@@ -14,11 +14,11 @@ use borrow.Author.Tests.{eqb-false, eq-eqb, ne_eqb, ltb-false, lt-ltb, le-ltb}
 use Rattle.plane.specs.Plane.{on}
 use Rattle.plane.proofs.Plane.{pixel-in}
 use Rattle.plane.proofs.Search.{which, either, not-both}
-use Rattle.plane.specs.Mask.{isOn}
-use Rattle.labels.specs.Labels.{beside, Joined, same, onward, renamed, isFirst}
-use Rattle.plane.specs.Box.{lesserOf}
+use Rattle.plane.specs.Mask.{is_on}
+use Rattle.labels.specs.Labels.{beside, Joined, same, onward, renamed, is_first}
+use Rattle.plane.specs.Box.{lesser_of}
 use Rattle.labels.specs.steps.Trees.{Forest, Linked, Placeable, Placed, dark, fresh, from-above, from-left, from-both}
-use Rattle.labels.specs.steps.Trees.{upAt, left_at, diagAt, larger, Scanned, Given}
+use Rattle.labels.specs.steps.Trees.{up_at, left_at, diag_at, larger, Scanned, Given}
 use Rattle.labels.proofs.Joined.{beside_back, joined-trans, joined-sym}
 use Rattle.labels.proofs.Firsts.{first-least, first-same, first_on, renamed-left, renamed-right, Cases, renamed-cases}
 use Rattle.labels.proofs.Firsts.{lesser-cases, lesser-low}
@@ -26,21 +26,21 @@ use Rattle.labels.proofs.Steps.{column-is, beside-above, beside-left, Sides4, be
 use Rattle.labels.proofs.Forests.{positive, added, renamed-lesser}
 
 -- a pixel is on where its byte is not 0
-byte-on : (mask : List ℕ) (k : ℕ) → (get_or mask k 0 ≡ 0 → ⊥) → isOn mask k ≡ true
-unfolding isOn on
+byte-on : (mask : List ℕ) (k : ℕ) → (get_or mask k 0 ≡ 0 → ⊥) → is_on mask k ≡ true
+unfolding is_on on
 byte-on mask k n = rw (ne_eqb (get_or mask k 0) 0 n)
 
-byte-off : (mask : List ℕ) (k : ℕ) → get_or mask k 0 ≡ 0 → isOn mask k ≡ false
-unfolding isOn on
+byte-off : (mask : List ℕ) (k : ℕ) → get_or mask k 0 ≡ 0 → is_on mask k ≡ false
+unfolding is_on on
 byte-off mask k e = rw (eq-eqb (get_or mask k 0) 0 e)
 
 -- where the labels of the neighbours come from
-up_is : (labels : List ℕ) (w t : ℕ) → w ≤ t → upAt labels w t ≡ get_or labels (t - w) 0
-unfolding upAt
+up_is : (labels : List ℕ) (w t : ℕ) → w ≤ t → up_at labels w t ≡ get_or labels (t - w) 0
+unfolding up_at
 up_is labels w t l = rw (le-ltb t w l)
 
-up-some : (labels : List ℕ) (w t : ℕ) → 0 < upAt labels w t → w ≤ t
-unfolding upAt
+up-some : (labels : List ℕ) (w t : ℕ) → 0 < up_at labels w t → w ≤ t
+unfolding up_at
 up-some labels w t l =
     ⊎_elim {C = w ≤ t}
     (λ (e : ltb t w ≡ true). (let z : 0 < cond (ltb t w) 0 (get_or labels (t - w) 0) = l in absurd (not-suc-le-zero (rw e at z))))
@@ -59,8 +59,8 @@ left-some labels t x l =
     (λ (e : eqb x 0 ≡ false). positive x (eqb-false x 0 e))
     (either (eqb x 0))
 
-diag-is : (labels : List ℕ) (w t x : ℕ) → 0 < x → diagAt labels w t x ≡ upAt labels w (t - 1)
-unfolding diagAt
+diag-is : (labels : List ℕ) (w t x : ℕ) → 0 < x → diag_at labels w t x ≡ up_at labels w (t - 1)
+unfolding diag_at
 diag-is labels w t x l = rw (ne_eqb x 0 (λ z. omega arith))
 
 module _ (mask : List ℕ) (h w : ℕ) (fits : length mask ≡ h * w) (wide : 0 < w) (labels : List ℕ) (t : ℕ) (inside : t < length labels) where
@@ -72,32 +72,32 @@ module _ (mask : List ℕ) (h w : ℕ) (fits : length mask ≡ h * w) (wide : 0 
   left = left_at labels t (t % w)
 
   abbrev up : ℕ
-  up = upAt labels w t
+  up = up_at labels w t
 
   abbrev diag : ℕ
-  diag = diagAt labels w t (t % w)
+  diag = diag_at labels w t (t % w)
 
   -- what the label r of pixel t asks
   record Fits (m r : ℕ) (rep seed : ℕ → ℕ) : Type 0 where
-    off : isOn mask t ≡ false → r ≡ 0
-    on : isOn mask t ≡ true → (0 < r) × (r ≤ m)
-    joined : isOn mask t ≡ true → Joined mask w (seed (rep r)) t
-    above : isOn mask t ≡ true → w ≤ t → isOn mask (t - w) ≡ true → rep r ≡ rep (lab (t - w))
-    beside-it : isOn mask t ≡ true → 0 < t % w → isOn mask (t - 1) ≡ true → rep r ≡ rep (lab (t - 1))
-    starts : isFirst mask h w t ≡ true → seed r ≡ t
+    off : is_on mask t ≡ false → r ≡ 0
+    on : is_on mask t ≡ true → (0 < r) × (r ≤ m)
+    joined : is_on mask t ≡ true → Joined mask w (seed (rep r)) t
+    above : is_on mask t ≡ true → w ≤ t → is_on mask (t - w) ≡ true → rep r ≡ rep (lab (t - w))
+    beside-it : is_on mask t ≡ true → 0 < t % w → is_on mask (t - 1) ≡ true → rep r ≡ rep (lab (t - 1))
+    starts : is_first mask h w t ≡ true → seed r ≡ t
 
   -- what one pixel more asks: the trees, the pixels before t, and the label r of pixel t
   record Grows (new : List ℕ) (m r : ℕ) (rep seed : ℕ → ℕ) : Type 0 where
     forest : Forest new m rep
     few : m ≤ t + 1
-    old-off : (k : ℕ) → k < t → isOn mask k ≡ false → lab k ≡ 0
-    old-on : (k : ℕ) → k < t → isOn mask k ≡ true → (0 < lab k) × (lab k ≤ m)
-    old-joined : (k : ℕ) → k < t → isOn mask k ≡ true → Joined mask w (seed (rep (lab k))) k
-    old-alike : (j k : ℕ) → j < t → k < t → isOn mask j ≡ true → isOn mask k ≡ true → beside w j k ≡ true → rep (lab j) ≡ rep (lab k)
-    old-starts : (k : ℕ) → k < t → isFirst mask h w k ≡ true → seed (lab k) ≡ k
+    old-off : (k : ℕ) → k < t → is_on mask k ≡ false → lab k ≡ 0
+    old-on : (k : ℕ) → k < t → is_on mask k ≡ true → (0 < lab k) × (lab k ≤ m)
+    old-joined : (k : ℕ) → k < t → is_on mask k ≡ true → Joined mask w (seed (rep (lab k))) k
+    old-alike : (j k : ℕ) → j < t → k < t → is_on mask j ≡ true → is_on mask k ≡ true → beside w j k ≡ true → rep (lab j) ≡ rep (lab k)
+    old-starts : (k : ℕ) → k < t → is_first mask h w k ≡ true → seed (lab k) ≡ k
     rises : (a b : ℕ) → 0 < a → a < b → b ≤ m → seed a < seed b
     inside' : (l : ℕ) → 0 < l → l ≤ m → seed l < t + 1
-    own : (l : ℕ) → 0 < l → l ≤ m → (isOn mask (seed l) ≡ true) × (get_or (set labels t r) (seed l) 0 ≡ l)
+    own : (l : ℕ) → 0 < l → l ≤ m → (is_on mask (seed l) ≡ true) × (get_or (set labels t r) (seed l) 0 ≡ l)
     pixel : Fits m r rep seed
 
   module _ {new : List ℕ} {m r : ℕ} {rep seed : ℕ → ℕ} (g : Grows new m r rep seed) where
@@ -116,7 +116,7 @@ module _ (mask : List ℕ) (h w : ℕ) (fits : length mask ≡ h * w) (wide : 0 
     both P a b k l =
         ⊎_elim {C = P k} (λ (z : k < t). a k z) (λ (z : t ≤ k). (let q : t ≡ k = omega arith in rw q at b)) (which k t)
 
-    beside-new : (k : ℕ) → k < t → isOn mask t ≡ true → isOn mask k ≡ true → beside w t k ≡ true → rep r ≡ rep (lab k)
+    beside-new : (k : ℕ) → k < t → is_on mask t ≡ true → is_on mask k ≡ true → beside w t k ≡ true → rep r ≡ rep (lab k)
     beside-new k l e o b = go (beside-sides w wide t k b)
       where
         go : Sides4 w wide t k → rep r ≡ rep (lab k)
@@ -127,7 +127,7 @@ module _ (mask : List ℕ) (h w : ℕ) (fits : length mask ≡ h * w) (wide : 0 
 
     -- pixels beside each other have one root
     abbrev Alike : ℕ → ℕ → Type 0
-    Alike j k = isOn mask j ≡ true → isOn mask k ≡ true → beside w j k ≡ true → rep (lab' j) ≡ rep (lab' k)
+    Alike j k = is_on mask j ≡ true → is_on mask k ≡ true → beside w j k ≡ true → rep (lab' j) ≡ rep (lab' k)
 
     alike : (j k : ℕ) → j < t + 1 → k < t + 1 → Alike j k
     alike j k a b =
@@ -144,47 +144,47 @@ module _ (mask : List ℕ) (h w : ℕ) (fits : length mask ≡ h * w) (wide : 0 
       seed = seed;
       forest = g.forest;
       few = g.few;
-      off = both (λ (k : ℕ). isOn mask k ≡ false → lab' k ≡ 0) (λ k l e. at_old k l ∙ g.old-off k l e) (λ e. at_new ∙ g.pixel.off e);
+      off = both (λ (k : ℕ). is_on mask k ≡ false → lab' k ≡ 0) (λ k l e. at_old k l ∙ g.old-off k l e) (λ e. at_new ∙ g.pixel.off e);
       on =
-          both (λ (k : ℕ). isOn mask k ≡ true → (0 < lab' k) × (lab' k ≤ m))
+          both (λ (k : ℕ). is_on mask k ≡ true → (0 < lab' k) × (lab' k ≤ m))
           (λ k l e. rw (at_old k l) (g.old-on k l e)) (λ e. rw at_new (g.pixel.on e));
       joined =
-          both (λ (k : ℕ). isOn mask k ≡ true → Joined mask w (seed (rep (lab' k))) k)
+          both (λ (k : ℕ). is_on mask k ≡ true → Joined mask w (seed (rep (lab' k))) k)
           (λ k l e. rw (at_old k l) (g.old-joined k l e)) (λ e. rw at_new (g.pixel.joined e));
       alike = alike;
       rises = g.rises;
       inside = g.inside';
       own_val = g.own;
       starts =
-          both (λ (k : ℕ). isFirst mask h w k ≡ true → seed (lab' k) ≡ k)
+          both (λ (k : ℕ). is_first mask h w k ≡ true → seed (lab' k) ≡ k)
           (λ k l e. ap seed (at_old k l) ∙ g.old-starts k l e) (λ e. ap seed at_new ∙ g.pixel.starts e);
     }
 
   module _ (parents : List ℕ) (m : ℕ) (s : Scanned mask labels parents h w t m) where
     -- a pixel with a label is on
-    has_on : (k : ℕ) → k < t → 0 < lab k → isOn mask k ≡ true
+    has_on : (k : ℕ) → k < t → 0 < lab k → is_on mask k ≡ true
     has_on k l p =
-        ⊎_elim {C = isOn mask k ≡ true} (λ e. e) (λ e. absurd (omega (arith, s.off k l e))) (either (isOn mask k))
+        ⊎_elim {C = is_on mask k ≡ true} (λ e. e) (λ e. absurd (omega (arith, s.off k l e))) (either (is_on mask k))
 
     -- the pixel above, and the one to the left, where they have labels
-    up-on : 0 < up → (w ≤ t) × (isOn mask (t - w) ≡ true) × (beside w t (t - w) ≡ true)
+    up-on : 0 < up → (w ≤ t) × (is_on mask (t - w) ≡ true) × (beside w t (t - w) ≡ true)
     up-on p =
         let l = up-some labels w t p in
         (l, has_on (t - w) (omega arith) (omega (arith, up_is labels w t l)), beside-above w wide t l)
 
-    left-on : 0 < left → (0 < t % w) × (isOn mask (t - 1) ≡ true) × (beside w t (t - 1) ≡ true)
+    left-on : 0 < left → (0 < t % w) × (is_on mask (t - 1) ≡ true) × (beside w t (t - 1) ≡ true)
     left-on p =
         let l = left-some labels t (t % w) p in
         let q = mod-le t w in
         (l, has_on (t - 1) (omega arith) (omega (arith, left_is labels t (t % w) l)), beside-left w wide t l)
 
     -- a pixel that has an on-neighbour before it is not its part's first
-    not_first : {C : Type 0} (k : ℕ) → k < t → isOn mask t ≡ true → isOn mask k ≡ true → beside w t k ≡ true → isFirst mask h w t ≡ true → C
+    not_first : {C : Type 0} (k : ℕ) → k < t → is_on mask t ≡ true → is_on mask k ≡ true → beside w t k ≡ true → is_first mask h w t ≡ true → C
     not_first k l e o b f =
         let z = first_on mask h w fits t f in
         absurd (omega (arith, z.1, first-same mask h w fits (onward (same e) b o), first-least mask h w fits k o))
 
-    own-kept : (r l : ℕ) → 0 < l → l ≤ m → (isOn mask (s.seed l) ≡ true) × (get_or (set labels t r) (s.seed l) 0 ≡ l)
+    own-kept : (r l : ℕ) → 0 < l → l ≤ m → (is_on mask (s.seed l) ≡ true) × (get_or (set labels t r) (s.seed l) 0 ≡ l)
     own-kept r l a b =
         let z = s.own l a b in
         (z.0, get_or-set_other labels t (s.seed l) r 0 (ne_of_lt (s.inside l a b)) ∙ z.1)
@@ -206,32 +206,32 @@ module _ (mask : List ℕ) (h w : ℕ) (fits : length mask ≡ h * w) (wide : 0 
     }
 
     -- a pixel that is off
-    put-off : isOn mask t ≡ false → Scanned mask (set labels t 0) parents h w (t + 1) m
+    put-off : is_on mask t ≡ false → Scanned mask (set labels t 0) parents h w (t + 1) m
     put-off o = keep record {
       off = λ e. refl;
-      on = λ e. not-both (isOn mask t) e o;
-      joined = λ e. not-both (isOn mask t) e o;
-      above = λ e. not-both (isOn mask t) e o;
-      beside-it = λ e. not-both (isOn mask t) e o;
-      starts = λ f. not-both (isOn mask t) (first_on mask h w fits t f).0 o;
+      on = λ e. not-both (is_on mask t) e o;
+      joined = λ e. not-both (is_on mask t) e o;
+      above = λ e. not-both (is_on mask t) e o;
+      beside-it = λ e. not-both (is_on mask t) e o;
+      starts = λ f. not-both (is_on mask t) (first_on mask h w fits t f).0 o;
     }
 
     -- no label to the left, or above: the pixel there is off, or there is none
-    no-left : {C : Type 0} → left ≡ 0 → 0 < t % w → isOn mask (t - 1) ≡ true → C
+    no-left : {C : Type 0} → left ≡ 0 → 0 < t % w → is_on mask (t - 1) ≡ true → C
     no-left z l o =
         let q = mod-le t w in
         absurd (omega (arith, left_is labels t (t % w) l, (s.on (t - 1) (omega arith) o).0))
 
-    no-up : {C : Type 0} → up ≡ 0 → w ≤ t → isOn mask (t - w) ≡ true → C
+    no-up : {C : Type 0} → up ≡ 0 → w ≤ t → is_on mask (t - w) ≡ true → C
     no-up z l o = absurd (omega (arith, up_is labels w t l, (s.on (t - w) (omega arith) o).0))
 
     -- the label of a neighbour k
-    put-from : (k : ℕ) → isOn mask t ≡ true → k < t → isOn mask k ≡ true → beside w t k ≡ true
-        → (w ≤ t → isOn mask (t - w) ≡ true → s.rep (lab k) ≡ s.rep (lab (t - w)))
-        → (0 < t % w → isOn mask (t - 1) ≡ true → s.rep (lab k) ≡ s.rep (lab (t - 1)))
+    put-from : (k : ℕ) → is_on mask t ≡ true → k < t → is_on mask k ≡ true → beside w t k ≡ true
+        → (w ≤ t → is_on mask (t - w) ≡ true → s.rep (lab k) ≡ s.rep (lab (t - w)))
+        → (0 < t % w → is_on mask (t - 1) ≡ true → s.rep (lab k) ≡ s.rep (lab (t - 1)))
         → Scanned mask (set labels t (lab k)) parents h w (t + 1) m
     put-from k o i a b c d = keep record {
-      off = λ e. not-both (isOn mask t) o e;
+      off = λ e. not-both (is_on mask t) o e;
       on = λ e. s.on k i a;
       joined = λ e. onward (s.joined k i a) (beside_back w k t ∙ b) o;
       above = λ e. c;
@@ -239,14 +239,14 @@ module _ (mask : List ℕ) (h w : ℕ) (fits : length mask ≡ h * w) (wide : 0 
       starts = λ f. not_first k i o a b f;
     }
 
-    put_up : isOn mask t ≡ true → left ≡ 0 → 0 < up → Scanned mask (set labels t up) parents h w (t + 1) m
+    put_up : is_on mask t ≡ true → left ≡ 0 → 0 < up → Scanned mask (set labels t up) parents h w (t + 1) m
     put_up o z p =
         let u = up-on p in
         rw (up_is labels w t u.0)
         (put-from (t - w) o (omega (arith, u.0)) u.1 u.2 (λ l g. refl) (λ l g. no-left z l g))
 
     -- the label of the pixel to the left, whose root the pixel above has too, if it is on
-    put-left : isOn mask t ≡ true → 0 < left → (up ≡ 0) ⊎ (0 < diag) → Scanned mask (set labels t left) parents h w (t + 1) m
+    put-left : is_on mask t ≡ true → 0 < left → (up ≡ 0) ⊎ (0 < diag) → Scanned mask (set labels t left) parents h w (t + 1) m
     put-left o p d =
         let u = left-on p in
         let low = mod-le t w in
@@ -256,21 +256,21 @@ module _ (mask : List ℕ) (h w : ℕ) (fits : length mask ≡ h * w) (wide : 0 
         (λ l g. refl))
       where
         -- by way of the pixel above to the left
-        around : 0 < t % w → isOn mask (t - 1) ≡ true → w ≤ t → isOn mask (t - w) ≡ true → 0 < diag
+        around : 0 < t % w → is_on mask (t - 1) ≡ true → w ≤ t → is_on mask (t - w) ≡ true → 0 < diag
             → s.rep (lab (t - 1)) ≡ s.rep (lab (t - w))
         around x a l b z =
-            let p : 0 < upAt labels w (t - 1) = rw (diag-is labels w t (t % w) x) at z in
+            let p : 0 < up_at labels w (t - 1) = rw (diag-is labels w t (t % w) x) at z in
             let k = up-some labels w (t - 1) p in
             let c = (t - 1) - w in
             let e : (t - w) - 1 ≡ c = omega arith in
-            let g : isOn mask c ≡ true = has_on c (omega arith) (omega (arith, up_is labels w (t - 1) k)) in
+            let g : is_on mask c ≡ true = has_on c (omega arith) (omega (arith, up_is labels w (t - 1) k)) in
             let y : 0 < (t - w) % w = rw (mod-eq-sub-mod {n = t} {m = w} l) at x in
             let v : beside w (t - w) ((t - w) - 1) ≡ true = beside-left w wide (t - w) y in
             s.alike (t - 1) c (omega arith) (omega arith) a g (beside-above w wide (t - 1) k)
             ∙ sym (s.alike (t - w) c (omega arith) (omega arith) b g (rw e at v))
 
     -- a new label
-    module _ (o : isOn mask t ≡ true) (z : left ≡ 0) (y : up ≡ 0) (room : m + 1 < length parents) where
+    module _ (o : is_on mask t ≡ true) (z : left ≡ 0) (y : up ≡ 0) (room : m + 1 < length parents) where
       abbrev seed' : ℕ → ℕ
       seed' l = cond (eqb l (m + 1)) t (s.seed l)
 
@@ -302,11 +302,11 @@ module _ (mask : List ℕ) (h w : ℕ) (fits : length mask ≡ h * w) (wide : 0 
         inside' =
             by-label (λ (l : ℕ). seed' l < t + 1) (λ l p q. rw (seed-old l q) (omega (arith, s.inside l p q))) (rw seed-new (omega arith));
         own =
-            by-label (λ (l : ℕ). (isOn mask (seed' l) ≡ true) × (get_or (set labels t (m + 1)) (seed' l) 0 ≡ l))
+            by-label (λ (l : ℕ). (is_on mask (seed' l) ≡ true) × (get_or (set labels t (m + 1)) (seed' l) 0 ≡ l))
             (λ l p q. rw (seed-old l q) (own-kept (m + 1) l p q))
             (rw seed-new (o, get_or-set_same labels t (m + 1) 0 inside));
         pixel = record {
-          off = λ e. not-both (isOn mask t) o e;
+          off = λ e. not-both (is_on mask t) o e;
           on = λ e. (omega arith, omega arith);
           joined = λ e. rw (s.forest.beyond (m + 1) (omega arith), seed-new) (same o);
           above = λ e l g. no-up y l g;
@@ -316,7 +316,7 @@ module _ (mask : List ℕ) (h w : ℕ) (fits : length mask ≡ h * w) (wide : 0 
       }
 
     -- two labels that meet
-    module _ (o : isOn mask t ≡ true) (p : 0 < left) (q : 0 < up) (new : List ℕ) (r : ℕ) (k : Linked parents new m left up r) where
+    module _ (o : is_on mask t ≡ true) (p : 0 < left) (q : 0 < up) (new : List ℕ) (r : ℕ) (k : Linked parents new m left up r) where
       abbrev u : ℕ
       u = s.rep left
 
@@ -344,23 +344,23 @@ module _ (mask : List ℕ) (h w : ℕ) (fits : length mask ≡ h * w) (wide : 0 
           let a = up-on q in
           onward (rw up-lab at (s.joined (t - w) (omega (arith, a.0)) a.1)) (beside_back w (t - w) t ∙ a.2) o
 
-      r-is : r ≡ lesserOf u v
+      r-is : r ≡ lesser_of u v
       r-is = k.root s.rep s.forest
 
-      -- the lesserOf of the two roots is a root, has a seed that is joined to t, and is a label
+      -- the lesser_of of the two roots is a root, has a seed that is joined to t, and is a label
       record Least (n : ℕ) : Type 0 where
         from : Joined mask w (s.seed n) t
         root : s.rep n ≡ n
         some : 0 < n
 
-      least : Least (lesserOf u v)
+      least : Least (lesser_of u v)
       least =
-          ⊎_elim {C = Least (lesserOf u v)}
+          ⊎_elim {C = Least (lesser_of u v)}
           (λ e. rw e.0 (record { from = from-u; root = s.forest.again left; some = s.forest.some left p }))
           (λ e. rw e.0 (record { from = from-v; root = s.forest.again up; some = s.forest.some up q }))
           (lesser-cases u v)
 
-      new-root : rep' r ≡ lesserOf u v
+      new-root : rep' r ≡ lesser_of u v
       new-root = ap rep' r-is ∙ ap (renamed u v) least.root ∙ renamed-lesser u v
 
       r-low : r ≤ m
@@ -386,7 +386,7 @@ module _ (mask : List ℕ) (h w : ℕ) (fits : length mask ≡ h * w) (wide : 0 
         inside' = λ l a b. omega (arith, s.inside l a b);
         own = own-kept r;
         pixel = record {
-          off = λ e. not-both (isOn mask t) o e;
+          off = λ e. not-both (is_on mask t) o e;
           on = λ e. (omega (arith, r-is, least.some), r-low);
           joined = λ e. rw new-root least.from;
           above = λ e a b. new-root ∙ sym (ap rep' up-lab ∙ renamed-right u v);
@@ -405,7 +405,7 @@ module _ (mask : List ℕ) (h w : ℕ) (fits : length mask ≡ h * w) (wide : 0 
 
     label-low : (k : ℕ) → k < t → lab k ≤ m
     label-low k l =
-        ⊎_elim {C = lab k ≤ m} (λ e. (s.on k l e).1) (λ e. omega (arith, s.off k l e)) (either (isOn mask k))
+        ⊎_elim {C = lab k ≤ m} (λ e. (s.on k l e).1) (λ e. omega (arith, s.off k l e)) (either (is_on mask k))
 
     pub left-low : left ≤ m
     left-low =
@@ -450,7 +450,7 @@ module _ {mask parents labels : List ℕ} {h w : ℕ} (g : Given mask parents la
   in-labels = omega (arith, g.output, pixel-inside)
 
   -- the labels of the neighbours are labels, and there is room for a new one
-  pub placeable : {left up : ℕ} → left ≡ left_at labels pixel x → up ≡ upAt labels w pixel → Placeable parents m left up
+  pub placeable : {left up : ℕ} → left ≡ left_at labels pixel x → up ≡ up_at labels w pixel → Placeable parents m left up
   placeable a b = record {
     trees = record { rep = s.rep; forest = s.forest };
     left_in = rw a (rw column-of at (left-low mask h w g.input g.sides.some-columns labels pixel in-labels parents m s));
@@ -470,26 +470,26 @@ module _ {mask parents labels : List ℕ} {h w : ℕ} (g : Given mask parents la
     back = omega arith
 
     -- the row above is not touched
-    up_same : upAt after w pixel ≡ upAt labels w pixel
-    unfolding upAt
+    up_same : up_at after w pixel ≡ up_at labels w pixel
+    unfolding up_at
     up_same =
-        ⊎_elim {C = upAt after w pixel ≡ upAt labels w pixel}
+        ⊎_elim {C = up_at after w pixel ≡ up_at labels w pixel}
         (λ (l : pixel < w). rw (lt-ltb pixel w l))
         (λ (l : w ≤ pixel).
         rw (le-ltb pixel w l) (get_or-set_other labels pixel (pixel - w) r 0 (λ q. omega (arith, g.sides.some-columns))))
         (which pixel w)
 
     -- one pixel more, and the labels to the left, and above to the left, of the next
-    pub row_next : {new : List ℕ} {left up diag : ℕ} → left ≡ left_at labels pixel x → up ≡ upAt labels w pixel
-        → diag ≡ diagAt labels w pixel x → Placed (get_or mask pixel 0) left up diag m parents new r
-        → Scanned mask after new h w next (larger m r) × (r ≡ left_at after next (x + 1)) × (up ≡ diagAt after w next (x + 1))
+    pub row_next : {new : List ℕ} {left up diag : ℕ} → left ≡ left_at labels pixel x → up ≡ up_at labels w pixel
+        → diag ≡ diag_at labels w pixel x → Placed (get_or mask pixel 0) left up diag m parents new r
+        → Scanned mask after new h w next (larger m r) × (r ≡ left_at after next (x + 1)) × (up ≡ diag_at after w next (x + 1))
     row_next {new} a b c p =
         let e : next ≡ pixel + 1 = omega arith in
         let room = (placeable a b).room in
         let one_more = step mask h w g.input g.sides.some-columns labels pixel in-labels parents m s new r room in (
           rw e (one_more (rw column-of (rw (a, b, c) at p))),
           sym (left_is after next (x + 1) (omega arith) ∙ ap (λ (k : ℕ). get_or after k 0) back ∙ get_or-set_same labels pixel r 0 in-labels),
-          b ∙ sym (diag-is after w next (x + 1) (omega arith) ∙ ap (upAt after w) back ∙ up_same),
+          b ∙ sym (diag-is after w next (x + 1) (omega arith) ∙ ap (up_at after w) back ∙ up_same),
         )
 
 -- before the first pixel

@@ -2,8 +2,8 @@
 // label from its neighbours to the left and above, and labels that meet are joined in trees, whose roots are numbered at the end.
 ghost use Rattle.std.specs.Prelude.{◌≡◌, ℕ, ◌+◌, ◌*◌, ◌-◌, ◌<◌, ◌≤◌, cond, eqb, length, get_or, set};
 ghost use Rattle.plane.specs.Plane.{table};
-ghost use Rattle.labels.specs.Labels.{parts, labelsPlane};
-ghost use Rattle.labels.specs.steps.Trees.{Given, Trees, Found, Joinable, Linked, Placeable, Placed, upAt, larger};
+ghost use Rattle.labels.specs.Labels.{parts, labels_plane};
+ghost use Rattle.labels.specs.steps.Trees.{Given, Trees, Found, Joinable, Linked, Placeable, Placed, up_at, larger};
 ghost use Rattle.labels.specs.steps.Trees.{Scanned, RowsDone, Numberable, Numbered};
 
 // The root of label l, of the labels up to m; on the way each label gets its parent's parent as its parent.
@@ -67,7 +67,7 @@ fn place(v: u8, left: u32, up: u32, diag: u32, m: u32, parents: &mut [u32]) -> u
 // The label of the pixel above pixel i, 0 for none.
 fn upper(labels: &[u32], w: usize, i: usize) -> u32
     requires { i < length labels.now }
-    ensures { result ≡ upAt labels.now w i }
+    ensures { result ≡ up_at labels.now w i }
 {
     if i < w {
         return 0;
@@ -183,7 +183,7 @@ fn rename(numbers: &[u32], labels: &mut [u32])
 pub fn label(mask: &[u8], h: usize, w: usize, parents: &mut [u32], labels: &mut [u32]) -> u32
     requires { Given mask.now parents.old labels.old h w }
     ensures value { result ≡ parts mask.now h w }
-    ensures labels_after { labels.new ≡ labelsPlane mask.now h w }
+    ensures labels_after { labels.new ≡ labels_plane mask.now h w }
 {
     let m = scan(mask, h, w, parents, labels);
     let n = flatten(parents, m);

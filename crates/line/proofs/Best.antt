@@ -8,7 +8,7 @@ use Prim.Native.Nat.{ℕ, ◌≤◌, ◌<◌}
 use native.Mathlib.Omega.{arith}
 use lib.ListN.{length, get_or}
 use borrow.Author.Tests.{le-leb, lt-leb}
-use Rattle.line.specs.steps.Line.{mostCost, Site, value_at, offer, best, place_of, line_of}
+use Rattle.line.specs.steps.Line.{most_cost, Site, value_at, offer, best, place_of, line_of}
 use Rattle.line.specs.steps.Envelope.{Leads}
 use Rattle.plane.proofs.Search.{which}
 use Rattle.plane.proofs.Plane.{table_at, table_is}
@@ -27,19 +27,19 @@ module _ (costs : List ℕ) where
 
   pub offer-site : (x i : ℕ) → Site costs i → offer costs x i ≡ some (value_at costs x i)
   unfolding offer
-  offer-site x i h = rw (le-leb (get_or costs i 0) mostCost h)
+  offer-site x i h = rw (le-leb (get_or costs i 0) most_cost h)
 
-  pub offer-none : (x i : ℕ) → mostCost < get_or costs i 0 → offer costs x i ≡ none
+  pub offer-none : (x i : ℕ) → most_cost < get_or costs i 0 → offer costs x i ≡ none
   unfolding offer
-  offer-none x i h = rw (lt-leb (get_or costs i 0) mostCost h)
+  offer-none x i h = rw (lt-leb (get_or costs i 0) most_cost h)
 
   -- a number that is offered is a site's
   pub offered : (x j w : ℕ) → offer costs x j ≡ some w → (Site costs j) × (w ≡ value_at costs x j)
   offered x j w e =
       ⊎_elim {C = (Site costs j) × (w ≡ value_at costs x j)}
-      (λ (h : mostCost < get_or costs j 0). clash (offer costs x j) w (offer-none x j h) e)
-      (λ (h : get_or costs j 0 ≤ mostCost). (h, same (offer costs x j) w (value_at costs x j) e (offer-site x j h)))
-      (which mostCost (get_or costs j 0))
+      (λ (h : most_cost < get_or costs j 0). clash (offer costs x j) w (offer-none x j h) e)
+      (λ (h : get_or costs j 0 ≤ most_cost). (h, same (offer costs x j) w (value_at costs x j) e (offer-site x j h)))
+      (which most_cost (get_or costs j 0))
 
   -- the leader is the best
   pub leader : (x i : ℕ) → Leads costs (length costs) x i → best costs x ≡ some i
@@ -62,4 +62,4 @@ module _ (costs : List ℕ) where
       walk_is (offer costs x) (length costs) none
       (λ j l.
       offer-none x j
-      (⊎_elim (λ (z : mostCost < get_or costs j 0). z) (λ (z : Site costs j). absurd (h j l z)) (which mostCost (get_or costs j 0))))
+      (⊎_elim (λ (z : most_cost < get_or costs j 0). z) (λ (z : Site costs j). absurd (h j l z)) (which most_cost (get_or costs j 0))))

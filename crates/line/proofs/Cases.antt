@@ -3,7 +3,7 @@
 use mathlib.Core.Path.{◌≡◌, refl}
 use mathlib.Core.List.{[], ◌∷◌}
 use Rattle.plane.specs.Plane.{apart, table}
-use Rattle.line.specs.steps.FirstLeast.{firstLeast}
+use Rattle.line.specs.steps.FirstLeast.{first_least}
 use Rattle.line.specs.Walk.{lower}
 use Rattle.line.specs.Grid.{value_of}
 use Rattle.line.specs.steps.Line.{value_at, offer, best, place_of, line_of}
@@ -12,5 +12,5 @@ use Rattle.line.specs.steps.Line.{value_at, offer, best, place_of, line_of}
 line-cases : (line_of [] ≡ []) × (line_of (4294967295 ∷ 4294967295 ∷ []) ≡ (4294967295 ∷ 4294967295 ∷ []))
     × (line_of (0 ∷ 4294967295 ∷ 0 ∷ []) ≡ (0 ∷ 0 ∷ 2 ∷ []))
     × (line_of (5 ∷ 0 ∷ 4294967295 ∷ 20 ∷ 1 ∷ 0 ∷ 4294967295 ∷ 0 ∷ []) ≡ (1 ∷ 1 ∷ 1 ∷ 4 ∷ 4 ∷ 5 ∷ 5 ∷ 7 ∷ []))
-unfolding lower value_of firstLeast apart value_at offer best place_of table line_of
+unfolding lower value_of first_least apart value_at offer best place_of table line_of
 line-cases = (refl, refl, refl, refl)

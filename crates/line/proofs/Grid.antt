@@ -9,7 +9,7 @@ use Prim.Native.Nat.{ℕ, zero, suc, ◌+◌, ◌*◌, ◌≤◌, ◌<◌}
 use native.Mathlib.Omega.{arith}
 use lib.ListN.{length}
 use borrow.Author.Tests.{lt-ltb, le-ltb}
-use Rattle.line.specs.steps.FirstLeast.{firstLeast}
+use Rattle.line.specs.steps.FirstLeast.{first_least}
 use Rattle.line.specs.Walk.{lower}
 use Rattle.line.specs.steps.Line.{value_at, offer, best}
 use Rattle.line.specs.steps.Columns.{attach, chosen, Encodes}
@@ -100,43 +100,43 @@ module _ {P : Type 0} (f : ℕ → P → Option ℕ) where
 
   module _ (ps : List P) where
     -- a column's answer, and its number
-    abbrev pub columnBest : ℕ → Option P
-    columnBest i = walk (f i) none ps
+    abbrev pub column_best : ℕ → Option P
+    column_best i = walk (f i) none ps
 
-    abbrev pub columnCost : ℕ → Option ℕ
-    columnCost i = value_of (f i) (walk (f i) none ps)
+    abbrev pub column_cost : ℕ → Option ℕ
+    column_cost i = value_of (f i) (walk (f i) none ps)
 
-    chosen-value : (b : Option ℕ) → value_of over (chosen columnBest b) ≡ value_of columnCost b
+    chosen-value : (b : Option ℕ) → value_of over (chosen column_best b) ≡ value_of column_cost b
     unfolding value_of chosen
     chosen-value none = refl
-    chosen-value (some i) = attach-value i (columnBest i)
+    chosen-value (some i) = attach-value i (column_best i)
 
     chosen-cond : (n : ℕ) (t : Bool) (b : Option ℕ)
-        → cond t (attach n (columnBest n)) (chosen columnBest b) ≡ chosen columnBest (cond t (some n) b)
+        → cond t (attach n (column_best n)) (chosen column_best b) ≡ chosen column_best (cond t (some n) b)
     unfolding chosen
     chosen-cond n true b = refl
     chosen-cond n false b = refl
 
-    first-column : (n : ℕ) → walk over none (column n ps) ≡ attach n (columnBest n)
+    first-column : (n : ℕ) → walk over none (column n ps) ≡ attach n (column_best n)
     unfolding attach
     first-column n = walk-column n none ps
 
     next-column : (n : ℕ) (b : Option ℕ)
-        → better over (chosen columnBest b) (attach n (columnBest n))
-        ≡ chosen columnBest (cond (lower (columnCost n) (value_of columnCost b)) (some n) b)
+        → better over (chosen column_best b) (attach n (column_best n))
+        ≡ chosen column_best (cond (lower (column_cost n) (value_of column_cost b)) (some n) b)
     unfolding better
-    next-column n b = rw (attach-value n (columnBest n), chosen-value b) (chosen-cond n (lower (columnCost n) (value_of columnCost b)) b)
+    next-column n b = rw (attach-value n (column_best n), chosen-value b) (chosen-cond n (lower (column_cost n) (value_of column_cost b)) b)
 
     -- the law: one walk over the grid, columns outermost, is the walk over the columns' answers
-    pub compose : (n : ℕ) → walk over none (grid n ps) ≡ chosen columnBest (firstLeast columnCost n)
-    unfolding grid firstLeast
+    pub compose : (n : ℕ) → walk over none (grid n ps) ≡ chosen column_best (first_least column_cost n)
+    unfolding grid first_least
     compose zero = unfold walk chosen in refl
     compose (suc n) =
         walk-append over none (grid n ps) (column n ps)
         ∙ ap (λ (b : Option (ℕ × P)). walk over b (column n ps)) (compose n)
-        ∙ walk_from over (chosen columnBest (firstLeast columnCost n)) (column n ps)
-        ∙ ap (better over (chosen columnBest (firstLeast columnCost n))) (first-column n)
-        ∙ next-column n (firstLeast columnCost n)
+        ∙ walk_from over (chosen column_best (first_least column_cost n)) (column n ps)
+        ∙ ap (better over (chosen column_best (first_least column_cost n))) (first-column n)
+        ∙ next-column n (first_least column_cost n)
 
 -- a number added to all of a walk changes no answer
 plus-value : {P : Type 0} (f : P → Option ℕ) (k : ℕ) (b : Option P) → value_of (λ (p : P). plus k (f p)) b ≡ plus k (value_of f b)
@@ -163,8 +163,8 @@ walk-plus {P} f k b (p ∷ ps) =
     ∙ walk-plus f k (cond (lower (f p) (value_of f b)) (some p) b) ps
 
 -- a walk along a line is one over its places
-pub walk-line : (f : ℕ → Option ℕ) (n : ℕ) → walk f none (upto n) ≡ firstLeast f n
-unfolding upto firstLeast walk
+pub walk-line : (f : ℕ → Option ℕ) (n : ℕ) → walk f none (upto n) ≡ first_least f n
+unfolding upto first_least walk
 walk-line f zero = refl
 walk-line f (suc n) =
     walk-append f none (upto n) (n ∷ [])
@@ -178,13 +178,13 @@ module _ (f g : ℕ → Option ℕ) where
   one_more n false b c e h = h
 
   same-walk : (n : ℕ) → ((i : ℕ) → i < n → f i ≡ g i)
-      → (firstLeast f n ≡ firstLeast g n) × (value_of f (firstLeast f n) ≡ value_of g (firstLeast g n))
-  unfolding firstLeast
+      → (first_least f n ≡ first_least g n) × (value_of f (first_least f n) ≡ value_of g (first_least g n))
+  unfolding first_least
   same-walk zero h = (refl, unfold value_of in refl)
   same-walk (suc n) h =
       let e = h n (omega arith) in
       let r = same-walk n (λ i l. h i (omega arith)) in
-      (rw (e, r.1, r.0), rw (e, r.1) (one_more n (lower (g n) (value_of g (firstLeast g n))) (firstLeast f n) (firstLeast g n) e r.1))
+      (rw (e, r.1, r.0), rw (e, r.1) (one_more n (lower (g n) (value_of g (first_least g n))) (first_least f n) (first_least g n) e r.1))
 
 -- the line pass over the costs of the columns
 offer-encoded : (costs : List ℕ) (c : ℕ → Option ℕ) (x : ℕ) → Encodes costs c → (i : ℕ) → i < length costs → (v : Option ℕ) → c i ≡ v
@@ -204,25 +204,25 @@ module _ {P : Type 0} (c : ℕ → P → Option ℕ) (ps : List P) (x : ℕ) whe
   abbrev pub far : ℕ → P → Option ℕ
   far i p = plus (apart x i * apart x i) (c i p)
 
-  far-cost : (i : ℕ) → columnCost far ps i ≡ plus (apart x i * apart x i) (columnCost c ps i)
+  far-cost : (i : ℕ) → column_cost far ps i ≡ plus (apart x i * apart x i) (column_cost c ps i)
   far-cost i =
-      ap (value_of (far i)) (walk-plus (c i) (apart x i * apart x i) none ps) ∙ plus-value (c i) (apart x i * apart x i) (columnBest c ps i)
+      ap (value_of (far i)) (walk-plus (c i) (apart x i * apart x i) none ps) ∙ plus-value (c i) (apart x i * apart x i) (column_best c ps i)
 
-  far-chosen : (b : Option ℕ) → chosen (columnBest far ps) b ≡ chosen (columnBest c ps) b
+  far-chosen : (b : Option ℕ) → chosen (column_best far ps) b ≡ chosen (column_best c ps) b
   unfolding chosen
   far-chosen none = refl
   far-chosen (some i) = ap (attach i) (walk-plus (c i) (apart x i * apart x i) none ps)
 
-  module _ (costs : List ℕ) (e : Encodes costs (columnCost c ps)) where
+  module _ (costs : List ℕ) (e : Encodes costs (column_cost c ps)) where
     -- the numbers of the columns' answers are those of the line pass
-    offered : (i : ℕ) → i < length costs → columnCost far ps i ≡ offer costs x i
-    offered i l = far-cost i ∙ offer-encoded costs (columnCost c ps) x e i l (columnCost c ps i) refl
+    offered : (i : ℕ) → i < length costs → column_cost far ps i ≡ offer costs x i
+    offered i l = far-cost i ∙ offer-encoded costs (column_cost c ps) x e i l (column_cost c ps i) refl
 
-    pub two-stages : walk (over far) none (grid (length costs) ps) ≡ chosen (columnBest c ps) (best costs x)
+    pub two-stages : walk (over far) none (grid (length costs) ps) ≡ chosen (column_best c ps) (best costs x)
     unfolding best
     two-stages =
         compose far ps (length costs)
-        ∙ ap (chosen (columnBest far ps)) (same-walk (columnCost far ps) (offer costs x) (length costs) offered).0
+        ∙ ap (chosen (column_best far ps)) (same-walk (column_cost far ps) (offer costs x) (length costs) offered).0
         ∙ far-chosen (best costs x)
 
     -- and the number of the grid's answer is the number of the line pass, so that a further axis takes it as its cost
@@ -230,5 +230,5 @@ module _ {P : Type 0} (c : ℕ → P → Option ℕ) (ps : List P) (x : ℕ) whe
     unfolding best
     two-stages-value =
         ap (value_of (over far)) (compose far ps (length costs))
-        ∙ chosen-value far ps (firstLeast (columnCost far ps) (length costs))
-        ∙ (same-walk (columnCost far ps) (offer costs x) (length costs) offered).1
+        ∙ chosen-value far ps (first_least (column_cost far ps) (length costs))
+        ∙ (same-walk (column_cost far ps) (offer costs x) (length costs) offered).1

@@ -10,11 +10,11 @@ use lib.ListN.{length, get_or, set, length-set}
 use lib.Seq.{get_or-set_same, get_or-set_other}
 use borrow.Author.Count.{below_more}
 use Rattle.plane.proofs.Search.{which}
-use Rattle.line.specs.steps.Line.{mostCost, Site, value_at}
+use Rattle.line.specs.steps.Line.{most_cost, Site, value_at}
 use Rattle.line.specs.steps.Part.{part}
-use Rattle.line.specs.steps.Envelope.{Regions, Beside, Leads, Stack, siteAt, start_at, heightAt}
+use Rattle.line.specs.steps.Envelope.{Regions, Beside, Leads, Stack, site_at, start_at, height_at}
 use Rattle.line.specs.steps.Envelope.{Stays, Dropped, Placed, Ready, Skips, Stacked}
-use Rattle.line.proofs.Squares.{height, takeoverAt, balance, beats, holds, heights, before, after}
+use Rattle.line.proofs.Squares.{height, takeover_at, balance, beats, holds, heights, before, after}
 use Rattle.line.proofs.Part.{part_length, part_at, part_same}
 
 -- ---- who leads
@@ -112,7 +112,7 @@ module _ {costs : List ℕ} {s t : ℕ → ℕ} {u count : ℕ} (st : Stack cost
   -- p is the top that stays, and w where u takes over from it
   module _ (site : Site costs u) (p : ℕ) (d : Dropped (Even costs s t u) count (p + 1)) where
     abbrev w : ℕ
-    w = takeoverAt costs (s p) u
+    w = takeover_at costs (s p) u
 
     low : p < count
     low = omega (arith, d.fewer)
@@ -210,13 +210,13 @@ module _ (work : List ℕ) (out stack k u w : ℕ) (apart : out + k < stack) (ro
   stored = set sited (out + k) w
 
   abbrev s : ℕ → ℕ
-  s = siteAt work stack
+  s = site_at work stack
 
   abbrev t : ℕ → ℕ
   t = start_at work out
 
   abbrev s' : ℕ → ℕ
-  s' = siteAt stored stack
+  s' = site_at stored stack
 
   abbrev t' : ℕ → ℕ
   t' = start_at stored out
@@ -304,31 +304,31 @@ module _ {work : List ℕ} {out costs stack n count u : ℕ} (ready : Ready work
   site : Site line u
   site = let e = part_at work costs n u 0 ready.inside in omega (arith, ready.cost)
 
-  pub site_left : (q : ℕ) → q < count → siteAt work stack q < u
+  pub site_left : (q : ℕ) → q < count → site_at work stack q < u
   site_left q g = (at-start ready.whole q g).inside
 
   pub start-in : (q : ℕ) → q < count → start_at work out q < n
   start-in q g = let e = long in let z = ready.whole.inside q g in omega arith
 
   -- the height of a place of the line
-  height-at : (i : ℕ) → i < n → height line i ≡ heightAt work costs i
+  height-at : (i : ℕ) → i < n → height line i ≡ height_at work costs i
   height-at i l = let e = part_at work costs n i 0 l in omega arith
 
   -- what find_spot compares, in terms of values
-  compared : (q : ℕ) → q < count → (Stays work out costs stack u q → Even line (siteAt work stack) (start_at work out) u q)
-      × (Even line (siteAt work stack) (start_at work out) u q → Stays work out costs stack u q)
+  compared : (q : ℕ) → q < count → (Stays work out costs stack u q → Even line (site_at work stack) (start_at work out) u q)
+      × (Even line (site_at work stack) (start_at work out) u q → Stays work out costs stack u q)
   compared q g =
       let l = ready.inside in
       let left = site_left q g in
       let hu = height-at u l in
-      let hs = height-at (siteAt work stack q) (omega arith) in
-      let e = balance line (start_at work out q) (siteAt work stack q) u (omega arith) in
+      let hs = height-at (site_at work stack q) (omega arith) in
+      let e = balance line (start_at work out q) (site_at work stack q) u (omega arith) in
       ((λ h. omega arith), (λ h. omega arith))
 
   -- u goes on top of the r sites that stay, and leads from w on
   module _ {r w : ℕ} (at : Placed work out costs stack count u r w) where
     -- those that go are worse than u at their own start
-    d : Dropped (Even line (siteAt work stack) (start_at work out) u) count r
+    d : Dropped (Even line (site_at work stack) (start_at work out) u) count r
     d =
         let f = at.dropped.fewer in
         record {
@@ -343,27 +343,27 @@ module _ {work : List ℕ} {out costs stack n count u : ℕ} (ready : Ready work
 
     -- the top that stays, where there is one
     module _ (p : ℕ) (is : r ≡ p + 1) where
-      top : Dropped (Even line (siteAt work stack) (start_at work out) u) count (p + 1)
+      top : Dropped (Even line (site_at work stack) (start_at work out) u) count (p + 1)
       top = rw is at d
 
-      takes-over : w ≡ takeoverAt line (siteAt work stack p) u
-      unfolding takeoverAt
+      takes-over : w ≡ takeover_at line (site_at work stack p) u
+      unfolding takeover_at
       takes-over =
           let left = site_left p (omega (arith, at.dropped.fewer)) in
-          rw (height-at (siteAt work stack p) (omega (arith, ready.inside)), height-at u ready.inside) (at.over p is)
+          rw (height-at (site_at work stack p) (omega (arith, ready.inside)), height-at u ready.inside) (at.over p is)
 
     -- w lies behind the start of the top
     rise : (p : ℕ) → r ≡ p + 1 → start_at work out p < w
     rise p is = rw (takes-over p is) (later ready.whole site p (top p is))
 
     -- those that stay lead up to w
-    old : Lead-to line (siteAt work stack) (start_at work out) (u + 1) r w
+    old : Lead-to line (site_at work stack) (start_at work out) (u + 1) r w
     old =
         ⊎_elim
         (λ (h : 0 < r).
         let is : r ≡ r - 1 + 1 = omega arith in
         rw (takes-over (r - 1) is)
-        (subst (λ (k : ℕ). Lead-to line (siteAt work stack) (start_at work out) (u + 1) k (takeoverAt line (siteAt work stack (r - 1)) u))
+        (subst (λ (k : ℕ). Lead-to line (site_at work stack) (start_at work out) (u + 1) k (takeover_at line (site_at work stack (r - 1)) u))
         (omega arith) (segment ready.whole site (r - 1) (top (r - 1) is))))
         (λ (h : r ≤ 0). (λ q g. absurd (omega arith)))
         (which 0 r)
@@ -402,7 +402,7 @@ module _ {work : List ℕ} {out costs stack n count u : ℕ} (ready : Ready work
         record {
           beside = record { before = λ i h. refl; behind = λ i g h. refl };
           whole =
-              subst (λ (k : ℕ). Stack line (siteAt work stack) (start_at work out) (u + 1) k) (omega arith)
+              subst (λ (k : ℕ). Stack line (site_at work stack) (start_at work out) (u + 1) k) (omega arith)
               (push-none ready.whole site (r - 1) (top (r - 1) is) (let z = takes-over (r - 1) is in omega arith));
         }
 
@@ -416,7 +416,7 @@ module _ {old work : List ℕ} {out costs stack n u count : ℕ} (room : Regions
   same-costs : part work costs n ≡ part old costs n
   same-costs = part_same 0 old work costs costs n (omega (arith, room)) (omega (arith, room)) same-cost
 
-  pub ready : get_or work (costs + u) 0 ≤ mostCost → Ready work out costs stack n count u
+  pub ready : get_or work (costs + u) 0 ≤ most_cost → Ready work out costs stack n count u
   ready cost = record {
     regions = rw size room;
     inside = inside;
@@ -425,12 +425,12 @@ module _ {old work : List ℕ} {out costs stack n u count : ℕ} (room : Regions
   }
 
   -- places with no site change nothing
-  pub stacked-skip : mostCost < get_or work (costs + u) 0 → (v : ℕ) → Skips work costs n (u + 1) v
+  pub stacked-skip : most_cost < get_or work (costs + u) 0 → (v : ℕ) → Skips work costs n (u + 1) v
       → Stacked old work out costs stack n v count
   stacked-skip g v k =
-      let above : (j : ℕ) → u ≤ j → j < v → mostCost < get_or work (costs + j) 0 = λ j a b.
+      let above : (j : ℕ) → u ≤ j → j < v → most_cost < get_or work (costs + j) 0 = λ j a b.
       ⊎_elim (λ (l : u < j). k.none j (omega arith) b)
-      (λ (l : j ≤ u). subst (λ (i : ℕ). mostCost < get_or work (costs + i) 0) (omega arith) g) (which u j) in
+      (λ (l : j ≤ u). subst (λ (i : ℕ). most_cost < get_or work (costs + i) 0) (omega arith) g) (which u j) in
       record {
         beside = sk.beside;
         whole = skipped sk.whole v (omega (arith, k.after)) (λ j a b h.

@@ -13,10 +13,10 @@ use borrow.Author.Count.{below_more}
 use Rattle.plane.specs.Plane.{apart}
 use Rattle.plane.proofs.Search.{which}
 use Rattle.line.specs.steps.FirstLeast.{Answers}
-use Rattle.line.specs.steps.Line.{mostLength, noPlace, Site, value_at, offer, best, place_of}
+use Rattle.line.specs.steps.Line.{most_length, no_place, Site, value_at, offer, best, place_of}
 use Rattle.line.specs.steps.Part.{part, Written}
-use Rattle.line.specs.steps.Envelope.{Regions, Beside, siteAt, Leads, Stacked, Segments, InSegment, Spread}
-use Rattle.line.specs.steps.Run.{placeFrom, Ran, Ends, Lone, Done, Passed}
+use Rattle.line.specs.steps.Envelope.{Regions, Beside, site_at, Leads, Stacked, Segments, InSegment, Spread}
+use Rattle.line.specs.steps.Run.{place_from, Ran, Ends, Lone, Done, Passed}
 use Rattle.line.proofs.Squares.{square-lt, apart-left, apart-right, apart-zero}
 use Rattle.line.proofs.Walk.{clash, walk-answers}
 use Rattle.line.proofs.Best.{line-is, offer-site, offered, leader, no-leader}
@@ -192,13 +192,13 @@ module _ (costs : List ℕ) (a k : ℕ) (within : a + k ≤ length costs) (left 
         (λ (p : length costs ≤ a + k). p) (which (a + k) (length costs)) in
         off j (omega arith) (omega arith)
 
-    run-from : (b : Option ℕ) → best run y ≡ b → placeFrom a b ≡ place_of (best costs (a + y))
-    unfolding placeFrom place_of
+    run-from : (b : Option ℕ) → best run y ≡ b → place_from a b ≡ place_of (best costs (a + y))
+    unfolding place_from place_of
     run-from none e = sym (ap place_of (no-leader costs (run_none (best_none run y e)) (a + y)))
     run-from (some i) e = sym (ap place_of (leader costs (a + y) (a + i) (run-leads i (best-leads run y i e))))
 
     -- the run's own line pass, moved to the run's start, is the line's
-    run-place : placeFrom a (best run y) ≡ place_of (best costs (a + y))
+    run-place : place_from a (best run y) ≡ place_of (best costs (a + y))
     run-place = run-from (best run y) refl
 
 -- ---- a run in the buffer: the stack is there, and its segments are answered
@@ -208,7 +208,7 @@ module _ {old mid : List ℕ} {out costs stack n count : ℕ} (base : ℕ) (r : 
   long : length (part old costs n) ≡ n
   long = part_length old costs n (omega (arith, r))
 
-  pub segments : 0 < count → base ≤ mostLength → Segments mid out stack n count base
+  pub segments : 0 < count → base ≤ most_length → Segments mid out stack n count base
   segments p low =
       let e = long in
       let st = sk.whole in
@@ -224,12 +224,12 @@ module _ {old mid : List ℕ} {out costs stack n count : ℕ} (base : ℕ) (r : 
         site = λ q g. (at-start st q g).inside;
       }
 
-  in-segment : (x v : ℕ) → x < n → InSegment mid out stack count base x v → v ≡ placeFrom base (best (part old costs n) x)
-  unfolding placeFrom
+  in-segment : (x v : ℕ) → x < n → InSegment mid out stack count base x v → v ≡ place_from base (best (part old costs n) x)
+  unfolding place_from
   in-segment x v g s =
       let e = long in
       let l = sk.whole.leads s.q s.inside x s.from (omega arith) s.until in
-      s.site ∙ sym (ap (placeFrom base) (leader (part old costs n) x (siteAt mid stack s.q) (rw e l)))
+      s.site ∙ sym (ap (place_from base) (leader (part old costs n) x (site_at mid stack s.q) (rw e l)))
 
   pub ran-spread : {new : List ℕ} → Spread mid new out stack n count base → Ran old new out costs stack n base
   ran-spread {new} s = record {
@@ -241,13 +241,13 @@ module _ {old mid : List ℕ} {out costs stack n count : ℕ} (base : ℕ) (r : 
   }
 
   -- no site at all
-  pub ran-none : {new : List ℕ} → count ≡ 0 → Written 0 (λ (_ : ℕ). noPlace) out n mid new → Ran old new out costs stack n base
-  unfolding placeFrom
+  pub ran-none : {new : List ℕ} → count ≡ 0 → Written 0 (λ (_ : ℕ). no_place) out n mid new → Ran old new out costs stack n base
+  unfolding place_from
   ran-none z s =
       let e = long in
       let none-on = no-leader (part old costs n) (λ j g. sk.whole.empty z j (omega arith)) in
       record {
-        answers = λ x g. s.here x g ∙ sym (ap (placeFrom base) (none-on x));
+        answers = λ x g. s.here x g ∙ sym (ap (place_from base) (none-on x));
         beside = record {
           before = λ i g. s.before i g ∙ sk.beside.before i g;
           behind = λ i g h. s.behind i g ∙ sk.beside.behind i g h;
@@ -360,7 +360,7 @@ module _ {old work : List ℕ} {out costs stack n x : ℕ} (r : Regions out cost
             let end : a + (e - a) ≡ e = omega arith in
             ap (λ (m : ℕ). get_or new m 0) (omega arith)
             ∙ ran.answers i g
-            ∙ ap (λ (v : List ℕ). placeFrom a (best v i)) same-run
+            ∙ ap (λ (v : List ℕ). place_from a (best v i)) same-run
             ∙ run-place line a (e - a) (omega arith) (λ z. rw from (starts (omega arith))) (rw end (λ z. stops (omega arith))) i g
 
         pub run-next : Passing old new out costs stack n e

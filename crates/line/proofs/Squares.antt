@@ -17,8 +17,8 @@ abbrev pub height : List ℕ → ℕ → ℕ
 height costs i = get_or costs i 0 + i * i
 
 -- the first x at which u, to the right of i, is strictly better than i
-unfoldable pub takeoverAt : List ℕ → ℕ → ℕ → ℕ
-takeoverAt costs i u = (height costs u - height costs i) / (2 * (u - i)) + 1
+unfoldable pub takeover_at : List ℕ → ℕ → ℕ → ℕ
+takeover_at costs i u = (height costs u - height costs i) / (2 * (u - i)) + 1
 
 square-sum : (x d : ℕ) → d * d + 2 * (x * (x + d)) ≡ x * x + (x + d) * (x + d)
 square-sum x d =
@@ -80,16 +80,16 @@ module _ (costs : List ℕ) where
   heights i u x h b = let p = balance x i u h in omega arith
 
   -- before the takeover i is as good, from it on u is strictly better
-  pub before : (i u x : ℕ) → i < u → height costs i ≤ height costs u → x < takeoverAt costs i u → value_at costs x i ≤ value_at costs x u
-  unfolding takeoverAt
+  pub before : (i u x : ℕ) → i < u → height costs i ≤ height costs u → x < takeover_at costs i u → value_at costs x i ≤ value_at costs x u
+  unfolding takeover_at
   before i u x h g l =
       let p = balance x i u (omega arith) in
       let rise = height costs u - height costs i in
       let m : x * (2 * (u - i)) ≤ rise = (le-div_iff_mul-le {k = 2 * (u - i)} {x = x} {y = rise} (omega arith)).0 (omega arith) in
       omega arith
 
-  pub after : (i u x : ℕ) → i < u → takeoverAt costs i u ≤ x → value_at costs x u < value_at costs x i
-  unfolding takeoverAt
+  pub after : (i u x : ℕ) → i < u → takeover_at costs i u ≤ x → value_at costs x u < value_at costs x i
+  unfolding takeover_at
   after i u x h l =
       let p = balance x i u (omega arith) in
       let rise = height costs u - height costs i in

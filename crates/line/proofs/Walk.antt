@@ -9,7 +9,7 @@ use Prim.Native.Nat.{ℕ, zero, suc, ◌≤◌, ◌<◌}
 use native.Mathlib.Nat.{not-suc-le-zero}
 use native.Mathlib.Omega.{arith}
 use borrow.Author.Tests.{lt-ltb, le-ltb}
-use Rattle.line.specs.steps.FirstLeast.{firstLeast, First, Answers}
+use Rattle.line.specs.steps.FirstLeast.{first_least, First, Answers}
 use Rattle.line.specs.Walk.{lower}
 use Rattle.line.specs.Grid.{value_of}
 use Rattle.plane.proofs.Search.{which, below_suc}
@@ -67,10 +67,10 @@ module _ (f : ℕ → Option ℕ) where
       (which w h.0))
 
   -- what the walk answers is so
-  pub walk-answers : (n : ℕ) → Answers f n (firstLeast f n)
-  unfolding firstLeast
+  pub walk-answers : (n : ℕ) → Answers f n (first_least f n)
+  unfolding first_least
   walk-answers zero = λ j l. absurd (not-suc-le-zero l)
-  walk-answers (suc n) = step n (firstLeast f n) (f n) refl (walk-answers n)
+  walk-answers (suc n) = step n (first_least f n) (f n) refl (walk-answers n)
 
   -- two answers are one
   one_answer : (n : ℕ) (a b : Option ℕ) → Answers f n a → Answers f n b → a ≡ b
@@ -92,5 +92,5 @@ module _ (f : ℕ → Option ℕ) where
       ap {B = Option ℕ} some e
 
   -- and nothing else is
-  pub walk_is : (n : ℕ) (b : Option ℕ) → Answers f n b → firstLeast f n ≡ b
-  walk_is n b h = one_answer n (firstLeast f n) b (walk-answers n) h
+  pub walk_is : (n : ℕ) (b : Option ℕ) → Answers f n b → first_least f n ≡ b
+  walk_is n b h = one_answer n (first_least f n) b (walk-answers n) h

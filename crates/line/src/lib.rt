@@ -3,7 +3,7 @@
 // The stack has two numbers for each of its sites: the site itself, in the region stack, and the place where it starts to lead, in
 // the region out. No answer is written over a start that is still needed: site q does not start to lead before place q.
 ghost use Rattle.std.specs.Prelude.{◌≡◌, true, ℕ, ◌+◌, ◌*◌, ◌-◌, ◌/◌, ◌<◌, ◌≤◌, length};
-ghost use Rattle.line.specs.steps.Line.{mostCost, mostLength};
+ghost use Rattle.line.specs.steps.Line.{most_cost, most_length};
 ghost use Rattle.line.specs.steps.Part.{Written};
 ghost use Rattle.line.specs.steps.Envelope.{Regions, Tops, Placed, Ready, Skips, Stacked, Segments, Spread};
 ghost use Rattle.line.specs.steps.Run.{Ends, Lone, Ran, Passed};
@@ -16,7 +16,7 @@ pub const NO_PLACE: u32 = 4294967295;
 
 // A cost and the square of its place.
 fn high(cost: u32, i: usize) -> u64
-    requires { i < mostLength }
+    requires { i < most_length }
     ensures { result ≡ cost + i * i }
 {
     let d = i as u64;
@@ -26,7 +26,7 @@ fn high(cost: u32, i: usize) -> u64
 // The first x at which a site is strictly better than one that lies step places to its left and is lower by rise.
 // The shortest steps, which are the most frequent, take no division.
 fn takeover(rise: usize, step: usize) -> usize
-    requires { (0 < step) × (step < mostLength) × (rise ≤ 2 * mostCost) }
+    requires { (0 < step) × (step < most_length) × (rise ≤ 2 * most_cost) }
     ensures { result ≡ rise / (2 * step) + 1 }
 {
     if step == 1 {
@@ -157,7 +157,7 @@ fn answer(work: &mut [u32], out: usize, stack: usize, n: usize, count: usize, ba
 
 // The line pass over a part of the line that starts at base.
 fn run(work: &mut [u32], out: usize, costs: usize, stack: usize, n: usize, base: usize)
-    requires { Regions out costs stack n (length work.old) × (base ≤ mostLength) }
+    requires { Regions out costs stack n (length work.old) × (base ≤ most_length) }
     ensures { Ran work.old work.new out costs stack n base }
 {
     let count = build(work, out, costs, stack, n);

@@ -11,8 +11,8 @@ use lib.Ieee.{Float, fin, binary64, up, down, add, div, sum, round, lt, le, eq}
 use lib.Ieee.Bits.{is_true}
 use lib.Ieee.Fits.{up_pos, down_pos, and_i, div-fits}
 use lib.Ieee.Order.{round_mono}
-use Rattle.colour.specs.Number.{zero64, one64, two64, plusZero, half_of}
-use Rattle.colour.specs.Colour.{colourOk}
+use Rattle.colour.specs.Number.{zero64, one64, two64, plus_zero, half_of}
+use Rattle.colour.specs.Colour.{colour_ok}
 use Rattle.colour.proofs.Compare.{lt-or-eq}
 use Rattle.colour.proofs.Order.{Plain, plain, nonneg, plus0-plain}
 use Rattle.colour.proofs.Zero.{plus0, plus0-plus0, Alike, le-alike, add-alike, div-alike, plus-zero-is}
@@ -69,8 +69,8 @@ half-between z h =
     within-alike one64 _ _ (div-alike binary64 (plus0 z) z false 0 (pos 1) same) b
 
 -- half of the sum of two numbers from 0 to 1, a zero as +0, is from 0 to 1
-pub half-ok : (x y : Float) → T (nonneg x) → T (nonneg y) → Within one64 x → Within one64 y → colourOk (plusZero (half_of x y)) ≡ true
-unfolding colourOk half_of
+pub half-ok : (x y : Float) → T (nonneg x) → T (nonneg y) → Within one64 x → Within one64 y → colour_ok (plus_zero (half_of x y)) ≡ true
+unfolding colour_ok half_of
 half-ok x y g h p q =
     let i : Alike (plus0 x) x = plus0-plus0 x in
     let j : Alike (plus0 y) y = plus0-plus0 y in
@@ -80,6 +80,6 @@ half-ok x y g h p q =
     let z = add binary64 x y in
     let b = half-between z (within-alike two64 _ z (add-alike binary64 (plus0 x) x (plus0 y) y i j) s) in
     let r = div binary64 z two64 in
-    let c : Alike r (plusZero r) = sym (ap plus0 (plus-zero-is r (div-fits binary64 z two64)) ∙ plus0-plus0 r) in
-    let d = within-alike one64 r (plusZero r) c b in
-    is_true _ (and_i (le zero64 (plusZero r)) (le (plusZero r) one64) d.0 d.1)
+    let c : Alike r (plus_zero r) = sym (ap plus0 (plus-zero-is r (div-fits binary64 z two64)) ∙ plus0-plus0 r) in
+    let d = within-alike one64 r (plus_zero r) c b in
+    is_true _ (and_i (le zero64 (plus_zero r)) (le (plus_zero r) one64) d.0 d.1)

@@ -6,9 +6,9 @@ use Prim.Native.Nat.{ℕ}
 use lib.Dec.{T, eqb}
 use lib.IntN.{pos, negsuc}
 use lib.Ieee.{Float, fin, binary64, of_bits, to_bits, lt, le, eq, add, div, of_int}
-use Rattle.colour.specs.Number.{plusZero, half_of}
-use Rattle.median.specs.Median.{insert, sorted, placed, lowerMiddle, upperMiddle, medianOf}
-use Rattle.median.specs.steps.Select.{at_most, nearer, leastAbove}
+use Rattle.colour.specs.Number.{plus_zero, half_of}
+use Rattle.median.specs.Median.{insert, sorted, placed, lower_middle, upper_middle, median_of}
+use Rattle.median.specs.steps.Select.{at_most, nearer, least_above}
 
 all : List Bool → Bool
 all [] = true
@@ -33,27 +33,27 @@ eighths n = div binary64 (whole n) (whole 8)
 cases : List Bool
 cases =
     -- numpy.median: of an even count the average of the two middle values, as of 1 2 3 4 it is 2.5
-    bits (medianOf (eighths 4 ∷ eighths 1 ∷ eighths 3 ∷ eighths 2 ∷ [])) 0x3fd4_0000_0000_0000
+    bits (median_of (eighths 4 ∷ eighths 1 ∷ eighths 3 ∷ eighths 2 ∷ [])) 0x3fd4_0000_0000_0000
     -- numpy's example 10 7 4 3 2 1: 3.5
-    ∷ eq (medianOf (whole 10 ∷ whole 7 ∷ whole 4 ∷ whole 3 ∷ whole 2 ∷ whole 1 ∷ [])) (fin false 7 (negsuc 0))
+    ∷ eq (median_of (whole 10 ∷ whole 7 ∷ whole 4 ∷ whole 3 ∷ whole 2 ∷ whole 1 ∷ [])) (fin false 7 (negsuc 0))
     -- two values
-    ∷ eq (medianOf (eighths 8 ∷ eighths 0 ∷ [])) (eighths 4)
-    ∷ eq (lowerMiddle (eighths 8 ∷ eighths 0 ∷ [])) zero+
-    ∷ eq (upperMiddle (eighths 8 ∷ eighths 0 ∷ [])) (eighths 8)
+    ∷ eq (median_of (eighths 8 ∷ eighths 0 ∷ [])) (eighths 4)
+    ∷ eq (lower_middle (eighths 8 ∷ eighths 0 ∷ [])) zero+
+    ∷ eq (upper_middle (eighths 8 ∷ eighths 0 ∷ [])) (eighths 8)
     -- repeats count
-    ∷ eq (medianOf (eighths 3 ∷ eighths 8 ∷ eighths 3 ∷ eighths 3 ∷ [])) (eighths 3)
+    ∷ eq (median_of (eighths 3 ∷ eighths 8 ∷ eighths 3 ∷ eighths 3 ∷ [])) (eighths 3)
     -- a zero as +0
-    ∷ bits (medianOf (zero- ∷ zero- ∷ [])) 0
-    ∷ bits (medianOf (zero- ∷ zero- ∷ zero+ ∷ eighths 1 ∷ [])) 0
+    ∷ bits (median_of (zero- ∷ zero- ∷ [])) 0
+    ∷ bits (median_of (zero- ∷ zero- ∷ zero+ ∷ eighths 1 ∷ [])) 0
     -- values one unit in the last place apart: the sum is rounded once, to the even one
-    ∷ bits (medianOf (of_bits binary64 0x3fe0_0000_0000_0001 ∷ of_bits binary64 0x3fe0_0000_0000_0002 ∷ [])) 0x3fe0_0000_0000_0002
+    ∷ bits (median_of (of_bits binary64 0x3fe0_0000_0000_0001 ∷ of_bits binary64 0x3fe0_0000_0000_0002 ∷ [])) 0x3fe0_0000_0000_0002
     ∷ eqb (at_most (eighths 3) (eighths 3 ∷ eighths 8 ∷ zero- ∷ eighths 3 ∷ [])) 3
     ∷ eqb (at_most zero+ (eighths 3 ∷ eighths 8 ∷ zero- ∷ eighths 3 ∷ [])) 1
-    ∷ eq (leastAbove (eighths 3) (eighths 7 ∷ eighths 3 ∷ eighths 5 ∷ zero- ∷ [])) (eighths 5)
-    ∷ eq (leastAbove (eighths 7) (eighths 7 ∷ eighths 3 ∷ [])) (eighths 8)
+    ∷ eq (least_above (eighths 3) (eighths 7 ∷ eighths 3 ∷ eighths 5 ∷ zero- ∷ [])) (eighths 5)
+    ∷ eq (least_above (eighths 7) (eighths 7 ∷ eighths 3 ∷ [])) (eighths 8)
     ∷ []
 
 cases-hold : T (all cases)
-unfolding cases all bits insert sorted placed lowerMiddle upperMiddle medianOf at_most nearer leastAbove
-    plusZero half_of lt le eq add div of_int of_bits to_bits
+unfolding cases all bits insert sorted placed lower_middle upper_middle median_of at_most nearer least_above
+    plus_zero half_of lt le eq add div of_int of_bits to_bits
 cases-hold = tt

@@ -18,9 +18,9 @@ use lib.Ieee.Digits.{size-lt, size_reaches, size-le}
 use lib.Ieee.Fits.{two, up_pos, down_pos, kept-lt, and_l, and_r}
 use borrow.Author.Tests.{ne_eqb, lt-ltb, le-ltb, le-leb, lt-leb, ltb-true, ltb-false, leb-true, leb-false}
 use Rattle.colour.specs.Number.{zero64, one64}
-use Rattle.colour.specs.Colour.{colourOk}
+use Rattle.colour.specs.Colour.{colour_ok}
 use Rattle.colour.proofs.Zero.{plus0, Alike}
-use Rattle.colour.proofs.Order.{unitsOf, nonneg, lt-units, le-units, down-divides, down_le, plus0-units, plus0-fits, plus0-plain, Plain}
+use Rattle.colour.proofs.Order.{units_of, nonneg, lt-units, le-units, down-divides, down_le, plus0-units, plus0-fits, plus0-plain, Plain}
 use Rattle.colour.proofs.Order.{plain}
 
 -- ---- the pattern of n units of the smallest value
@@ -71,14 +71,14 @@ whole : (a d q l : ℕ) → 0 < d → d * q ≡ l → a * l / d ≡ a * q
 whole a d q l D e =
     ap (λ (k : ℕ). a * k / d) (sym e ∙ mul_comm d q) ∙ ap (λ (k : ℕ). k / d) (sym (mul_assoc a q d)) ∙ mul-div_cancel (a * q) D
 
-plain-key : (x : Float) → Plain x → T (fits binary64 x) → to_bits binary64 x ≡ pattern binary64 (unitsOf binary64 x)
+plain-key : (x : Float) → Plain x → T (fits binary64 x) → to_bits binary64 x ≡ pattern binary64 (units_of binary64 x)
 unfolding to_bits pattern
 plain-key _ (plain m e) t =
     let exact = down-divides e (low binary64) (down_le binary64 false m e t) in
     ap (λ (n : ℕ). 0 + (size n - 53) * hid binary64 + n / 2 ^ (size n - 53)) (whole (m * up e) (down e) _ _ (down_pos e) exact)
-    ∙ ap (λ (k : ℕ). k + unitsOf binary64 (fin false m e) / 2 ^ (size (unitsOf binary64 (fin false m e)) - 53)) (zero-add _)
+    ∙ ap (λ (k : ℕ). k + units_of binary64 (fin false m e) / 2 ^ (size (units_of binary64 (fin false m e)) - 53)) (zero-add _)
 
-key-pattern : (x : Float) → T (fits binary64 x) → T (nonneg x) → key x ≡ pattern binary64 (unitsOf binary64 x)
+key-pattern : (x : Float) → T (fits binary64 x) → T (nonneg x) → key x ≡ pattern binary64 (units_of binary64 x)
 unfolding key
 key-pattern x t p = plain-key (plus0 x) (plus0-plain x p) (plus0-fits binary64 x t) ∙ ap (pattern binary64) (plus0-units binary64 x)
 
@@ -100,13 +100,13 @@ pub record Good (x : Float) : Type 0 where
   pub from_zero : T (nonneg x)
 
 module _ (x y : Float) (g : Good x) (h : Good y) where
-  key-mono : unitsOf binary64 x ≤ unitsOf binary64 y → key x ≤ key y
+  key-mono : units_of binary64 x ≤ units_of binary64 y → key x ≤ key y
   key-mono l = rw (key-pattern x g.held g.from_zero, key-pattern y h.held h.from_zero) (pattern-mono binary64 _ _ l)
 
-  key-units : key x ≡ key y → unitsOf binary64 x ≡ unitsOf binary64 y
-  key-units e = sym (plus0-units binary64 x) ∙ ap (unitsOf binary64) (key-alike x y g.held h.held e) ∙ plus0-units binary64 y
+  key-units : key x ≡ key y → units_of binary64 x ≡ units_of binary64 y
+  key-units e = sym (plus0-units binary64 x) ∙ ap (units_of binary64) (key-alike x y g.held h.held e) ∙ plus0-units binary64 y
 
-  key-strict : unitsOf binary64 x < unitsOf binary64 y → key x < key y
+  key-strict : units_of binary64 x < units_of binary64 y → key x < key y
   key-strict l = go (eq-or-lt_of_le (key-mono (le_of_lt l)))
     where
       go : (key x ≡ key y) ⊎ (key x < key y) → key x < key y
@@ -115,22 +115,22 @@ module _ (x y : Float) (g : Good x) (h : Good y) where
 
 module _ (x y : Float) (g : Good x) (h : Good y) where
   pub lt-key : lt x y ≡ ltb (key x) (key y)
-  lt-key = lt-units binary64 x y g.held h.held g.from_zero h.from_zero ∙ go (ltb (unitsOf binary64 x) (unitsOf binary64 y)) refl
+  lt-key = lt-units binary64 x y g.held h.held g.from_zero h.from_zero ∙ go (ltb (units_of binary64 x) (units_of binary64 y)) refl
     where
-      go : (b : Bool) → ltb (unitsOf binary64 x) (unitsOf binary64 y) ≡ b → b ≡ ltb (key x) (key y)
+      go : (b : Bool) → ltb (units_of binary64 x) (units_of binary64 y) ≡ b → b ≡ ltb (key x) (key y)
       go true e = sym (lt-ltb _ _ (key-strict x y g h (ltb-true _ _ e)))
       go false e = sym (le-ltb _ _ (key-mono y x h g (ltb-false _ _ e)))
 
   pub le-key : le x y ≡ leb (key x) (key y)
-  le-key = le-units binary64 x y g.held h.held g.from_zero h.from_zero ∙ go (leb (unitsOf binary64 x) (unitsOf binary64 y)) refl
+  le-key = le-units binary64 x y g.held h.held g.from_zero h.from_zero ∙ go (leb (units_of binary64 x) (units_of binary64 y)) refl
     where
-      go : (b : Bool) → leb (unitsOf binary64 x) (unitsOf binary64 y) ≡ b → b ≡ leb (key x) (key y)
+      go : (b : Bool) → leb (units_of binary64 x) (units_of binary64 y) ≡ b → b ≡ leb (key x) (key y)
       go true e = sym (le-leb _ _ (key-mono x y g h (leb-true _ _ e)))
       go false e = sym (lt-leb _ _ (key-strict y x h g (leb-false _ _ e)))
 
 -- ---- patterns from 0 to that of 1
-abbrev pub oneBits : ℕ
-oneBits = 0x3ff0_0000_0000_0000
+abbrev pub one_bits : ℕ
+one_bits = 0x3ff0_0000_0000_0000
 
 odd-plain : (d q k l : ℕ) → Plain (odd d false q k l)
 unfolding odd
@@ -142,7 +142,7 @@ unfolding of_fields
 fields-plain zero t h = odd-plain 53 t 0 (low binary64)
 fields-plain (suc x) t h = rw (ne_eqb (suc x) 2047 (λ e. omega arith)) (odd-plain 53 (hid binary64 + t) x (low binary64))
 
-bits-plain : (v : ℕ) → v ≤ oneBits → Plain (of_bits binary64 v)
+bits-plain : (v : ℕ) → v ≤ one_bits → Plain (of_bits binary64 v)
 unfolding of_bits
 bits-plain v small =
     let m : v % top binary64 ≡ v = mod-eq_of_lt (omega arith) in
@@ -158,15 +158,15 @@ plain-plus0 _ (plain (suc m) e) = refl
 plain-nonneg : (x : Float) → Plain x → T (nonneg x)
 plain-nonneg _ (plain m e) = tt
 
-pub bits-good : (v : ℕ) → v ≤ oneBits → Good (of_bits binary64 v)
+pub bits-good : (v : ℕ) → v ≤ one_bits → Good (of_bits binary64 v)
 bits-good v h = record { held = of_bits-fits binary64 v; from_zero = plain-nonneg (of_bits binary64 v) (bits-plain v h) }
 
-pub bits-number : (v : ℕ) → v ≤ oneBits → nan_bits binary64 v ≡ false
+pub bits-number : (v : ℕ) → v ≤ one_bits → nan_bits binary64 v ≡ false
 bits-number v h =
     nan_bits_above binary64 v ∙ le-ltb (ones binary64 * hid binary64) (v % top binary64) (le_trans (mod-le v (top binary64)) (omega arith))
 
 -- a pattern is the key of its float
-pub key-bits : (v : ℕ) → v ≤ oneBits → key (of_bits binary64 v) ≡ v
+pub key-bits : (v : ℕ) → v ≤ one_bits → key (of_bits binary64 v) ≡ v
 unfolding key
 key-bits v h =
     ap (to_bits binary64) (plain-plus0 _ (bits-plain v h))
@@ -177,7 +177,7 @@ pub plus0-good : (x : Float) → Good x → Good (plus0 x)
 plus0-good x g = record { held = plus0-fits binary64 x g.held; from_zero = plain-nonneg (plus0 x) (plus0-plain x g.from_zero) }
 
 -- ---- the numbers from 0 to 1
-pub key_one : key one64 ≡ oneBits
+pub key_one : key one64 ≡ one_bits
 unfolding key plus0 to_bits
 key_one = refl
 
@@ -204,15 +204,15 @@ between-nonneg (fin false m e) n d t u = tt
 between-nonneg (fin true zero e) n d t u = tt
 between-nonneg (fin true (suc m) e) n d t u = absurd (not-below m e t)
 
-pub between-one : (x : Float) → colourOk x ≡ true → (T (le zero64 x)) × (T (le x one64))
-unfolding colourOk
+pub between-one : (x : Float) → colour_ok x ≡ true → (T (le zero64 x)) × (T (le x one64))
+unfolding colour_ok
 between-one x e = let t = subst T (sym e) tt in (and_l (le zero64 x) (le x one64) t, and_r (le zero64 x) (le x one64) t)
 
-module _ (x : Float) (a : T (fits binary64 x)) (k : colourOk x ≡ true) where
+module _ (x : Float) (a : T (fits binary64 x)) (k : colour_ok x ≡ true) where
   pub ok-good : Good x
   ok-good = let p = between-one x k in record { held = a; from_zero = between-nonneg x 1 (pos 0) p.0 p.1 }
 
-  pub ok-key : key x ≤ oneBits
+  pub ok-key : key x ≤ one_bits
   ok-key =
-      leb-true (key x) oneBits
+      leb-true (key x) one_bits
       (ap (leb (key x)) (sym key_one) ∙ sym (le-key x one64 ok-good one-good) ∙ is_true (le x one64) (between-one x k).1)

@@ -11,15 +11,15 @@ use lib.Dec.{ltb, leb}
 use lib.ListN.{length, get_or, length-map}
 use lib.Ieee.{Float, nan, binary64, of_bits, lt, le}
 use borrow.Author.Tests.{lt-ltb, le-ltb}
-use Rattle.colour.specs.Number.{plusZero, Binary64}
-use Rattle.colour.specs.Colour.{colourOk, coloursOk}
+use Rattle.colour.specs.Number.{plus_zero, Binary64}
+use Rattle.colour.specs.Colour.{colour_ok, colours_ok}
 use Rattle.colour.proofs.Zero.{plus0, plus0-plus0, Alike, plus-zero-same, plus-zero-is}
 use Rattle.colour.proofs.Range.{colours-at}
 use Rattle.median.specs.Median.{insert, sorted, placed}
-use Rattle.median.specs.steps.Select.{at_most, nearer, leastAbove}
-use Rattle.median.proofs.Pattern.{key, Good, lt-key, le-key, oneBits, bits-good, key-bits, ok-good, ok-key, one-good, key_one}
+use Rattle.median.specs.steps.Select.{at_most, nearer, least_above}
+use Rattle.median.proofs.Pattern.{key, Good, lt-key, le-key, one_bits, bits-good, key-bits, ok-good, ok-key, one-good, key_one}
 use Rattle.median.proofs.Pattern.{plus0-good, key-alike, alike-key}
-use Rattle.median.proofs.Rank.{insertN, sortN, countN, sort-length, sort-rank, leastN, next_place}
+use Rattle.median.proofs.Rank.{insert_n, sort_n, count_n, sort-length, sort-rank, least_n, next_place}
 
 -- P holds of every number of a list
 All : (Float → Type 0) → List Float → Type 0
@@ -58,24 +58,24 @@ abbrev Goods : List Float → Type 0
 Goods = All Good
 
 -- ---- an insertion among floats is one among their keys
-insert-keys : (x : Float) (l : List Float) → Good x → Goods l → map key (insert x l) ≡ insertN (key x) (map key l)
-unfolding All insert insertN
+insert-keys : (x : Float) (l : List Float) → Good x → Goods l → map key (insert x l) ≡ insert_n (key x) (map key l)
+unfolding All insert insert_n
 insert-keys x [] g h = refl
 insert-keys x (y ∷ l) g h = go (lt x y) (lt-key x y g h.0) (insert-keys x l g h.1)
   where
-    go : (b : Bool) → b ≡ ltb (key x) (key y) → map key (insert x l) ≡ insertN (key x) (map key l)
+    go : (b : Bool) → b ≡ ltb (key x) (key y) → map key (insert x l) ≡ insert_n (key x) (map key l)
         → map key (cond b (x ∷ y ∷ l) (y ∷ insert x l))
-        ≡ cond (ltb (key x) (key y)) (key x ∷ key y ∷ map key l) (key y ∷ insertN (key x) (map key l))
+        ≡ cond (ltb (key x) (key y)) (key x ∷ key y ∷ map key l) (key y ∷ insert_n (key x) (map key l))
     go true e r = rw (sym e) refl
     go false e r = rw (sym e) (ap (λ (s : List ℕ). key y ∷ s) r)
 
-sorted-keys : (l : List Float) → Goods l → map key (sorted l) ≡ sortN (map key l)
-unfolding All sorted sortN
+sorted-keys : (l : List Float) → Goods l → map key (sorted l) ≡ sort_n (map key l)
+unfolding All sorted sort_n
 sorted-keys [] g = refl
-sorted-keys (x ∷ l) g = insert-keys x (sorted l) g.0 (sorted_all Good l g.1) ∙ ap (insertN (key x)) (sorted-keys l g.1)
+sorted-keys (x ∷ l) g = insert-keys x (sorted l) g.0 (sorted_all Good l g.1) ∙ ap (insert_n (key x)) (sorted-keys l g.1)
 
-count-keys : (t : Float) (l : List Float) → Good t → Goods l → at_most t l ≡ countN (key t) (map key l)
-unfolding All at_most countN
+count-keys : (t : Float) (l : List Float) → Good t → Goods l → at_most t l ≡ count_n (key t) (map key l)
+unfolding All at_most count_n
 count-keys t [] g h = refl
 count-keys t (x ∷ l) g h = rw (le-key x t h.0 g, count-keys t l g h.1)
 
@@ -88,17 +88,17 @@ cond-good : (b : Bool) (x y : Float) → Good x → Good y → Good (cond b x y)
 cond-good true x y g h = g
 cond-good false x y g h = h
 
-least-good : (t : Float) (l : List Float) → Good t → Goods l → Good (leastAbove t l)
-unfolding All leastAbove nearer
+least-good : (t : Float) (l : List Float) → Good t → Goods l → Good (least_above t l)
+unfolding All least_above nearer
 least-good t [] g h = one-good
-least-good t (x ∷ l) g h = cond-good (lt t x && lt x (leastAbove t l)) x (leastAbove t l) h.0 (least-good t l g h.1)
+least-good t (x ∷ l) g h = cond-good (lt t x && lt x (least_above t l)) x (least_above t l) h.0 (least-good t l g h.1)
 
-least-keys : (t : Float) (l : List Float) → Good t → Goods l → key (leastAbove t l) ≡ leastN oneBits (key t) (map key l)
-unfolding All leastAbove nearer leastN
+least-keys : (t : Float) (l : List Float) → Good t → Goods l → key (least_above t l) ≡ least_n one_bits (key t) (map key l)
+unfolding All least_above nearer least_n
 least-keys t [] g h = key_one
 least-keys t (x ∷ l) g h =
-    key-cond (lt t x && lt x (leastAbove t l)) x (leastAbove t l)
-    ∙ rw (lt-key t x g h.0, lt-key x (leastAbove t l) h.0 (least-good t l g h.1), least-keys t l g h.1)
+    key-cond (lt t x && lt x (least_above t l)) x (least_above t l)
+    ∙ rw (lt-key t x g h.0, lt-key x (least_above t l) h.0 (least-good t l g h.1), least-keys t l g h.1)
 
 -- ---- the value at place k
 get_d_map : (f : Float → ℕ) (l : List Float) (k : ℕ) → k < length l → get_or (map f l) k 0 ≡ f (get_or l k nan)
@@ -106,7 +106,7 @@ get_d_map f [] k h = absurd (not-suc-le-zero h)
 get_d_map f (x ∷ l) zero h = refl
 get_d_map f (x ∷ l) (suc k) h = get_d_map f l k (le_of_suc-le-suc h)
 
-module _ (l : List Float) (held : Binary64 l) (ok : coloursOk l ≡ true) where
+module _ (l : List Float) (held : Binary64 l) (ok : colours_ok l ≡ true) where
   goods : Goods l
   goods = all_from Good l (λ i h. ok-good (get_or l i nan) (held i h) (colours-at l ok i h))
 
@@ -120,13 +120,13 @@ module _ (l : List Float) (held : Binary64 l) (ok : coloursOk l ≡ true) where
     unfolding placed
     placed-good = all-at Good (sorted l) (sorted_all Good l goods) k inside
 
-    pub placed-ok : colourOk (placed l k) ≡ true
+    pub placed-ok : colour_ok (placed l k) ≡ true
     unfolding placed
     placed-ok =
-        let P : Float → Type 0 = λ x. colourOk x ≡ true in
+        let P : Float → Type 0 = λ x. colour_ok x ≡ true in
         all-at P (sorted l) (sorted_all P l (all_from P l (colours-at l ok))) k inside
 
-    pub placed-key : key (placed l k) ≡ get_or (sortN (map key l)) k 0
+    pub placed-key : key (placed l k) ≡ get_or (sort_n (map key l)) k 0
     unfolding placed
     placed-key = sym (get_d_map key (sorted l) k inside) ∙ ap (λ (s : List ℕ). get_or s k 0) (sorted-keys l goods)
 
@@ -139,17 +139,17 @@ module _ (l : List Float) (held : Binary64 l) (ok : coloursOk l ≡ true) where
         ∙ sym (le-key (placed l k) t placed-good g)
 
     -- the same for the float of a pattern
-    pub bits-rank : (v : ℕ) → v ≤ oneBits → ltb k (at_most (of_bits binary64 v) l) ≡ leb (key (placed l k)) v
+    pub bits-rank : (v : ℕ) → v ≤ one_bits → ltb k (at_most (of_bits binary64 v) l) ≡ leb (key (placed l k)) v
     bits-rank v b =
         placed-rank (of_bits binary64 v) (bits-good v b)
         ∙ le-key (placed l k) (of_bits binary64 v) placed-good (bits-good v b)
         ∙ ap (leb (key (placed l k))) (key-bits v b)
 
-    pub placed-bound : key (placed l k) ≤ oneBits
+    pub placed-bound : key (placed l k) ≤ one_bits
     placed-bound = ok-key (placed l k) placed-good.held placed-ok
 
   -- the number at the next place: lo again, where enough numbers are at or below it, else the least above it
-  module _ (k : ℕ) (h : suc k < length l) (lo : Float) (first : lo ≡ plusZero (placed l k)) where
+  module _ (k : ℕ) (h : suc k < length l) (lo : Float) (first : lo ≡ plus_zero (placed l k)) where
     before : k < length l
     before = omega arith
 
@@ -165,22 +165,22 @@ module _ (l : List Float) (held : Binary64 l) (ok : coloursOk l ≡ true) where
     lo-alike : Alike lo (placed l k)
     lo-alike = ap plus0 lo-is ∙ plus0-plus0 (placed l k)
 
-    next-key : key (placed l (suc k)) ≡ cond (ltb (suc k) (at_most lo l)) (key lo) (key (leastAbove lo l))
+    next-key : key (placed l (suc k)) ≡ cond (ltb (suc k) (at_most lo l)) (key lo) (key (least_above lo l))
     next-key =
-        let e : key lo ≡ get_or (sortN (map key l)) k 0 = alike-key lo (placed l k) lo-alike ∙ placed-key k before in
+        let e : key lo ≡ get_or (sort_n (map key l)) k 0 = alike-key lo (placed l k) lo-alike ∙ placed-key k before in
         let n : length (map key l) ≡ length l = length-map l key in
         placed-key (suc k) h
-        ∙ next_place oneBits (map key l) k (omega arith) (omega (arith, placed-key (suc k) h, placed-bound (suc k) h))
+        ∙ next_place one_bits (map key l) k (omega arith) (omega (arith, placed-key (suc k) h, placed-bound (suc k) h))
         ∙ rw (count-keys lo l lo-good goods, least-keys lo l lo-good goods, e)
 
-    pub next-same : suc k < at_most lo l → lo ≡ plusZero (placed l (suc k))
+    pub next-same : suc k < at_most lo l → lo ≡ plus_zero (placed l (suc k))
     next-same i =
         let e : key (placed l (suc k)) ≡ key lo = next-key ∙ rw (lt-ltb (suc k) (at_most lo l) i) in
         first
         ∙ sym (plus-zero-same lo (placed l k) lo-alike)
         ∙ plus-zero-same lo (placed l (suc k)) (key-alike lo (placed l (suc k)) lo-good.held (placed-good (suc k) h).held (sym e))
 
-    pub next-above : at_most lo l ≤ suc k → plusZero (leastAbove lo l) ≡ plusZero (placed l (suc k))
+    pub next-above : at_most lo l ≤ suc k → plus_zero (least_above lo l) ≡ plus_zero (placed l (suc k))
     next-above i =
-        let e : key (placed l (suc k)) ≡ key (leastAbove lo l) = next-key ∙ rw (le-ltb (suc k) (at_most lo l) i) in
+        let e : key (placed l (suc k)) ≡ key (least_above lo l) = next-key ∙ rw (le-ltb (suc k) (at_most lo l) i) in
         plus-zero-same _ _ (key-alike _ _ (least-good lo l lo-good goods).held (placed-good (suc k) h).held (sym e))

@@ -1,10 +1,10 @@
 // The reference of one channel: the median of its border values, which are kept in a lent buffer of 32-bit numbers.
 ghost use Rattle.std.specs.Prelude.{◌≡◌, true, ◌+◌, set};
-ghost use Rattle.colour.specs.Number.{plusZero};
-ghost use Rattle.colour.specs.Colour.{coloursOk};
-ghost use Rattle.median.specs.Median.{placed, medianOf};
-ghost use Rattle.median.specs.steps.Values.{float_at, floatsOf, Slot};
-ghost use Rattle.median.specs.steps.Select.{at_most, nearer, leastAbove, Channel, Place, Neighbours};
+ghost use Rattle.colour.specs.Number.{plus_zero};
+ghost use Rattle.colour.specs.Colour.{colours_ok};
+ghost use Rattle.median.specs.Median.{placed, median_of};
+ghost use Rattle.median.specs.steps.Values.{float_at, floats_of, Slot};
+ghost use Rattle.median.specs.steps.Select.{at_most, nearer, least_above, Channel, Place, Neighbours};
 
 // How many patterns 32 bits have.
 const HALF: u64 = 4294967296;
@@ -14,7 +14,7 @@ const ONE: u64 = 0x3ff0_0000_0000_0000;
 
 // Value k.
 fn value(values: &[u32], k: usize) -> f64
-    requires { Place (floatsOf values.now) k }
+    requires { Place (floats_of values.now) k }
     ensures { result ≡ float_at values.now k }
 {
     let low = values[2 * k] as u64;
@@ -24,8 +24,8 @@ fn value(values: &[u32], k: usize) -> f64
 
 // Value k becomes x.
 pub fn put(values: &mut [u32], k: usize, x: f64)
-    requires { Slot (floatsOf values.old) k x }
-    ensures { floatsOf values.new ≡ set (floatsOf values.old) k x }
+    requires { Slot (floats_of values.old) k x }
+    ensures { floats_of values.new ≡ set (floats_of values.old) k x }
 {
     let bits = f64::to_bits(x);
     values[2 * k] = (bits % HALF) as u32;
@@ -34,8 +34,8 @@ pub fn put(values: &mut [u32], k: usize, x: f64)
 
 // How many values are at or below t.
 fn at_most(values: &[u32], t: f64) -> usize
-    requires { coloursOk (floatsOf values.now) ≡ true }
-    ensures { result ≡ at_most t (floatsOf values.now) }
+    requires { colours_ok (floats_of values.now) ≡ true }
+    ensures { result ≡ at_most t (floats_of values.now) }
 {
     let mut n = 0usize;
     for i in 0..values.len() / 2 {
@@ -47,8 +47,8 @@ fn at_most(values: &[u32], t: f64) -> usize
 // The value at place k of the values in order, a zero as +0: the least bit pattern at or below which more than k
 // values are.
 fn select(values: &[u32], k: usize) -> f64
-    requires { Place (floatsOf values.now) k }
-    ensures { result ≡ plusZero (placed (floatsOf values.now) k) }
+    requires { Place (floats_of values.now) k }
+    ensures { result ≡ plus_zero (placed (floats_of values.now) k) }
 {
     let mut lo = 0u64;
     let mut hi = ONE;
@@ -72,8 +72,8 @@ fn nearer_of(t: f64, x: f64, r: f64) -> f64
 
 // The least value above t; 1.0 where no value lies between.
 fn least_above(values: &[u32], t: f64) -> f64
-    requires { coloursOk (floatsOf values.now) ≡ true }
-    ensures { result ≡ leastAbove t (floatsOf values.now) }
+    requires { colours_ok (floats_of values.now) ≡ true }
+    ensures { result ≡ least_above t (floats_of values.now) }
 {
     let mut least = 1.0;
     let mut i = values.len() / 2;
@@ -87,8 +87,8 @@ fn least_above(values: &[u32], t: f64) -> f64
 // The value at place k + 1, a zero as +0, from the value lo at place k: lo again where more than k + 1 values are at or
 // below it, else the least above it.
 fn next_place(values: &[u32], k: usize, lo: f64) -> f64
-    requires { Neighbours (floatsOf values.now) k lo }
-    ensures { result ≡ plusZero (placed (floatsOf values.now) (k + 1)) }
+    requires { Neighbours (floats_of values.now) k lo }
+    ensures { result ≡ plus_zero (placed (floats_of values.now) (k + 1)) }
 {
     if k + 1 < at_most(values, lo) {
         lo
@@ -99,8 +99,8 @@ fn next_place(values: &[u32], k: usize, lo: f64) -> f64
 
 // Half of the sum of the two middle values, a zero as +0.
 pub fn median(values: &[u32]) -> f64
-    requires { Channel (floatsOf values.now) }
-    ensures { result ≡ medianOf (floatsOf values.now) }
+    requires { Channel (floats_of values.now) }
+    ensures { result ≡ median_of (floats_of values.now) }
 {
     let k = values.len() / 4 - 1;
     let lo = select(values, k);

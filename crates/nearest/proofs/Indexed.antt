@@ -10,7 +10,7 @@ use lib.Seq.{get_or-take}
 use Rattle.plane.specs.Plane.{index_of}
 use Rattle.plane.proofs.Plane.{pixel-in, plane-index}
 use Rattle.nearest.specs.Nearest.{nearest}
-use Rattle.nearest.specs.steps.Indices.{indicesPlane}
+use Rattle.nearest.specs.steps.Indices.{indices_plane}
 use Rattle.nearest.proofs.Laws.{nearest-some}
 
 -- the index of an answer lies in the plane
@@ -21,9 +21,9 @@ index-inside mask h w y x (some q) p e =
     let n = nearest-some mask h w y x q.0 q.1 e in
     pixel-in q.1 q.0 h w n.row_inside n.column-inside
 
-module _ (mask : List ℕ) (h w : ℕ) (wide : 0 < w) (work : List ℕ) (e : take (h * w) work ≡ indicesPlane mask h w) where
+module _ (mask : List ℕ) (h w : ℕ) (wide : 0 < w) (work : List ℕ) (e : take (h * w) work ≡ indices_plane mask h w) where
   pub front-index : (i : ℕ) → i < h * w → get_or work i 0 ≡ index_of w (nearest mask h w (i / w) (i % w))
-  unfolding indicesPlane
+  unfolding indices_plane
   front-index i l =
       sym (get_or-take (h * w) work i 0 l)
       ∙ ap (λ (p : List ℕ). get_or p i 0) e

@@ -8,71 +8,71 @@ use mathlib.Core.Logic.{◌⊎◌, ⊎_elim}
 use Prim.Native.Nat.{ℕ, suc, ◌+◌, ◌*◌, ◌-◌, ◌≤◌, ◌<◌}
 use native.Mathlib.Omega.{arith}
 use borrow.Author.Tests.{lt-ltb, le-ltb}
-use Rattle.plane.specs.Plane.{onAt, apart}
+use Rattle.plane.specs.Plane.{on_at, apart}
 use Rattle.plane.proofs.Search.{which, either, not-both}
-use Rattle.line.specs.steps.FirstLeast.{firstLeast, First, Answers}
+use Rattle.line.specs.steps.FirstLeast.{first_least, First, Answers}
 use Rattle.line.specs.steps.Columns.{attach, chosen}
 use Rattle.line.specs.Grid.{value_of, upto, plus}
 use Rattle.line.proofs.Squares.{apart-zero, square_le, square-lt}
 use Rattle.line.proofs.Walk.{clash, same, walk-answers}
-use Rattle.line.proofs.Grid.{columnBest, columnCost, walk-line, compose}
-use Rattle.nearest.specs.Nearest.{rowCost, nearest, away, distanceTo, distance}
+use Rattle.line.proofs.Grid.{column_best, column_cost, walk-line, compose}
+use Rattle.nearest.specs.Nearest.{row_cost, nearest, away, distance_to, distance}
 use Rattle.nearest.specs.IsNearest.{IsNearest}
 use Rattle.nearest.specs.steps.Towards.{towards}
 
 module _ (mask : List ℕ) (h w y x : ℕ) where
   -- the number of a pixel in the walk
   abbrev far : ℕ → ℕ → Option ℕ
-  far i j = plus (apart x i * apart x i) (rowCost mask w y i j)
+  far i j = plus (apart x i * apart x i) (row_cost mask w y i j)
 
-  on-far : (i j : ℕ) → onAt mask w j i ≡ true → far i j ≡ some (away y x j i)
-  unfolding plus rowCost away
+  on-far : (i j : ℕ) → on_at mask w j i ≡ true → far i j ≡ some (away y x j i)
+  unfolding plus row_cost away
   on-far i j e = rw e
 
-  off-far : (i j : ℕ) → onAt mask w j i ≡ false → far i j ≡ none
-  unfolding plus rowCost
+  off-far : (i j : ℕ) → on_at mask w j i ≡ false → far i j ≡ none
+  unfolding plus row_cost
   off-far i j e = rw e
 
-  far-on : (i j v : ℕ) → far i j ≡ some v → (onAt mask w j i ≡ true) × (v ≡ away y x j i)
+  far-on : (i j v : ℕ) → far i j ≡ some v → (on_at mask w j i ≡ true) × (v ≡ away y x j i)
   far-on i j v e =
-      ⊎_elim {C = (onAt mask w j i ≡ true) × (v ≡ away y x j i)}
-      (λ (t : onAt mask w j i ≡ true). (t, same (far i j) v (away y x j i) e (on-far i j t)))
-      (λ (t : onAt mask w j i ≡ false). clash (far i j) v (off-far i j t) e)
-      (either (onAt mask w j i))
+      ⊎_elim {C = (on_at mask w j i ≡ true) × (v ≡ away y x j i)}
+      (λ (t : on_at mask w j i ≡ true). (t, same (far i j) v (away y x j i) e (on-far i j t)))
+      (λ (t : on_at mask w j i ≡ false). clash (far i j) v (off-far i j t) e)
+      (either (on_at mask w j i))
 
-  far-off : (i j : ℕ) → far i j ≡ none → onAt mask w j i ≡ false
+  far-off : (i j : ℕ) → far i j ≡ none → on_at mask w j i ≡ false
   far-off i j e =
-      ⊎_elim {C = onAt mask w j i ≡ false}
-      (λ (t : onAt mask w j i ≡ true). clash (far i j) (away y x j i) e (on-far i j t))
-      (λ (t : onAt mask w j i ≡ false). t)
-      (either (onAt mask w j i))
+      ⊎_elim {C = on_at mask w j i ≡ false}
+      (λ (t : on_at mask w j i ≡ true). clash (far i j) (away y x j i) e (on-far i j t))
+      (λ (t : on_at mask w j i ≡ false). t)
+      (either (on_at mask w j i))
 
   -- what an answer says
   Good : Option (ℕ × ℕ) → Type 0
-  Good none = (j i : ℕ) → j < h → i < w → onAt mask w j i ≡ false
+  Good none = (j i : ℕ) → j < h → i < w → on_at mask w j i ≡ false
   Good (some q) = IsNearest mask h w y x q.0 q.1
 
-  column-answers : (i : ℕ) → Answers (far i) h (columnBest far (upto h) i)
+  column-answers : (i : ℕ) → Answers (far i) h (column_best far (upto h) i)
   column-answers i = subst (Answers (far i) h) (sym (walk-line (far i) h)) (walk-answers (far i) h)
 
   -- a column whose walk has no number has nothing on
-  empty : (i : ℕ) (b : Option ℕ) → Answers (far i) h b → value_of (far i) b ≡ none → (j : ℕ) → j < h → onAt mask w j i ≡ false
+  empty : (i : ℕ) (b : Option ℕ) → Answers (far i) h b → value_of (far i) b ≡ none → (j : ℕ) → j < h → on_at mask w j i ≡ false
   unfolding value_of
   empty i none a e j l = far-off i j (a j l)
   empty i (some k) a e j l = clash (far i k) a.0 e a.1.here
 
   -- the number of a column's walk is no larger than that of any on-pixel in it
-  bound-from : (i j : ℕ) → j < h → onAt mask w j i ≡ true → (b : Option ℕ) → Answers (far i) h b
+  bound-from : (i j : ℕ) → j < h → on_at mask w j i ≡ true → (b : Option ℕ) → Answers (far i) h b
       → (v : ℕ) × (value_of (far i) b ≡ some v) × (v ≤ away y x j i)
   unfolding value_of
-  bound-from i j l t none a = not-both (onAt mask w j i) t (far-off i j (a j l))
+  bound-from i j l t none a = not-both (on_at mask w j i) t (far-off i j (a j l))
   bound-from i j l t (some k) a = (a.0, a.1.here, a.1.least j (away y x j i) l (on-far i j t))
 
-  bound : (i j : ℕ) → j < h → onAt mask w j i ≡ true → (v : ℕ) × (columnCost far (upto h) i ≡ some v) × (v ≤ away y x j i)
-  bound i j l t = bound-from i j l t (columnBest far (upto h) i) (column-answers i)
+  bound : (i j : ℕ) → j < h → on_at mask w j i ≡ true → (v : ℕ) × (column_cost far (upto h) i ≡ some v) × (v ≤ away y x j i)
+  bound i j l t = bound-from i j l t (column_best far (upto h) i) (column-answers i)
 
   -- the chosen column's own answer
-  chosen-good : (i v : ℕ) → First (columnCost far (upto h)) w i v → (b : Option ℕ) → Answers (far i) h b → value_of (far i) b ≡ some v
+  chosen-good : (i v : ℕ) → First (column_cost far (upto h)) w i v → (b : Option ℕ) → Answers (far i) h b → value_of (far i) b ≡ some v
       → Good (attach i b)
   unfolding Good attach value_of
   chosen-good i v a none c e = clash none v refl e
@@ -91,14 +91,14 @@ module _ (mask : List ℕ) (h w y x : ℕ) where
         first-row = λ k g t. (let n = c.1.first k (away y x k i) g (on-far i k t) in omega arith);
       }
 
-  answer-good : (b : Option ℕ) → Answers (columnCost far (upto h)) w b → Good (chosen (columnBest far (upto h)) b)
+  answer-good : (b : Option ℕ) → Answers (column_cost far (upto h)) w b → Good (chosen (column_best far (upto h)) b)
   unfolding chosen
-  answer-good none a = unfold Good in (λ j i l g. empty i (columnBest far (upto h) i) (column-answers i) (a i g) j l)
-  answer-good (some i) a = chosen-good i a.0 a.1 (columnBest far (upto h) i) (column-answers i) a.1.here
+  answer-good none a = unfold Good in (λ j i l g. empty i (column_best far (upto h) i) (column-answers i) (a i g) j l)
+  answer-good (some i) a = chosen-good i a.0 a.1 (column_best far (upto h) i) (column-answers i) a.1.here
 
   good : Good (nearest mask h w y x)
   unfolding nearest
-  good = rw (compose far (upto h) w) (answer-good (firstLeast (columnCost far (upto h)) w) (walk-answers (columnCost far (upto h)) w))
+  good = rw (compose far (upto h) w) (answer-good (first_least (column_cost far (upto h)) w) (walk-answers (column_cost far (upto h)) w))
 
   -- the answer is the nearest on-pixel
   pub nearest-some : (i j : ℕ) → nearest mask h w y x ≡ some (i, j) → IsNearest mask h w y x i j
@@ -106,7 +106,7 @@ module _ (mask : List ℕ) (h w y x : ℕ) where
   nearest-some i j e = subst Good e good
 
   -- no answer: nothing is on
-  pub nearest-none : nearest mask h w y x ≡ none → (j i : ℕ) → j < h → i < w → onAt mask w j i ≡ false
+  pub nearest-none : nearest mask h w y x ≡ none → (j i : ℕ) → j < h → i < w → on_at mask w j i ≡ false
   unfolding Good
   nearest-none e = subst Good e good
 
@@ -129,7 +129,7 @@ module _ (mask : List ℕ) (h w y x : ℕ) where
 
   is-from : (i j : ℕ) → IsNearest mask h w y x i j → (r : Option (ℕ × ℕ)) → Good r → r ≡ some (i, j)
   unfolding Good
-  is-from i j p none g = not-both (onAt mask w j i) p.is-on (g j i p.row_inside p.column-inside)
+  is-from i j p none g = not-both (on_at mask w j i) p.is-on (g j i p.row_inside p.column-inside)
   is-from i j p (some q) g =
       let e = one q.0 q.1 i j g p in
       ap (λ (n : ℕ). some (n, q.1)) e.0 ∙ ap (λ (n : ℕ). some (i, n)) e.1
@@ -138,21 +138,21 @@ module _ (mask : List ℕ) (h w y x : ℕ) where
   pub nearest-is : (i j : ℕ) → IsNearest mask h w y x i j → nearest mask h w y x ≡ some (i, j)
   nearest-is i j p = is-from i j p (nearest mask h w y x) good
 
-  none_from : ((j i : ℕ) → j < h → i < w → onAt mask w j i ≡ false) → (r : Option (ℕ × ℕ)) → Good r → r ≡ none
+  none_from : ((j i : ℕ) → j < h → i < w → on_at mask w j i ≡ false) → (r : Option (ℕ × ℕ)) → Good r → r ≡ none
   unfolding Good
   none_from p none g = refl
-  none_from p (some q) g = not-both (onAt mask w q.1 q.0) g.is-on (p q.1 q.0 g.row_inside g.column-inside)
+  none_from p (some q) g = not-both (on_at mask w q.1 q.0) g.is-on (p q.1 q.0 g.row_inside g.column-inside)
 
-  pub nothing-on : ((j i : ℕ) → j < h → i < w → onAt mask w j i ≡ false) → nearest mask h w y x ≡ none
+  pub nothing-on : ((j i : ℕ) → j < h → i < w → on_at mask w j i ≡ false) → nearest mask h w y x ≡ none
   nothing-on p = none_from p (nearest mask h w y x) good
 
-  found_from : (k l : ℕ) → k < h → l < w → onAt mask w k l ≡ true → (r : Option (ℕ × ℕ)) → Good r → (i : ℕ) × (j : ℕ) × (r ≡ some (i, j))
+  found_from : (k l : ℕ) → k < h → l < w → on_at mask w k l ≡ true → (r : Option (ℕ × ℕ)) → Good r → (i : ℕ) × (j : ℕ) × (r ≡ some (i, j))
   unfolding Good
-  found_from k l a b t none g = not-both (onAt mask w k l) t (g k l a b)
+  found_from k l a b t none g = not-both (on_at mask w k l) t (g k l a b)
   found_from k l a b t (some q) g = (q.0, q.1, refl)
 
   -- where something is on there is an answer
-  pub nearest-found : (k l : ℕ) → k < h → l < w → onAt mask w k l ≡ true → (i : ℕ) × (j : ℕ) × (nearest mask h w y x ≡ some (i, j))
+  pub nearest-found : (k l : ℕ) → k < h → l < w → on_at mask w k l ≡ true → (i : ℕ) × (j : ℕ) × (nearest mask h w y x ≡ some (i, j))
   nearest-found k l a b t = found_from k l a b t (nearest mask h w y x) good
 
 -- ---- one step from the answer
@@ -199,17 +199,17 @@ step-nearer y x j i n =
 
 module _ (mask : List ℕ) (h w y x : ℕ) (row : y < h) (column : x < w) where
   -- so that pixel is off
-  pub step-off : (i j : ℕ) → nearest mask h w y x ≡ some (i, j) → ((j ≡ y) × (i ≡ x) → ⊥) → onAt mask w (towards j y) (towards i x) ≡ false
+  pub step-off : (i j : ℕ) → nearest mask h w y x ≡ some (i, j) → ((j ≡ y) × (i ≡ x) → ⊥) → on_at mask w (towards j y) (towards i x) ≡ false
   step-off i j e n =
       let p = nearest-some mask h w y x i j e in
       let s = step-nearer y x j i n in
       let j' = towards-inside h j y p.row_inside row in
       let i' = towards-inside w i x p.column-inside column in
       ⊎_elim
-      (λ (t : onAt mask w (towards j y) (towards i x) ≡ true).
+      (λ (t : on_at mask w (towards j y) (towards i x) ≡ true).
       (let l = p.least (towards j y) (towards i x) j' i' t in absurd (omega arith)))
       (λ t. t)
-      (either (onAt mask w (towards j y) (towards i x)))
+      (either (on_at mask w (towards j y) (towards i x)))
 
 -- ---- distances
 
@@ -220,15 +220,15 @@ apart_low a b n l m = omega arith
 module _ (mask : List ℕ) (h w y x : ℕ) where
   -- the distance is that to the answer
   pub distance_some : (i j : ℕ) → nearest mask h w y x ≡ some (i, j) → distance mask h w y x ≡ away y x j i
-  unfolding distance distanceTo
+  unfolding distance distance_to
   distance_some i j e = rw e
 
   pub distance_none : nearest mask h w y x ≡ none → distance mask h w y x ≡ suc y * suc y + x * x
-  unfolding distance distanceTo
+  unfolding distance distance_to
   distance_none e = rw e
 
   -- no on-pixel is nearer than the distance
-  pub distance_least : (k l : ℕ) → k < h → l < w → onAt mask w k l ≡ true → distance mask h w y x ≤ away y x k l
+  pub distance_least : (k l : ℕ) → k < h → l < w → on_at mask w k l ≡ true → distance mask h w y x ≤ away y x k l
   distance_least k l a b t =
       let f = nearest-found mask h w y x k l a b t in
       let p = nearest-some mask h w y x f.0 f.1 f.2 in

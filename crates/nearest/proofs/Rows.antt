@@ -8,13 +8,13 @@ use Prim.Native.Nat.{ℕ, ◌+◌, ◌*◌, ◌≤◌, ◌<◌}
 use native.Mathlib.Omega.{arith}
 use lib.ListN.{length, get_or, take, length-take}
 use lib.Seq.{get_or-take}
-use Rattle.plane.specs.Plane.{planeOf}
+use Rattle.plane.specs.Plane.{plane_of}
 use Rattle.plane.specs.steps.Sides.{Sides}
 use Rattle.plane.proofs.Search.{which}
 use Rattle.plane.proofs.Plane.{row_in, pixel-in, area-most, plane-is}
 use Rattle.line.specs.steps.Part.{Written}
 use Rattle.nearest.specs.Nearest.{nearest, distance}
-use Rattle.nearest.specs.steps.Stages.{Swept, RowDone, pixelIn, distanceIn}
+use Rattle.nearest.specs.steps.Stages.{Swept, RowDone, pixel_in, distance_in}
 use Rattle.nearest.specs.steps.Room.{RowRoom, PixelRoom, DistanceLineRoom}
 use Rattle.nearest.proofs.Laws.{distance_most}
 use Rattle.nearest.proofs.Stages.{row_low, line_low, swept-next, pixel, chosen-low, distance_is}
@@ -49,11 +49,11 @@ module _ {A : Type 0} {d : A} {f : ℕ → ℕ → A} {w : ℕ} {old : List A} w
   }
 
   -- all rows are written
-  pub rows_end : (h : ℕ) {plane : List A} {y : ℕ} → Rows d f w old plane y → h ≤ y → length old ≡ h * w → plane ≡ planeOf h w f
+  pub rows_end : (h : ℕ) {plane : List A} {y : ℕ} → Rows d f w old plane y → h ≤ y → length old ≡ h * w → plane ≡ plane_of h w f
   rows_end h {plane} p l long = plane-is h w f plane d (p.size ∙ long) (λ j x a b. p.done j x (omega arith) b)
 
   pub rows-front : (h : ℕ) {plane : List A} {y : ℕ} → Rows d f w old plane y → h ≤ y → h * w ≤ length old
-      → take (h * w) plane ≡ planeOf h w f
+      → take (h * w) plane ≡ plane_of h w f
   rows-front h {plane} p l fits =
       plane-is h w f (take (h * w) plane) d (let e = p.size in simp length-take (omega arith))
       (λ j x a b. get_or-take (h * w) plane (j * w + x) d (pixel-in j x h w a b) ∙ p.done j x (omega arith) b)
@@ -115,7 +115,7 @@ module _ {mask : List ℕ} {h w : ℕ} {start old : List ℕ} {y : ℕ} (r : Row
       swept = swept-next mask h w r.inside r.sides.tall r.passing.swept clear d same;
     }
 
-    pub pixels : (x : ℕ) → x < w → pixelIn new out (h * w) w x ≡ nearest mask h w y x
+    pub pixels : (x : ℕ) → x < w → pixel_in new out (h * w) w x ≡ nearest mask h w y x
     pixels = pixel mask h w r.inside r.sides.tall r.passing.swept clear d r.sides.wide room
 
     pub pixel-room : PixelRoom new out (h * w) w
@@ -126,7 +126,7 @@ module _ {mask : List ℕ} {h w : ℕ} {start old : List ℕ} {y : ℕ} (r : Row
       chosen = chosen-low mask h w r.inside r.sides.tall r.passing.swept clear d r.sides.wide room;
     }
 
-    pub distances : (x : ℕ) → x < w → distanceIn new out (h * w + w) w y x ≡ distance mask h w y x
+    pub distances : (x : ℕ) → x < w → distance_in new out (h * w + w) w y x ≡ distance mask h w y x
     distances = distance_is mask h w r.inside r.sides.tall r.passing.swept clear d r.sides.wide room
 
     pub distance-room : (long : ℕ) → h * w ≤ long → h * h + w * w ≤ 4294967295 → DistanceLineRoom new out (h * w + w) w y (y * w) long

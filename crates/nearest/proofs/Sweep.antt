@@ -10,29 +10,29 @@ use lib.Dec.{ltb}
 use borrow.Author.Tests.{lt-ltb, le-ltb, ne_eqb}
 use Rattle.plane.specs.Plane.{apart}
 use Rattle.plane.proofs.Search.{which, either, not-both}
-use Rattle.line.specs.steps.FirstLeast.{firstLeast, Answers}
-use Rattle.line.specs.steps.Line.{mostLength}
+use Rattle.line.specs.steps.FirstLeast.{first_least, Answers}
+use Rattle.line.specs.steps.Line.{most_length}
 use Rattle.line.proofs.Squares.{apart-left, apart-right, square_le, square-lt, root-le, root-lt}
 use Rattle.line.proofs.Walk.{clash, same, walk-answers, walk_is}
-use Rattle.nearest.specs.steps.Stages.{no_row, firstFrom, nearer, rowCode}
+use Rattle.nearest.specs.steps.Stages.{no_row, first_from, nearer, row_code}
 
 module _ (p : ℕ → Bool) where
   -- the number of row j, seen from row y
-  abbrev pub rowNumber : ℕ → ℕ → Option ℕ
-  rowNumber y j = cond (p j) (some (apart y j * apart y j)) none
+  abbrev pub row_number : ℕ → ℕ → Option ℕ
+  row_number y j = cond (p j) (some (apart y j * apart y j)) none
 
-  on-number : (y j : ℕ) → p j ≡ true → rowNumber y j ≡ some (apart y j * apart y j)
+  on-number : (y j : ℕ) → p j ≡ true → row_number y j ≡ some (apart y j * apart y j)
   on-number y j e = rw e
 
-  off-number : (y j : ℕ) → p j ≡ false → rowNumber y j ≡ none
+  off-number : (y j : ℕ) → p j ≡ false → row_number y j ≡ none
   off-number y j e = rw e
 
   -- a row that has a number is on, and the number is its square
-  pub numbered : (y j v : ℕ) → rowNumber y j ≡ some v → (p j ≡ true) × (v ≡ apart y j * apart y j)
+  pub numbered : (y j v : ℕ) → row_number y j ≡ some v → (p j ≡ true) × (v ≡ apart y j * apart y j)
   numbered y j v e =
       ⊎_elim {C = (p j ≡ true) × (v ≡ apart y j * apart y j)}
-      (λ (t : p j ≡ true). (t, same (rowNumber y j) v (apart y j * apart y j) e (on-number y j t)))
-      (λ (t : p j ≡ false). clash (rowNumber y j) v (off-number y j t) e)
+      (λ (t : p j ≡ true). (t, same (row_number y j) v (apart y j * apart y j) e (on-number y j t)))
+      (λ (t : p j ≡ false). clash (row_number y j) v (off-number y j t) e)
       (either (p j))
 
   -- ---- the nearest on-row
@@ -46,13 +46,13 @@ module _ (p : ℕ → Bool) where
 
   module _ (h y : ℕ) (short : h ≤ no_row) where
     -- what the walk down the column answers is that row
-    near-from : (b : Option ℕ) → Answers (rowNumber y) h b → Near h y (rowCode b)
-    unfolding rowCode
+    near-from : (b : Option ℕ) → Answers (row_number y) h b → Near h y (row_code b)
+    unfolding row_code
     near-from none a = record {
       missing = λ l. refl;
       here = λ l. absurd (omega arith);
-      least = λ k l q. clash (rowNumber y k) (apart y k * apart y k) (a k l) (on-number y k q);
-      first = λ k g l q. clash (rowNumber y k) (apart y k * apart y k) (a k l) (on-number y k q);
+      least = λ k l q. clash (row_number y k) (apart y k * apart y k) (a k l) (on-number y k q);
+      first = λ k g l q. clash (row_number y k) (apart y k * apart y k) (a k l) (on-number y k q);
     }
     near-from (some j) a =
         let z = numbered y j a.0 a.1.here in
@@ -69,16 +69,16 @@ module _ (p : ℕ → Bool) where
               root-lt (apart y j) (apart y k) (omega arith));
         }
 
-    pub near-row : Near h y (rowCode (firstLeast (rowNumber y) h))
-    near-row = near-from (firstLeast (rowNumber y) h) (walk-answers (rowNumber y) h)
+    pub near-row : Near h y (row_code (first_least (row_number y) h))
+    near-row = near-from (first_least (row_number y) h) (walk-answers (row_number y) h)
 
     -- and such a row is what it answers
-    pub near-is : (b : ℕ) → Near h y b → rowCode (firstLeast (rowNumber y) h) ≡ b
-    unfolding rowCode
+    pub near-is : (b : ℕ) → Near h y b → row_code (first_least (row_number y) h) ≡ b
+    unfolding row_code
     near-is b n =
         ⊎_elim
         (λ (l : b < h).
-        ap rowCode (walk_is (rowNumber y) h (some b) (
+        ap row_code (walk_is (row_number y) h (some b) (
           apart y b * apart y b,
           record {
             inside = l;
@@ -90,9 +90,9 @@ module _ (p : ℕ → Bool) where
           },
         )))
         (λ (l : h ≤ b).
-        let off : (k : ℕ) → k < h → rowNumber y k ≡ none = λ k g.
+        let off : (k : ℕ) → k < h → row_number y k ≡ none = λ k g.
         ⊎_elim (λ (t : p k ≡ true). (let m = (n.least k g t).0 in absurd (omega arith))) (λ t. off-number y k t) (either (p k)) in
-        ap rowCode (walk_is (rowNumber y) h none off) ∙ (let e = n.missing l in omega arith))
+        ap row_code (walk_is (row_number y) h none off) ∙ (let e = n.missing l in omega arith))
         (which b h)
 
   -- ---- the first on-row at or below
@@ -111,28 +111,28 @@ module _ (p : ℕ → Bool) where
         ⊎_elim (λ (m : y < k). r.first k m l q) (λ (m : k ≤ y). (let e : k ≡ y = omega arith in not-both (p k) q (rw e t))) (which y k);
   }
 
-  pub first-from : (n y h : ℕ) → h ≤ no_row → y + n ≡ h → FirstFrom y h (firstFrom p y n)
-  unfolding firstFrom
+  pub first-from : (n y h : ℕ) → h ≤ no_row → y + n ≡ h → FirstFrom y h (first_from p y n)
+  unfolding first_from
   first-from zero y h m e =
       record { missing = λ l. refl; here = λ l. absurd (omega arith); first = λ k g l q. absurd (omega arith) }
   first-from (suc n) y h m e =
-      ⊎_elim {C = FirstFrom y h (cond (p y) y (firstFrom p (suc y) n))}
+      ⊎_elim {C = FirstFrom y h (cond (p y) y (first_from p (suc y) n))}
       (λ (t : p y ≡ true).
       rw t (record { missing = λ l. absurd (omega arith); here = λ l. (omega arith, t); first = λ k g l q. g }))
-      (λ (t : p y ≡ false). rw t (from-off y h (firstFrom p (suc y) n) t (first-from n (suc y) h m (omega arith))))
+      (λ (t : p y ≡ false). rw t (from-off y h (first_from p (suc y) n) t (first-from n (suc y) h m (omega arith))))
       (either (p y))
 
   -- one row further up
-  pub first_step : (y h : ℕ) → y < h → firstFrom p y (h - y) ≡ cond (p y) y (firstFrom p (y + 1) (h - (y + 1)))
-  unfolding firstFrom
+  pub first_step : (y h : ℕ) → y < h → first_from p y (h - y) ≡ cond (p y) y (first_from p (y + 1) (h - (y + 1)))
+  unfolding first_from
   first_step y h l =
       let e : h - y ≡ suc (h - (y + 1)) = omega arith in
       let q : suc y ≡ y + 1 = omega arith in
       rw (e, q)
 
   -- and no row at all
-  pub first-none : (h : ℕ) → firstFrom p h (h - h) ≡ no_row
-  unfolding firstFrom
+  pub first-none : (h : ℕ) → first_from p h (h - h) ≡ no_row
+  unfolding first_from
   first-none h = let e : h - h ≡ 0 = omega arith in rw e
 
   -- ---- the sweep's step
@@ -148,7 +148,7 @@ module _ (p : ℕ → Bool) where
   }
 
   -- the nearest to row z stays for the row below it, unless the first from there on is strictly nearer
-  module _ (h z a b : ℕ) (inside : suc z < h) (short : h ≤ mostLength) (f : FirstFrom (suc z) h a) (n : Near h z b) where
+  module _ (h z a b : ℕ) (inside : suc z < h) (short : h ≤ most_length) (f : FirstFrom (suc z) h a) (n : Near h z b) where
     -- a row above the new row, or one from it on, seen from both rows
     abbrev Up : ℕ → Type 0
     Up k = (apart (suc z) k + k ≡ suc z) × (apart z k + k ≡ z)

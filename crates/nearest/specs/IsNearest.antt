@@ -2,17 +2,17 @@
 -- least row. The laws say that the answer of nearest is this pixel, and that there is no second one.
 -- Assumes nothing.
 use Rattle.std.specs.Prelude.{◌≡◌, true, List, ℕ, ◌≤◌, ◌<◌}
-use Rattle.plane.specs.Plane.{onAt}
+use Rattle.plane.specs.Plane.{on_at}
 use Rattle.nearest.specs.Nearest.{away}
 
 -- (j, i) is the nearest on-pixel of (y, x) (R10, R11)
 pub record IsNearest (mask : List ℕ) (h w y x i j : ℕ) : Type 0 where
   pub row_inside : j < h
   pub column-inside : i < w
-  pub is-on : onAt mask w j i ≡ true
+  pub is-on : on_at mask w j i ≡ true
   -- no on-pixel is nearer
-  pub least : (k l : ℕ) → k < h → l < w → onAt mask w k l ≡ true → away y x j i ≤ away y x k l
+  pub least : (k l : ℕ) → k < h → l < w → on_at mask w k l ≡ true → away y x j i ≤ away y x k l
   -- each in a column before is farther
-  pub first-column : (k l : ℕ) → k < h → l < i → onAt mask w k l ≡ true → away y x j i < away y x k l
+  pub first-column : (k l : ℕ) → k < h → l < i → on_at mask w k l ≡ true → away y x j i < away y x k l
   -- and each above it in its own column
-  pub first-row : (k : ℕ) → k < j → onAt mask w k i ≡ true → away y x j i < away y x k i
+  pub first-row : (k : ℕ) → k < j → on_at mask w k i ≡ true → away y x j i < away y x k i

@@ -4,14 +4,14 @@
 // the nearest on-rows of the row at hand, their costs, and the sites of the line pass's stack.
 ghost use Rattle.std.specs.Prelude.{◌≡◌, cond, ℕ, ◌+◌, ◌*◌, ◌-◌, ◌<◌, ◌≤◌, pos, length, take};
 ghost use Rattle.plane.specs.Plane.{on, index_of};
-ghost use Rattle.line.specs.steps.Line.{mostLength};
+ghost use Rattle.line.specs.steps.Line.{most_length};
 ghost use Rattle.line.specs.steps.Part.{Written};
-ghost use Rattle.nearest.specs.Nearest.{row_of, columnOf, rowsPlane, columnsPlane, distancePlane};
+ghost use Rattle.nearest.specs.Nearest.{row_of, column_of, rows_plane, columns_plane, distance_plane};
 ghost use Rattle.nearest.specs.steps.Room.{Room, IndexRoom, DistanceRoom, NearRoom, CostRoom, RowRoom};
 ghost use Rattle.nearest.specs.steps.Room.{ChosenRoom, PixelRoom, DistanceAtRoom, DistanceLineRoom};
-ghost use Rattle.nearest.specs.steps.Stages.{no_row, belowIn, nearer, nearerIn, squareCost, costIn, Swept, RowDone};
-ghost use Rattle.nearest.specs.steps.Stages.{elements, from, pixelAt, pixelIn, distance_at, distanceIn};
-ghost use Rattle.nearest.specs.steps.Indices.{indicesPlane};
+ghost use Rattle.nearest.specs.steps.Stages.{no_row, below_in, nearer, nearer_in, square_cost, cost_in, Swept, RowDone};
+ghost use Rattle.nearest.specs.steps.Stages.{elements, from, pixel_at, pixel_in, distance_at, distance_in};
+ghost use Rattle.nearest.specs.steps.Indices.{indices_plane};
 
 // Stands for the row of a column that has no on-pixel.
 const NO_ROW: u32 = 1073741824;
@@ -32,7 +32,7 @@ fn own_row(b: u8, y: u32, below: u32) -> u32
 // For each column the first on-row at or below row y, from that of the row below, which stands behind it.
 fn below_line(mask: &[u8], y: u32, work: &mut [u32], row: usize, w: usize)
     requires { (row + w ≤ length mask.now) × (row + w + w ≤ length work.old) }
-    ensures { Written 0 (belowIn mask.now y work.old row w) row w work.old work.new }
+    ensures { Written 0 (below_in mask.now y work.old row w) row w work.old work.new }
 {
     let next = row + w;
     let mut x = 0usize;
@@ -72,7 +72,7 @@ fn below(mask: &[u8], h: usize, w: usize, work: &mut [u32])
 // Of a, the first on-row at or below row y, and b, the nearest of the row above: the nearer to y; b where they are equally near.
 // No row is above row 0.
 fn nearer_row(y: u32, a: u32, b: u32) -> u32
-    requires { (y < mostLength) × (a ≤ no_row) × (b ≤ no_row) }
+    requires { (y < most_length) × (a ≤ no_row) × (b ≤ no_row) }
     ensures { result ≡ nearer y a b }
 {
     if (y == 0) | (a + b < 2 * y) { a } else { b }
@@ -81,7 +81,7 @@ fn nearer_row(y: u32, a: u32, b: u32) -> u32
 // For each column the nearest on-row of row y; near has it for the row above, and row the first on-row at or below.
 fn nearer_line(y: u32, work: &mut [u32], row: usize, near: usize, w: usize)
     requires { NearRoom work.old y row near w }
-    ensures { Written 0 (nearerIn y work.old row near) near w work.old work.new }
+    ensures { Written 0 (nearer_in y work.old row near) near w work.old work.new }
 {
     let mut x = 0usize;
     while x < w {
@@ -94,8 +94,8 @@ fn nearer_line(y: u32, work: &mut [u32], row: usize, near: usize, w: usize)
 
 // The square of the distance between two rows; NO_COST where r is no row.
 fn cost(y: u32, r: u32) -> u32
-    requires { y < mostLength }
-    ensures { result ≡ squareCost y r }
+    requires { y < most_length }
+    ensures { result ≡ square_cost y r }
 {
     let d = if y < r { r - y } else { y - r };
     if r < MOST_ROWS { d * d } else { NO_COST }
@@ -104,7 +104,7 @@ fn cost(y: u32, r: u32) -> u32
 // What each column costs, seen from row y.
 fn costs_line(y: u32, work: &mut [u32], near: usize, costs: usize, w: usize)
     requires { CostRoom work.old y near costs w }
-    ensures { Written 0 (costIn y work.old near) costs w work.old work.new }
+    ensures { Written 0 (cost_in y work.old near) costs w work.old work.new }
 {
     let mut x = 0usize;
     while x < w {
@@ -129,16 +129,16 @@ fn row_pass(y: usize, n: usize, w: usize, out: usize, work: &mut [u32])
 
 // The row of column i; -1 where there is no such column.
 fn row_at(near: &[u32], i: usize) -> i32
-    requires { i < length near.now → elements near.now i < mostLength }
-    ensures { result ≡ row_of (pixelAt (length near.now) (elements near.now) i) }
+    requires { i < length near.now → elements near.now i < most_length }
+    ensures { result ≡ row_of (pixel_at (length near.now) (elements near.now) i) }
 {
     if i < near.len() { near[i] as i32 } else { -1 }
 }
 
 // Column i; 0 where there is no such column.
 fn column_at(w: u32, i: u32) -> i32
-    requires { w ≤ mostLength }
-    ensures { (near : ℕ → ℕ) → result ≡ columnOf (pixelAt w near i) }
+    requires { w ≤ most_length }
+    ensures { (near : ℕ → ℕ) → result ≡ column_of (pixel_at w near i) }
 {
     if i < w { i as i32 } else { 0 }
 }
@@ -147,7 +147,7 @@ fn column_at(w: u32, i: u32) -> i32
 fn rows_line(work: &[u32], places: usize, near: usize, w: usize, row: usize, rows: &mut [i32])
     requires { PixelRoom work.now places near w × (row + w ≤ length rows.old) }
     ensures { Written (pos 0)
-        (λ (x : ℕ). row_of (pixelIn work.now places near w x)) row w rows.old rows.new }
+        (λ (x : ℕ). row_of (pixel_in work.now places near w x)) row w rows.old rows.new }
 {
     let end = near + w;
     let mut x = 0usize;
@@ -162,9 +162,9 @@ fn rows_line(work: &[u32], places: usize, near: usize, w: usize, row: usize, row
 // Rows and columns are written one after the other: both in one loop took up to twice as long on planes of 4096 by 4096, which lie a
 // power of two apart, and not on those of 4095 or 4000.
 fn columns_line(work: &[u32], places: usize, w: usize, row: usize, cols: &mut [i32])
-    requires { (w ≤ mostLength) × (places + w ≤ length work.now) × (row + w ≤ length cols.old) }
+    requires { (w ≤ most_length) × (places + w ≤ length work.now) × (row + w ≤ length cols.old) }
     ensures { (near : ℕ → ℕ) → Written (pos 0)
-        (λ (x : ℕ). columnOf (pixelAt w near (from work.now places x))) row w cols.old cols.new }
+        (λ (x : ℕ). column_of (pixel_at w near (from work.now places x))) row w cols.old cols.new }
 {
     let n = w as u32;
     let mut x = 0usize;
@@ -185,8 +185,8 @@ pub fn nearest_planes(
     cols: &mut [i32],
 )
     requires { Room h w mask.now work.old rows.old cols.old }
-    ensures rows_after { rows.new ≡ rowsPlane mask.now h w }
-    ensures cols_after { cols.new ≡ columnsPlane mask.now h w }
+    ensures rows_after { rows.new ≡ rows_plane mask.now h w }
+    ensures cols_after { cols.new ≡ columns_plane mask.now h w }
 {
     below(mask, h, w, work);
     let mut y = 0usize;
@@ -201,7 +201,7 @@ pub fn nearest_planes(
 // The index of column i's on-pixel; 0 where there is no such column.
 fn index_at(work: &[u32], near: usize, w: usize, i: usize) -> u32
     requires { ChosenRoom work.now near w i }
-    ensures { result ≡ index_of w (pixelAt w (from work.now near) i) }
+    ensures { result ≡ index_of w (pixel_at w (from work.now near) i) }
 {
     if i < w {
         return (plane::wide(work[near + i]) * w + i) as u32;
@@ -213,7 +213,7 @@ fn index_at(work: &[u32], near: usize, w: usize, i: usize) -> u32
 fn index_line(work: &mut [u32], row: usize, near: usize, w: usize)
     requires { PixelRoom work.old row near w }
     ensures { Written 0
-        (λ (x : ℕ). index_of w (pixelIn work.old row near w x)) row w work.old work.new }
+        (λ (x : ℕ). index_of w (pixel_in work.old row near w x)) row w work.old work.new }
 {
     let mut x = 0usize;
     while x < w {
@@ -226,7 +226,7 @@ fn index_line(work: &mut [u32], row: usize, near: usize, w: usize)
 // The index of the nearest on-pixel of each pixel, in the first h * w numbers of the buffer; 0 where nothing is on.
 pub fn nearest_indices(mask: &[u8], h: usize, w: usize, work: &mut [u32])
     requires { IndexRoom h w mask.now work.old }
-    ensures { take (h * w) work.new ≡ indicesPlane mask.now h w }
+    ensures { take (h * w) work.new ≡ indices_plane mask.now h w }
 {
     below(mask, h, w, work);
     let mut y = 0usize;
@@ -261,7 +261,7 @@ fn distances_line(
     out: &mut [u32],
 )
     requires { DistanceLineRoom work.now places costs w y row (length out.old) }
-    ensures { Written 0 (distanceIn work.now places costs w y) row w out.old out.new }
+    ensures { Written 0 (distance_in work.now places costs w y) row w out.old out.new }
 {
     let end = costs + w;
     let mut x = 0usize;
@@ -274,7 +274,7 @@ fn distances_line(
 // The squared distance of each pixel to its nearest on-pixel; with nothing on, to row -1 and column 0.
 pub fn nearest_distances(mask: &[u8], h: usize, w: usize, work: &mut [u32], out: &mut [u32])
     requires { DistanceRoom h w mask.now work.old out.old }
-    ensures { out.new ≡ distancePlane mask.now h w }
+    ensures { out.new ≡ distance_plane mask.now h w }
 {
     below(mask, h, w, work);
     let mut y = 0usize;

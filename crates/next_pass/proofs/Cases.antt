@@ -8,20 +8,20 @@ use Prim.Native.Nat.{ℕ}
 use lib.IntN.{negsuc}
 use lib.ListN.{length, replicate}
 use lib.Ieee.{Float, fin, lt, le, eq, add, sub, mul, div, neg, of_int, of_bits}
-use Rattle.plane.specs.Plane.{on, bit, onAt, apart, within, table, rowsUpto, planeOf, index_of}
-use Rattle.plane.specs.Search.{someBelow, countBelow}
-use Rattle.plane.specs.Mask.{isOn, mask_of}
+use Rattle.plane.specs.Plane.{on, bit, on_at, apart, within, table, rows_upto, plane_of, index_of}
+use Rattle.plane.specs.Search.{some_below, count_below}
+use Rattle.plane.specs.Mask.{is_on, mask_of}
 use Rattle.line.specs.Walk.{lower}
 use Rattle.line.specs.Grid.{value_of, walk, upto, grid, plus}
-use Rattle.nearest.specs.Nearest.{rowCost, nearest, away, distanceTo}
-use Rattle.squares.specs.Squares.{inSquare}
+use Rattle.nearest.specs.Nearest.{row_cost, nearest, away, distance_to}
+use Rattle.squares.specs.Squares.{in_square}
 use Rattle.colour.specs.declared.Rgb.{Rgb}
-use Rattle.colour.specs.Number.{zero64, one64, absOf, larger}
-use Rattle.colour.specs.Colour.{differenceOf}
-use Rattle.colour.specs.Join.{joinsOf}
-use Rattle.outline.specs.Border.{channelAt, colourAt}
-use Rattle.outline.specs.Growth.{nearGround, isEdge, isShallow, isDeep, isReach, bodyFrom, joinsFrom, isJoining, passOf, growthOf}
-use Rattle.next_pass.specs.NextPass.{nextBackground, newlyOn, joinsIn}
+use Rattle.colour.specs.Number.{zero64, one64, abs_of, larger}
+use Rattle.colour.specs.Colour.{difference_of}
+use Rattle.colour.specs.Join.{joins_of}
+use Rattle.outline.specs.Border.{channel_at, colour_at}
+use Rattle.outline.specs.Growth.{near_ground, is_edge, is_shallow, is_deep, is_reach, body_from, joins_from, is_joining, pass_of, growth_of}
+use Rattle.next_pass.specs.NextPass.{next_background, newly_on, joins_in}
 
 greys : List Float → List Float
 greys [] = []
@@ -44,7 +44,7 @@ rim = one64 ∷ lightest ∷ light ∷ replicate 4 zero64
 -- a background of a row, looked at, becomes this one, with so many joins
 abbrev Shows : List Float → List ℕ → List ℕ → ℕ → Type 0
 Shows row back next joins =
-    (nextBackground (greys row) white 1 (length row) back ≡ next) × (joinsIn (greys row) white 1 (length row) back ≡ joins)
+    (next_background (greys row) white 1 (length row) back ≡ next) × (joins_in (greys row) white 1 (length row) back ≡ joins)
 
 cases :
     -- The second pixel joins, and the third only after it; a byte 7 is written as 1.
@@ -56,7 +56,7 @@ cases :
     × Shows (one64 ∷ light ∷ []) (2 ∷ 0 ∷ []) (1 ∷ 0 ∷ []) 0
     × Shows (one64 ∷ light ∷ []) (0 ∷ 0 ∷ []) (0 ∷ 0 ∷ []) 0
     × Shows (one64 ∷ light ∷ []) (3 ∷ 4 ∷ []) (1 ∷ 1 ∷ []) 0
-unfolding greys rim nextBackground newlyOn joinsIn on bit onAt apart within table rowsUpto planeOf index_of someBelow countBelow isOn mask_of
-    lower value_of walk upto grid plus rowCost nearest away distanceTo inSquare absOf larger differenceOf joinsOf channelAt colourAt
-    nearGround isEdge isShallow isDeep isReach bodyFrom joinsFrom isJoining passOf growthOf lt le eq add sub mul div neg of_int of_bits
+unfolding greys rim next_background newly_on joins_in on bit on_at apart within table rows_upto plane_of index_of some_below count_below is_on mask_of
+    lower value_of walk upto grid plus row_cost nearest away distance_to in_square abs_of larger difference_of joins_of channel_at colour_at
+    near_ground is_edge is_shallow is_deep is_reach body_from joins_from is_joining pass_of growth_of lt le eq add sub mul div neg of_int of_bits
 cases = ((refl, refl), (refl, refl), (refl, refl), (refl, refl), (refl, refl), (refl, refl))

@@ -1,6 +1,6 @@
 // A look at the coming pass: what it answers, and how many pixels the pass would take off the object. The pass itself is growth's.
 ghost use Rattle.std.specs.Prelude.{◌≡◌, ◌≤◌, length};
-ghost use Rattle.next_pass.specs.NextPass.{newlyOn};
+ghost use Rattle.next_pass.specs.NextPass.{newly_on};
 
 // What a look at the coming pass answers: how many pixels would join the background, or the number by which it declines.
 #[derive(Drop)]
@@ -16,7 +16,7 @@ const BLOCK: usize = 240;
 fn block(before: &[u8], after: &[u8]) -> u8
     requires after_len { length after.now ≡ length before.now }
     requires before_len_bound { length before.now ≤ 255 }
-    ensures { result ≡ newlyOn (length before.now) before.now after.now }
+    ensures { result ≡ newly_on (length before.now) before.now after.now }
 {
     let mut n = 0u8;
     let mut i = 0usize;
@@ -30,7 +30,7 @@ fn block(before: &[u8], after: &[u8]) -> u8
 // How many pixels are on in `after` and off in `before`.
 pub fn newly_on(before: &[u8], after: &[u8]) -> u64
     requires { length after.now ≡ length before.now }
-    ensures { result ≡ newlyOn (length before.now) before.now after.now }
+    ensures { result ≡ newly_on (length before.now) before.now after.now }
 {
     let mut n = 0u64;
     let mut i = 0usize;

@@ -9,17 +9,17 @@ use mathlib.Core.Logic.{⊎_elim}
 use Prim.Native.Nat.{ℕ, ◌+◌, ◌*◌, ◌/◌, ◌%◌, ◌<◌}
 use native.Mathlib.Omega.{arith}
 use borrow.Author.Tests.{not-false}
-use Rattle.plane.specs.Plane.{onAt, index_of}
-use Rattle.plane.specs.Search.{someBelow}
+use Rattle.plane.specs.Plane.{on_at, index_of}
+use Rattle.plane.specs.Search.{some_below}
 use Rattle.plane.proofs.Plane.{pixel-in, row_of, column-of, index-of, apart-back}
 use Rattle.plane.proofs.Search.{either, not-both, some-found, and_no}
 use Rattle.plane.proofs.Refusal.{and-true}
-use Rattle.plane.specs.Mask.{isOn, mask_of}
+use Rattle.plane.specs.Mask.{is_on, mask_of}
 use Rattle.labels.proofs.Steps.{row_is, column-is}
 use Rattle.nearest.specs.Nearest.{nearest}
 use Rattle.nearest.specs.steps.Towards.{towards}
 use Rattle.nearest.proofs.Laws.{nearest-some, nearest-found, towards-inside, towards-near, step-off}
-use Rattle.outline.specs.Growth.{nearGround, isEdge, isShallow, isDeep, isReach, bodyFrom}
+use Rattle.outline.specs.Growth.{near_ground, is_edge, is_shallow, is_deep, is_reach, body_from}
 use Rattle.plane.proofs.Mask.{mask-on, mask-holds, index_on, row_on}
 use Rattle.outline.proofs.Masks.{Within, Nigh, near-found, near-is, within-self, within_more, within-sum}
 
@@ -54,7 +54,7 @@ module _ (back : List ℕ) (h w : ℕ) (wide : 0 < w) (p : ℕ → Bool) (m : �
       let u : ty * w + tx < h * w = pixel-in ty tx h w (towards-inside h y (i / w) s.row_inside r) tx-in in
       let other : (y ≡ i / w) × (x ≡ i % w) → ⊥ = λ z. (
       let k : y * w + x ≡ i = rw (z.0, z.1) (index-of i w) in
-      let lit : isOn mask (y * w + x) ≡ true = sym (row_on mask w y x) ∙ s.is-on in
+      let lit : is_on mask (y * w + x) ≡ true = sym (row_on mask w y x) ∙ s.is-on in
       let here : p i ≡ true = ap p (sym k) ∙ mask-holds (h * w) p (y * w + x) lit in
       not-both (p i) here e) in
       let dark = sym (mask-on (h * w) p (ty * w + tx) u) ∙ sym (row_on mask w ty tx) ∙ step-off mask h w (i / w) (i % w) r c x y q other in
@@ -65,39 +65,39 @@ module _ (back : List ℕ) (h w : ℕ) (wide : 0 < w) (p : ℕ → Bool) (m : �
 
 module _ (back : List ℕ) (h w : ℕ) (wide : 0 < w) where
   abbrev deep : List ℕ
-  deep = mask_of (h * w) (isDeep back h w)
+  deep = mask_of (h * w) (is_deep back h w)
 
   abbrev shallow : List ℕ
-  shallow = mask_of (h * w) (isShallow back h w)
+  shallow = mask_of (h * w) (is_shallow back h w)
 
-  not-deep : (i : ℕ) → i < h * w → isDeep back h w i ≡ false → Within back h w 4 i
-  unfolding isDeep
-  not-deep i l e = near-found (not-false (nearGround back h w 4 i) e)
+  not-deep : (i : ℕ) → i < h * w → is_deep back h w i ≡ false → Within back h w 4 i
+  unfolding is_deep
+  not-deep i l e = near-found (not-false (near_ground back h w 4 i) e)
 
-  not-shallow : (i : ℕ) → i < h * w → isShallow back h w i ≡ false → Within back h w 1 i
-  unfolding isShallow
+  not-shallow : (i : ℕ) → i < h * w → is_shallow back h w i ≡ false → Within back h w 1 i
+  unfolding is_shallow
   not-shallow i l e =
       ⊎_elim {C = Within back h w 1 i}
-      (λ (a : isOn back i ≡ true). within-self l a)
-      (λ (a : isOn back i ≡ false). near-found (not-false (nearGround back h w 1 i) (rw a at e)))
-      (either (isOn back i))
+      (λ (a : is_on back i ≡ true). within-self l a)
+      (λ (a : is_on back i ≡ false). near-found (not-false (near_ground back h w 1 i) (rw a at e)))
+      (either (is_on back i))
 
-  module _ (i : ℕ) (l : i < h * w) (edge : isEdge back h w i ≡ true) where
-    edge-near : nearGround back h w 1 i ≡ true
-    unfolding isEdge
-    edge-near = (and-true (not (isOn back i)) (nearGround back h w 1 i) edge).1
+  module _ (i : ℕ) (l : i < h * w) (edge : is_edge back h w i ≡ true) where
+    edge-near : near_ground back h w 1 i ≡ true
+    unfolding is_edge
+    edge-near = (and-true (not (is_on back i)) (near_ground back h w 1 i) edge).1
 
     -- an edge pixel is within 1 of the background,
     pub edge-within : Within back h w 1 i
     edge-within = near-found edge-near
 
     -- so it is not shallow, and not deep
-    edge-shallow : isShallow back h w i ≡ false
-    unfolding isShallow
-    edge-shallow = rw edge-near (and_no (not (isOn back i)))
+    edge-shallow : is_shallow back h w i ≡ false
+    unfolding is_shallow
+    edge-shallow = rw edge-near (and_no (not (is_on back i)))
 
-    edge-deep : isDeep back h w i ≡ false
-    unfolding isDeep
+    edge-deep : is_deep back h w i ≡ false
+    unfolding is_deep
     edge-deep = rw (near-is {mask = back} {h = h} {w = w} {k = 4} {i = i} wide (within_more (omega arith) edge-within))
 
     abbrev found : List ℕ → Option (ℕ × ℕ)
@@ -105,25 +105,25 @@ module _ (back : List ℕ) (h w : ℕ) (wide : 0 < w) where
 
     -- its nearest deep pixel is within 5 of the background,
     pub deep-near : (x y : ℕ) → found deep ≡ some (x, y) → PixelWithin back h w 5 (y * w + x)
-    deep-near x y q = step-near back h w wide (isDeep back h w) 4 not-deep i x y l edge-deep q
+    deep-near x y q = step-near back h w wide (is_deep back h w) 4 not-deep i x y l edge-deep q
 
     -- and its nearest shallow pixel within 2
     shallow-within : (x y : ℕ) → found shallow ≡ some (x, y) → PixelWithin back h w 5 (index_of w (found shallow))
     unfolding index_of
     shallow-within x y q =
-        let c = step-near back h w wide (isShallow back h w) 1 not-shallow i x y l edge-shallow q in
+        let c = step-near back h w wide (is_shallow back h w) 1 not-shallow i x y l edge-shallow q in
         rw q (record { inside = c.inside; near = within_more (omega arith) c.near })
 
     -- where there is a shallow pixel, the pixel of its body colour is within 5
-    pub body_near : someBelow (h * w) (isShallow back h w) ≡ true → PixelWithin back h w 5 (bodyFrom deep shallow h w i)
-    unfolding bodyFrom index_of isReach
+    pub body_near : some_below (h * w) (is_shallow back h w) ≡ true → PixelWithin back h w 5 (body_from deep shallow h w i)
+    unfolding body_from index_of is_reach
     body_near some-shallow = from (found deep) refl
       where
         else-shallow : PixelWithin back h w 5 (index_of w (found shallow))
         else-shallow =
-            let s = some-found (isShallow back h w) (h * w) some-shallow in
+            let s = some-found (is_shallow back h w) (h * w) some-shallow in
             let k = s.0 in
-            let lit : onAt shallow w (k / w) (k % w) ≡ true = index_on shallow w k ∙ mask-on (h * w) (isShallow back h w) k s.1 ∙ s.2 in
+            let lit : on_at shallow w (k / w) (k % w) ≡ true = index_on shallow w k ∙ mask-on (h * w) (is_shallow back h w) k s.1 ∙ s.2 in
             let f = nearest-found shallow h w (i / w) (i % w) (k / w) (k % w) (row_of k h w wide s.1) (column-of k w wide) lit in
             shallow-within f.0 f.1 f.2
 
@@ -133,6 +133,6 @@ module _ (back : List ℕ) (h w : ℕ) (wide : 0 < w) where
         either-one false q e = else-shallow
 
         from : (r : Option (ℕ × ℕ)) → found deep ≡ r
-            → PixelWithin back h w 5 (cond (isReach (i / w) (i % w) r) (index_of w r) (index_of w (found shallow)))
+            → PixelWithin back h w 5 (cond (is_reach (i / w) (i % w) r) (index_of w r) (index_of w (found shallow)))
         from none e = else-shallow
-        from (some q) e = either-one (isReach (i / w) (i % w) (some q)) q e
+        from (some q) e = either-one (is_reach (i / w) (i % w) (some q)) q e

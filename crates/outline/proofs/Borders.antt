@@ -14,16 +14,16 @@ use borrow.Author.Tests.{eqb-true, eq-eqb}
 use Rattle.plane.specs.Plane.{table}
 use Rattle.plane.proofs.Plane.{pixel-in}
 use Rattle.plane.proofs.Search.{not-both, or_left, or_right, or-true}
-use Rattle.plane.specs.Mask.{isOn}
+use Rattle.plane.specs.Mask.{is_on}
 use Rattle.colour.proofs.Zero.{Alike}
 use Rattle.colour.proofs.Same.{SameColour}
-use Rattle.median.specs.Median.{medianOf}
+use Rattle.median.specs.Median.{median_of}
 use Rattle.median.proofs.Laws.{median-alike}
 use Rattle.card.specs.declared.Card.{Card}
 use Rattle.card.specs.declared.Card.TheVariants as card
-use Rattle.outline.specs.Border.{rowPixels, innerColumn, borderList, listed, onBorder}
-use Rattle.outline.specs.Border.{channelAt, colourAt, referenceChannel, referenceOf, referenceOn}
-use Rattle.outline.specs.Ground.{countOn}
+use Rattle.outline.specs.Border.{row_pixels, inner_column, border_list, listed, on_border}
+use Rattle.outline.specs.Border.{channel_at, colour_at, reference_channel, reference_of, reference_on}
+use Rattle.outline.specs.Ground.{count_on}
 
 -- ---- lists of pixels
 
@@ -58,32 +58,32 @@ listed-table f i k (suc n) e =
 -- ---- the border lies in the plane
 
 module _ (h w : ℕ) (tall : 0 < h) (wide : 0 < w) where
-  row_inside : (y i : ℕ) → y < h → listed i (rowPixels w y) ≡ true → i < h * w
-  unfolding rowPixels
+  row_inside : (y i : ℕ) → y < h → listed i (row_pixels w y) ≡ true → i < h * w
+  unfolding row_pixels
   row_inside y i a e =
       let z = listed-table (λ (x : ℕ). y * w + x) i 0 w e in
       rw z.3 (pixel-in y z.0 h w a (omega (arith, z.2)))
 
-  column-inside : (k x i : ℕ) → k ≤ h → x < w → listed i (innerColumn k w x) ≡ true → i < h * w
-  unfolding innerColumn
+  column-inside : (k x i : ℕ) → k ≤ h → x < w → listed i (inner_column k w x) ≡ true → i < h * w
+  unfolding inner_column
   column-inside k x i l a e =
       let z = listed-table (λ (y : ℕ). y * w + x) i 1 (k - 2) e in
       rw z.3 (pixel-in z.0 x h w (omega (arith, z.1, z.2)) a)
 
-  pub border-inside : (i : ℕ) → onBorder h w i ≡ true → i < h * w
-  unfolding onBorder borderList
+  pub border-inside : (i : ℕ) → on_border h w i ≡ true → i < h * w
+  unfolding on_border border_list
   border-inside i =
-      let rows = rowPixels w 0 ++ rowPixels w (h - 1) in
-      in_either i (rows ++ innerColumn h w 0) _
-      (in_either i rows (innerColumn h w 0)
-      (in_either i (rowPixels w 0) (rowPixels w (h - 1)) (row_inside 0 i tall) (row_inside (h - 1) i (omega arith)))
+      let rows = row_pixels w 0 ++ row_pixels w (h - 1) in
+      in_either i (rows ++ inner_column h w 0) _
+      (in_either i rows (inner_column h w 0)
+      (in_either i (row_pixels w 0) (row_pixels w (h - 1)) (row_inside 0 i tall) (row_inside (h - 1) i (omega arith)))
       (column-inside _ 0 i (omega arith) wide))
       (column-inside _ (w - 1) i (omega arith) (omega arith))
 
 -- ---- masks that are alike on a list have as many entries of it on
 
-pub count-alike : (a b l : List ℕ) → ((i : ℕ) → listed i l ≡ true → isOn a i ≡ isOn b i) → countOn a l ≡ countOn b l
-unfolding countOn listed
+pub count-alike : (a b l : List ℕ) → ((i : ℕ) → listed i l ≡ true → is_on a i ≡ is_on b i) → count_on a l ≡ count_on b l
+unfolding count_on listed
 count-alike a b [] h = refl
 count-alike a b (j ∷ l) h =
     rw (h j (or_left (eqb j j) (listed j l) (eq-eqb j j refl)), count-alike a b l (λ i e. h i (or_right (eqb i j) (listed i l) e)))
@@ -96,7 +96,7 @@ mapped_at f (x ∷ l) zero h = refl
 mapped_at f (x ∷ l) (suc k) h = mapped_at f l k (le_of_suc-le-suc h)
 
 -- values that are equal numbers on a list have one median over it
-median-same : (f g : ℕ → Float) (l : List ℕ) → ((i : ℕ) → listed i l ≡ true → Alike (f i) (g i)) → medianOf (map f l) ≡ medianOf (map g l)
+median-same : (f g : ℕ → Float) (l : List ℕ) → ((i : ℕ) → listed i l ≡ true → Alike (f i) (g i)) → median_of (map f l) ≡ median_of (map g l)
 median-same f g l h =
     median-alike (map f l) (map g l) (length-map l f ∙ sym (length-map l g))
     (λ k a. (
@@ -105,18 +105,18 @@ median-same f g l h =
 
 -- pictures with equal borders, as numbers, have one reference, bit for bit
 pub reference-same : (one two : List Float) (h w : ℕ)
-    → ((i : ℕ) → onBorder h w i ≡ true → SameColour (colourAt one i) (colourAt two i)) → referenceOf one h w ≡ referenceOf two h w
-unfolding referenceOf referenceChannel onBorder colourAt
+    → ((i : ℕ) → on_border h w i ≡ true → SameColour (colour_at one i) (colour_at two i)) → reference_of one h w ≡ reference_of two h w
+unfolding reference_of reference_channel on_border colour_at
 reference-same one two h w e =
     rw (
-      median-same (channelAt one 0) (channelAt two 0) (borderList h w) (λ i l. (e i l).r),
-      median-same (channelAt one 1) (channelAt two 1) (borderList h w) (λ i l. (e i l).g),
-      median-same (channelAt one 2) (channelAt two 2) (borderList h w) (λ i l. (e i l).b),
+      median-same (channel_at one 0) (channel_at two 0) (border_list h w) (λ i l. (e i l).r),
+      median-same (channel_at one 1) (channel_at two 1) (border_list h w) (λ i l. (e i l).g),
+      median-same (channel_at one 2) (channel_at two 2) (border_list h w) (λ i l. (e i l).b),
     )
 
 -- so they have one reference on any card: a colour that is given is the same for both
 pub reference-on-same : (on : Card) (one two : List Float) (h w : ℕ)
-    → ((i : ℕ) → onBorder h w i ≡ true → SameColour (colourAt one i) (colourAt two i)) → referenceOn on one h w ≡ referenceOn on two h w
+    → ((i : ℕ) → on_border h w i ≡ true → SameColour (colour_at one i) (colour_at two i)) → reference_on on one h w ≡ reference_on on two h w
 reference-on-same (card.Given colour) one two h w e = refl
 reference-on-same card.Border one two h w e = reference-same one two h w e
 reference-on-same card.Unreadable one two h w e = reference-same one two h w e

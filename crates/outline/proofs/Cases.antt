@@ -7,32 +7,32 @@ use lib.IntN.{ℤ, pos, negsuc}
 use lib.Dec.{T, eqb}
 use lib.ListN.{replicate}
 use lib.Ieee.{Float, fin, lt, le, eq, add, sub, mul, div, neg, of_int, of_bits}
-use Rattle.plane.specs.Plane.{on, bit, onAt, apart, within, table, rowsUpto, planeOf, index_of}
-use Rattle.plane.specs.Search.{someBelow, countBelow, firstBelow, lastBelow}
+use Rattle.plane.specs.Plane.{on, bit, on_at, apart, within, table, rows_upto, plane_of, index_of}
+use Rattle.plane.specs.Search.{some_below, count_below, first_below, last_below}
 use Rattle.line.specs.Walk.{lower}
 use Rattle.line.specs.Grid.{value_of, walk, upto, grid, plus}
-use Rattle.nearest.specs.Nearest.{rowCost, nearest, row_of, columnOf, rowsPlane, columnsPlane, away, distanceTo}
-use Rattle.squares.specs.Squares.{larger, reach, inSquare, squaresPlane}
-use Rattle.plane.specs.Mask.{isOn, mask_of, someOff}
-use Rattle.labels.specs.Labels.{beside, renamed, merge, joinTwo, joinWith, joinUpto, firstPixel, isFirst, parts, label_of, label_at}
-use Rattle.labels.specs.Labels.{labelsPlane}
+use Rattle.nearest.specs.Nearest.{row_cost, nearest, row_of, column_of, rows_plane, columns_plane, away, distance_to}
+use Rattle.squares.specs.Squares.{larger, reach, in_square, squares_plane}
+use Rattle.plane.specs.Mask.{is_on, mask_of, some_off}
+use Rattle.labels.specs.Labels.{beside, renamed, merge, join_two, join_with, join_upto, first_pixel, is_first, parts, label_of, label_at}
+use Rattle.labels.specs.Labels.{labels_plane}
 use Rattle.colour.specs.declared.Settings.{Settings}
-use Rattle.colour.specs.Number.{zero64, one64, absOf, plusZero, half_of}
-use Rattle.colour.specs.Colour.{differenceOf, closeTo}
-use Rattle.colour.specs.Join.{joinsOf}
-use Rattle.colour.specs.Settings.{passesOf, onOf}
-use Rattle.colour.specs.Weight.{weightOf}
+use Rattle.colour.specs.Number.{zero64, one64, abs_of, plus_zero, half_of}
+use Rattle.colour.specs.Colour.{difference_of, close_to}
+use Rattle.colour.specs.Join.{joins_of}
+use Rattle.colour.specs.Settings.{passes_of, on_of}
+use Rattle.colour.specs.Weight.{weight_of}
 use Rattle.card.specs.declared.Card.{Card}
 use Rattle.card.specs.declared.Card.TheVariants.{Border}
-use Rattle.card.specs.Hex.{hexOf, allHex}
-use Rattle.card.specs.Card.{isColourText, textChannel, textColour, cardOf}
-use Rattle.median.specs.Median.{insert, sorted, placed, lowerMiddle, upperMiddle, medianOf}
-use Rattle.outline.specs.Border.{rowPixels, innerColumn, borderList, listed, onBorder, channelAt, colourAt, referenceChannel}
-use Rattle.outline.specs.Border.{referenceOf}
-use Rattle.outline.specs.Ground.{isClose, closePlane, isGround, groundFrom, groundOf, countOn, found_from, isFound}
-use Rattle.outline.specs.Growth.{nearGround, isEdge, isShallow, isDeep, isReach, bodyFrom, joinsFrom, isJoining, passOf, growthOf}
-use Rattle.plane.specs.Box.{rowHas, columnHas, lesserOf, boxOf, whole_of}
-use Rattle.outline.specs.Cut.{alphaMask, isSought, isKeyed, grownGround, cutMask, cropOf, Cut, cut_of}
+use Rattle.card.specs.Hex.{hex_of, all_hex}
+use Rattle.card.specs.Card.{is_colour_text, text_channel, text_colour, card_of}
+use Rattle.median.specs.Median.{insert, sorted, placed, lower_middle, upper_middle, median_of}
+use Rattle.outline.specs.Border.{row_pixels, inner_column, border_list, listed, on_border, channel_at, colour_at, reference_channel}
+use Rattle.outline.specs.Border.{reference_of}
+use Rattle.outline.specs.Ground.{is_close, close_plane, is_ground, ground_from, ground_of, count_on, found_from, is_found}
+use Rattle.outline.specs.Growth.{near_ground, is_edge, is_shallow, is_deep, is_reach, body_from, joins_from, is_joining, pass_of, growth_of}
+use Rattle.plane.specs.Box.{row_has, column_has, lesser_of, box_of, whole_of}
+use Rattle.outline.specs.Cut.{alpha_mask, is_sought, is_keyed, grown_ground, cut_mask, crop_of, Cut, cut_of}
 use Rattle.outline.specs.Calls.{cut_in}
 
 -- ---- tests
@@ -48,22 +48,22 @@ same [] (n ∷ m) = false
 same (k ∷ l) [] = false
 same (k ∷ l) (n ∷ m) = eqb k n && same l m
 
-sameZ : List ℤ → List ℤ → Bool
-sameZ [] [] = true
-sameZ [] (n ∷ m) = false
-sameZ (k ∷ l) [] = false
-sameZ (pos k ∷ l) (pos n ∷ m) = eqb k n && sameZ l m
-sameZ (pos k ∷ l) (negsuc n ∷ m) = false
-sameZ (negsuc k ∷ l) (pos n ∷ m) = false
-sameZ (negsuc k ∷ l) (negsuc n ∷ m) = eqb k n && sameZ l m
+same_z : List ℤ → List ℤ → Bool
+same_z [] [] = true
+same_z [] (n ∷ m) = false
+same_z (k ∷ l) [] = false
+same_z (pos k ∷ l) (pos n ∷ m) = eqb k n && same_z l m
+same_z (pos k ∷ l) (negsuc n ∷ m) = false
+same_z (negsuc k ∷ l) (pos n ∷ m) = false
+same_z (negsuc k ∷ l) (negsuc n ∷ m) = eqb k n && same_z l m
 
 -- a mask's pixel (y, x) gets this row and this column
 gets : List ℕ → ℕ → ℕ → ℕ → ℕ → ℕ → ℕ → Bool
-gets mask h w y x row column = sameZ (row_of (nearest mask h w y x) ∷ columnOf (nearest mask h w y x) ∷ []) (pos row ∷ pos column ∷ [])
+gets mask h w y x row column = same_z (row_of (nearest mask h w y x) ∷ column_of (nearest mask h w y x) ∷ []) (pos row ∷ pos column ∷ [])
 
 -- a mask's labels are these, n of them
 labelled : List ℕ → ℕ → ℕ → List ℕ → ℕ → Bool
-labelled mask h w labels n = same (labelsPlane mask h w) labels && eqb (parts mask h w) n
+labelled mask h w labels n = same (labels_plane mask h w) labels && eqb (parts mask h w) n
 
 -- ---- pictures: every pixel grey, every alpha 255
 
@@ -93,21 +93,21 @@ opaque255 : ℕ → ℕ → List ℕ
 opaque255 h w = replicate (h * w) 255
 
 -- the cut of such a picture with tolerance 0
-cutWith : List Float → ℕ → ℕ → ℕ → Cut
-cutWith picture h w p = cut_in (greys picture) (opaque255 h w) h w Border (settings p zero64)
+cut_with : List Float → ℕ → ℕ → ℕ → Cut
+cut_with picture h w p = cut_in (greys picture) (opaque255 h w) h w Border (settings p zero64)
 
 -- keyed as told, and cropped to this box
 cut_to : List Float → ℕ → ℕ → ℕ → Bool → List ℕ → Bool
 cut_to picture h w p keyed box =
-    let cut = cutWith picture h w p in
+    let cut = cut_with picture h w p in
     cond keyed cut.keyed (not cut.keyed) && same (cut.box.y0 ∷ cut.box.y1 ∷ cut.box.x0 ∷ cut.box.x1 ∷ []) box
 
 -- the mask is this
-cutMaskIs : List Float → ℕ → ℕ → ℕ → List ℕ → Bool
-cutMaskIs picture h w p mask = same (cutWith picture h w p).mask mask
+cut_mask_is : List Float → ℕ → ℕ → ℕ → List ℕ → Bool
+cut_mask_is picture h w p mask = same (cut_with picture h w p).mask mask
 
 found : List Float → ℕ → ℕ → Bool
-found picture h w = isFound (greys picture) h w (referenceOf (greys picture) h w) zero64
+found picture h w = is_found (greys picture) h w (reference_of (greys picture) h w) zero64
 
 -- the row of 30 pixels, with this grey in column 27
 row30 : Float → List Float
@@ -115,19 +115,19 @@ row30 v = replicate 27 white ++ (v ∷ black ∷ black ∷ [])
 
 -- ---- pictures of 3 by 3 on a card, cut with p 0
 
-cutOn : List Float → Card → Float → Cut
-cutOn picture card tolerance = cut_in (greys picture) (opaque255 3 3) 3 3 card (settings 0 tolerance)
+cut_on : List Float → Card → Float → Cut
+cut_on picture card tolerance = cut_in (greys picture) (opaque255 3 3) 3 3 card (settings 0 tolerance)
 
 -- the card of six equal digits
 digits : ℕ → Card
-digits b = cardOf (replicate 6 b)
+digits b = card_of (replicate 6 b)
 
 -- the object is the middle pixel alone; or no ground is found, and all of the picture is the object
-cutOut : Cut → Bool
-cutOut cut = cut.keyed && same cut.mask (0 ∷ 0 ∷ 0 ∷ 0 ∷ 1 ∷ 0 ∷ 0 ∷ 0 ∷ 0 ∷ [])
+cut_out : Cut → Bool
+cut_out cut = cut.keyed && same cut.mask (0 ∷ 0 ∷ 0 ∷ 0 ∷ 1 ∷ 0 ∷ 0 ∷ 0 ∷ 0 ∷ [])
 
-allLeft : Cut → Bool
-allLeft cut = not cut.keyed && same cut.mask (replicate 9 1)
+all_left : Cut → Bool
+all_left cut = not cut.keyed && same cut.mask (replicate 9 1)
 
 -- white with a black middle; and five black and three light pixels of border around a white middle
 ring : List Float
@@ -146,18 +146,18 @@ cases =
     -- Nearest, 2 by 2, on at (0, 1) and (1, 0): (0, 0) and (1, 1) get (1, 0). None on: all (-1, 0).
     ∷ gets (0 ∷ 1 ∷ 1 ∷ 0 ∷ []) 2 2 0 0 1 0
     ∷ gets (0 ∷ 1 ∷ 1 ∷ 0 ∷ []) 2 2 1 1 1 0
-    ∷ sameZ (rowsPlane (0 ∷ 0 ∷ 0 ∷ 0 ∷ []) 2 2) (replicate 4 (negsuc 0))
-    ∷ sameZ (columnsPlane (0 ∷ 0 ∷ 0 ∷ 0 ∷ []) 2 2) (replicate 4 (pos 0))
+    ∷ same_z (rows_plane (0 ∷ 0 ∷ 0 ∷ 0 ∷ []) 2 2) (replicate 4 (negsuc 0))
+    ∷ same_z (columns_plane (0 ∷ 0 ∷ 0 ∷ 0 ∷ []) 2 2) (replicate 4 (pos 0))
     -- Labels of 10/01: 10/02, n 2. Of 101/111: 101/111, n 1.
     ∷ labelled (1 ∷ 0 ∷ 0 ∷ 1 ∷ []) 2 2 (1 ∷ 0 ∷ 0 ∷ 2 ∷ []) 2
     ∷ labelled (1 ∷ 0 ∷ 1 ∷ 1 ∷ 1 ∷ 1 ∷ []) 2 3 (1 ∷ 0 ∷ 1 ∷ 1 ∷ 1 ∷ 1 ∷ []) 1
     -- Squares of 10000: k 1 gives 11000, iterations 0 gives 11111; 00000 stays.
-    ∷ same (squaresPlane (1 ∷ 0 ∷ 0 ∷ 0 ∷ 0 ∷ []) 1 5 1) (1 ∷ 1 ∷ 0 ∷ 0 ∷ 0 ∷ [])
-    ∷ same (squaresPlane (1 ∷ 0 ∷ 0 ∷ 0 ∷ 0 ∷ []) 1 5 0) (replicate 5 1)
-    ∷ same (squaresPlane (replicate 5 0) 1 5 1) (replicate 5 0)
-    ∷ same (squaresPlane (replicate 5 0) 1 5 0) (replicate 5 0)
+    ∷ same (squares_plane (1 ∷ 0 ∷ 0 ∷ 0 ∷ 0 ∷ []) 1 5 1) (1 ∷ 1 ∷ 0 ∷ 0 ∷ 0 ∷ [])
+    ∷ same (squares_plane (1 ∷ 0 ∷ 0 ∷ 0 ∷ 0 ∷ []) 1 5 0) (replicate 5 1)
+    ∷ same (squares_plane (replicate 5 0) 1 5 1) (replicate 5 0)
+    ∷ same (squares_plane (replicate 5 0) 1 5 0) (replicate 5 0)
     -- The border list of 3 by 1: rows 0, 2, 1, 1.
-    ∷ same (borderList 3 1) (0 ∷ 2 ∷ 1 ∷ 1 ∷ [])
+    ∷ same (border_list 3 1) (0 ∷ 2 ∷ 1 ∷ 1 ∷ [])
     -- Ground, 1 by 1: not found.
     ∷ not (found (white ∷ []) 1 1)
     ∷ cut_to (white ∷ []) 1 1 0 false (0 ∷ 1 ∷ 0 ∷ 1 ∷ [])
@@ -168,25 +168,25 @@ cases =
     ∷ not (found (black ∷ black ∷ replicate 10 white) 3 4)
     ∷ cut_to (black ∷ black ∷ replicate 10 white) 3 4 0 false (0 ∷ 3 ∷ 0 ∷ 4 ∷ [])
     -- 1 by 30, grey 1.0 in columns 0 to 26, 0.0 in 28 and 29, tolerance 0, p 1: column 27 at 0.75 joins, at 0.5 doesn't.
-    ∷ cutMaskIs (row30 light) 1 30 1 (replicate 27 0 ++ (0 ∷ 1 ∷ 1 ∷ []))
-    ∷ cutMaskIs (row30 middle) 1 30 1 (replicate 27 0 ++ (1 ∷ 1 ∷ 1 ∷ []))
+    ∷ cut_mask_is (row30 light) 1 30 1 (replicate 27 0 ++ (0 ∷ 1 ∷ 1 ∷ []))
+    ∷ cut_mask_is (row30 middle) 1 30 1 (replicate 27 0 ++ (1 ∷ 1 ∷ 1 ∷ []))
     -- A white border, tolerance 0, given FFFFFF: found, as without a colour; given 000000: not found, and no second try with the border.
-    ∷ cutOut (cutOn ring Border zero64)
-    ∷ cutOut (cutOn ring (digits 70) zero64)
-    ∷ allLeft (cutOn ring (digits 48) zero64)
+    ∷ cut_out (cut_on ring Border zero64)
+    ∷ cut_out (cut_on ring (digits 70) zero64)
+    ∷ all_left (cut_on ring (digits 48) zero64)
     -- A border of black and light, tolerance 0.5: without a colour not found, given 555555 found.
-    ∷ allLeft (cutOn mixed Border middle)
-    ∷ cutOut (cutOn mixed (digits 53) middle)
+    ∷ all_left (cut_on mixed Border middle)
+    ∷ cut_out (cut_on mixed (digits 53) middle)
     ∷ []
 
 pub cases-hold : T (all cases)
-unfolding cases all same sameZ gets labelled greys opaque255 cutWith cut_to cutMaskIs found row30 cutOn digits cutOut allLeft ring mixed
-    cardOf isColourText allHex hexOf textColour textChannel weightOf on bit onAt apart within table rowsUpto
-    planeOf someBelow countBelow lower value_of walk upto grid plus rowCost nearest row_of columnOf rowsPlane columnsPlane away distanceTo
-    larger reach inSquare squaresPlane isOn beside renamed merge joinTwo joinWith joinUpto firstPixel isFirst parts label_of
-    label_at labelsPlane absOf Rattle.colour.specs.Number.larger plusZero half_of differenceOf closeTo joinsOf passesOf onOf insert sorted
-    placed lowerMiddle upperMiddle medianOf rowPixels innerColumn borderList listed onBorder channelAt colourAt referenceChannel
-    referenceOf isClose closePlane isGround groundFrom groundOf countOn someOff found_from isFound nearGround isEdge isShallow isDeep
-    mask_of index_of isReach bodyFrom joinsFrom isJoining passOf growthOf alphaMask isSought isKeyed grownGround cutMask firstBelow
-    lastBelow rowHas columnHas lesserOf boxOf whole_of cropOf cut_of lt le eq add sub mul div neg of_int of_bits
+unfolding cases all same same_z gets labelled greys opaque255 cut_with cut_to cut_mask_is found row30 cut_on digits cut_out all_left ring mixed
+    card_of is_colour_text all_hex hex_of text_colour text_channel weight_of on bit on_at apart within table rows_upto
+    plane_of some_below count_below lower value_of walk upto grid plus row_cost nearest row_of column_of rows_plane columns_plane away distance_to
+    larger reach in_square squares_plane is_on beside renamed merge join_two join_with join_upto first_pixel is_first parts label_of
+    label_at labels_plane abs_of Rattle.colour.specs.Number.larger plus_zero half_of difference_of close_to joins_of passes_of on_of insert sorted
+    placed lower_middle upper_middle median_of row_pixels inner_column border_list listed on_border channel_at colour_at reference_channel
+    reference_of is_close close_plane is_ground ground_from ground_of count_on some_off found_from is_found near_ground is_edge is_shallow is_deep
+    mask_of index_of is_reach body_from joins_from is_joining pass_of growth_of alpha_mask is_sought is_keyed grown_ground cut_mask first_below
+    last_below row_has column_has lesser_of box_of whole_of crop_of cut_of lt le eq add sub mul div neg of_int of_bits
 cases-hold = tt

@@ -10,21 +10,21 @@ use lib.ListN.{length}
 use lib.Ieee.{Float}
 use borrow.Author.Tests.{eqb-true, leb-true}
 use Rattle.plane.specs.steps.Sides.{Sides}
-use Rattle.plane.specs.Search.{someBelow}
+use Rattle.plane.specs.Search.{some_below}
 use Rattle.plane.proofs.Search.{either, some_same}
 use Rattle.plane.specs.Refusal.{room_for}
 use Rattle.plane.proofs.Refusal.{and-true, passed, sides-are}
-use Rattle.plane.specs.Mask.{isOn, mask_of, someOff}
+use Rattle.plane.specs.Mask.{is_on, mask_of, some_off}
 use Rattle.colour.specs.declared.Rgb.{Rgb}
 use Rattle.colour.specs.declared.Settings.{Settings}
-use Rattle.colour.specs.Colour.{coloursOk}
-use Rattle.colour.specs.Settings.{passesOf}
+use Rattle.colour.specs.Colour.{colours_ok}
+use Rattle.colour.specs.Settings.{passes_of}
 use Rattle.card.specs.declared.Card.{Card}
-use Rattle.outline.specs.Border.{borderList}
-use Rattle.outline.specs.Ground.{closePlane, groundOf, countOn, found_from, isFound}
-use Rattle.outline.specs.Cut.{alphaMask, isSought, isKeyed, grownGround, cutMask}
-use Rattle.outline.specs.Refusal.{workTests, cutLengths, pictureTests, cutContents, cutRefusal}
-use Rattle.outline.specs.Calls.{Buffers, refusalIn}
+use Rattle.outline.specs.Border.{border_list}
+use Rattle.outline.specs.Ground.{close_plane, ground_of, count_on, found_from, is_found}
+use Rattle.outline.specs.Cut.{alpha_mask, is_sought, is_keyed, grown_ground, cut_mask}
+use Rattle.outline.specs.Refusal.{work_tests, cut_lengths, picture_tests, cut_contents, cut_refusal}
+use Rattle.outline.specs.Calls.{Buffers, refusal_in}
 use Rattle.plane.proofs.Mask.{mask-on}
 use Rattle.outline.proofs.GrowthLaws.{growth-leaves}
 
@@ -41,12 +41,12 @@ pub record Taken (colours : List Float) (alpha : List ℕ) (h w : ℕ) (s : Sett
   pub shallow-long : room_for h w ≤ length b.shallow
   pub deep_long : room_for h w ≤ length b.deep
   pub marks-long : room_for h w ≤ length b.marks
-  pub range : coloursOk colours ≡ true
-  pub some-alpha : someBelow (h * w) (isOn (alphaMask alpha (h * w) s)) ≡ true
+  pub range : colours_ok colours ≡ true
+  pub some-alpha : some_below (h * w) (is_on (alpha_mask alpha (h * w) s)) ≡ true
 
 pub taken : (colours : List Float) (alpha : List ℕ) (h w : ℕ) (card : Card) (s : Settings) (b : Buffers)
-    → refusalIn colours alpha h w card s b ≡ 0 → Taken colours alpha h w s b
-unfolding cutRefusal cutLengths workTests pictureTests cutContents
+    → refusal_in colours alpha h w card s b ≡ 0 → Taken colours alpha h w s b
+unfolding cut_refusal cut_lengths work_tests picture_tests cut_contents
 taken colours alpha h w card s b e =
     let p = passed _ refl e in
     record {
@@ -67,36 +67,36 @@ taken colours alpha h w card s b e =
 
 module _ (colours : List Float) (alpha : List ℕ) (h w : ℕ) (reference : Rgb) (s : Settings) where
   abbrev keyed : Bool
-  keyed = isKeyed colours alpha h w reference s
+  keyed = is_keyed colours alpha h w reference s
 
   -- the ground, the ground after growth, and what that leaves
   abbrev ground : List ℕ
-  ground = groundOf colours h w reference s.key_bg_tolerance
+  ground = ground_of colours h w reference s.key_bg_tolerance
 
   abbrev grown : List ℕ
-  grown = grownGround colours h w reference s
+  grown = grown_ground colours h w reference s
 
   abbrev left : ℕ → Bool
-  left i = not (isOn grown i)
+  left i = not (is_on grown i)
 
   -- whether the mask has a pixel on
   abbrev some-on : Bool
-  some-on = someBelow (h * w) (isOn (cutMask colours alpha h w reference s))
+  some-on = some_below (h * w) (is_on (cut_mask colours alpha h w reference s))
 
   -- the ground after growth leaves something where it was found
-  grown-off : keyed ≡ true → someOff grown (h * w) ≡ true
-  unfolding isKeyed grownGround isFound found_from groundOf
+  grown-off : keyed ≡ true → some_off grown (h * w) ≡ true
+  unfolding is_keyed grown_ground is_found found_from ground_of
   grown-off e =
-      let close = closePlane colours h w reference s.key_bg_tolerance in
-      let found = (and-true (isSought alpha (h * w) s) _ e).1 in
-      growth-leaves colours reference h w (passesOf s) ground
-      (and-true (leb (9 * length (borderList h w)) (10 * countOn close (borderList h w))) _ found).1
+      let close = close_plane colours h w reference s.key_bg_tolerance in
+      let found = (and-true (is_sought alpha (h * w) s) _ e).1 in
+      growth-leaves colours reference h w (passes_of s) ground
+      (and-true (leb (9 * length (border_list h w)) (10 * count_on close (border_list h w))) _ found).1
 
   -- so the mask of every accepted cut has a pixel on
-  pub mask-not-empty : (card : Card) (b : Buffers) → refusalIn colours alpha h w card s b ≡ 0 → some-on ≡ true
-  unfolding cutMask someOff
+  pub mask-not-empty : (card : Card) (b : Buffers) → refusal_in colours alpha h w card s b ≡ 0 → some-on ≡ true
+  unfolding cut_mask some_off
   mask-not-empty card b e =
       ⊎_elim {C = some-on ≡ true}
-      (λ (k : keyed ≡ true). rw k (some_same (isOn (mask_of (h * w) left)) left (h * w) (mask-on (h * w) left) ∙ grown-off k))
+      (λ (k : keyed ≡ true). rw k (some_same (is_on (mask_of (h * w) left)) left (h * w) (mask-on (h * w) left) ∙ grown-off k))
       (λ (k : keyed ≡ false). rw k (taken colours alpha h w card s b e).some-alpha)
       (either keyed)

@@ -10,92 +10,92 @@ use lib.Dec.{eqb}
 use lib.ListN.{length}
 use lib.Ieee.{Float}
 use borrow.Author.Tests.{eqb-true, eq-eqb}
-use Rattle.plane.specs.Search.{someBelow}
+use Rattle.plane.specs.Search.{some_below}
 use Rattle.plane.proofs.Search.{some-found, some_is, and_is}
 use Rattle.plane.proofs.Refusal.{and-true}
-use Rattle.plane.specs.Mask.{isOn, mask_of}
-use Rattle.labels.specs.Labels.{beside, Joined, same, onward, firstPixel}
+use Rattle.plane.specs.Mask.{is_on, mask_of}
+use Rattle.labels.specs.Labels.{beside, Joined, same, onward, first_pixel}
 use Rattle.labels.proofs.Joined.{start-on, end_on, spreads}
 use Rattle.labels.proofs.Firsts.{first-same, same_first}
 use Rattle.squares.proofs.Laws.{same_test}
 use Rattle.colour.specs.declared.Rgb.{Rgb}
-use Rattle.outline.specs.Border.{borderList, onBorder}
-use Rattle.outline.specs.Ground.{isClose, closePlane, isGround, groundFrom, groundOf, found_from}
-use Rattle.outline.specs.Growth.{nearGround}
+use Rattle.outline.specs.Border.{border_list, on_border}
+use Rattle.outline.specs.Ground.{is_close, close_plane, is_ground, ground_from, ground_of, found_from}
+use Rattle.outline.specs.Growth.{near_ground}
 use Rattle.plane.proofs.Mask.{mask-length, mask-on, mask-inside, mask-holds, mask-same, on-inside}
 use Rattle.outline.proofs.Masks.{near-is, within-self, within-sum, nigh-beside}
 use Rattle.outline.proofs.Borders.{border-inside, count-alike}
 
 -- a border pixel from which 4-steps over close pixels lead to pixel i
 abbrev pub Source : List ℕ → ℕ → ℕ → ℕ → Type 0
-Source close h w i = (j : ℕ) × (j < h * w) × (onBorder h w j ≡ true) × (Joined close w j i)
+Source close h w i = (j : ℕ) × (j < h * w) × (on_border h w j ≡ true) × (Joined close w j i)
 
 module _ (close : List ℕ) (h w : ℕ) where
   abbrev ground : ℕ → Bool
-  ground = isOn (groundFrom close h w)
+  ground = is_on (ground_from close h w)
 
-  pub ground-on : (i : ℕ) → i < h * w → ground i ≡ isGround close h w i
-  unfolding groundFrom mask_of
-  ground-on = mask-on (h * w) (isGround close h w)
+  pub ground-on : (i : ℕ) → i < h * w → ground i ≡ is_ground close h w i
+  unfolding ground_from mask_of
+  ground-on = mask-on (h * w) (is_ground close h w)
 
-  pub ground-inside : (i : ℕ) → isOn (groundFrom close h w) i ≡ true → i < h * w
-  unfolding groundFrom mask_of
-  ground-inside = mask-inside (h * w) (isGround close h w)
+  pub ground-inside : (i : ℕ) → is_on (ground_from close h w) i ≡ true → i < h * w
+  unfolding ground_from mask_of
+  ground-inside = mask-inside (h * w) (is_ground close h w)
 
-  ground-holds : (i : ℕ) → isOn (groundFrom close h w) i ≡ true → isGround close h w i ≡ true
-  unfolding groundFrom mask_of
-  ground-holds = mask-holds (h * w) (isGround close h w)
+  ground-holds : (i : ℕ) → is_on (ground_from close h w) i ≡ true → is_ground close h w i ≡ true
+  unfolding ground_from mask_of
+  ground-holds = mask-holds (h * w) (is_ground close h w)
 
   -- the ground is close
-  pub ground-close : (i : ℕ) → isOn (groundFrom close h w) i ≡ true → isOn close i ≡ true
-  unfolding isGround
-  ground-close i e = (and-true (isOn close i) _ (ground-holds i e)).0
+  pub ground-close : (i : ℕ) → is_on (ground_from close h w) i ≡ true → is_on close i ≡ true
+  unfolding is_ground
+  ground-close i e = (and-true (is_on close i) _ (ground-holds i e)).0
 
   -- whether pixel j is a close border pixel of the part of pixel i
   abbrev meets : ℕ → ℕ → Bool
-  meets i j = onBorder h w j && isOn close j && eqb (firstPixel close h w j) (firstPixel close h w i)
+  meets i j = on_border h w j && is_on close j && eqb (first_pixel close h w j) (first_pixel close h w i)
 
   module _ (fits : length close ≡ h * w) where
     -- a ground pixel is joined to a close border pixel,
     pub ground-joined : (i : ℕ) → ground i ≡ true → Source close h w i
-    unfolding isGround
+    unfolding is_ground
     ground-joined i e =
-        let z = and-true (isOn close i) (someBelow (h * w) (meets i)) (ground-holds i e) in
+        let z = and-true (is_on close i) (some_below (h * w) (meets i)) (ground-holds i e) in
         let f = some-found (meets i) (h * w) z.1 in
-        let a = and-true (onBorder h w f.0 && isOn close f.0) (eqb (firstPixel close h w f.0) (firstPixel close h w i)) f.2 in
-        let b = and-true (onBorder h w f.0) (isOn close f.0) a.0 in
+        let a = and-true (on_border h w f.0 && is_on close f.0) (eqb (first_pixel close h w f.0) (first_pixel close h w i)) f.2 in
+        let b = and-true (on_border h w f.0) (is_on close f.0) a.0 in
         (f.0, f.1, b.0, same_first close h w fits f.0 i b.1 z.0 (eqb-true _ _ a.1))
 
     -- and what is joined to a close border pixel is ground
-    pub joined-ground : (j i : ℕ) → onBorder h w j ≡ true → j < h * w → Joined close w j i → isOn (groundFrom close h w) i ≡ true
-    unfolding isGround
+    pub joined-ground : (j i : ℕ) → on_border h w j ≡ true → j < h * w → Joined close w j i → is_on (ground_from close h w) i ≡ true
+    unfolding is_ground
     joined-ground j i b l r =
-        let lit : isOn close i ≡ true = end_on r in
+        let lit : is_on close i ≡ true = end_on r in
         ground-on i (omega (arith, on-inside close i lit))
-        ∙ and_is (isOn close i) (someBelow (h * w) (meets i)) lit
+        ∙ and_is (is_on close i) (some_below (h * w) (meets i)) lit
         (some_is (meets i) (h * w) j l
-        (and_is (onBorder h w j && isOn close j) (eqb (firstPixel close h w j) (firstPixel close h w i))
-        (and_is (onBorder h w j) (isOn close j) b (start-on r)) (eq-eqb _ _ (first-same close h w fits r))))
+        (and_is (on_border h w j && is_on close j) (eqb (first_pixel close h w j) (first_pixel close h w i))
+        (and_is (on_border h w j) (is_on close j) b (start-on r)) (eq-eqb _ _ (first-same close h w fits r))))
 
     -- it has every close border pixel,
-    pub ground-border : (i : ℕ) → i < h * w → onBorder h w i ≡ true → isOn close i ≡ true → isOn (groundFrom close h w) i ≡ true
+    pub ground-border : (i : ℕ) → i < h * w → on_border h w i ≡ true → is_on close i ≡ true → is_on (ground_from close h w) i ≡ true
     ground-border i l b e = joined-ground i i b l (same e)
 
     -- is closed under 4-steps over close pixels,
-    pub ground-step : (i j : ℕ) → ground i ≡ true → beside w i j ≡ true → isOn close j ≡ true → ground j ≡ true
+    pub ground-step : (i j : ℕ) → ground i ≡ true → beside w i j ≡ true → is_on close j ≡ true → ground j ≡ true
     ground-step i j e b c = let z = ground-joined i e in joined-ground z.0 j z.2 z.1 (onward z.3 b c)
 
     -- and has nothing else: what holds of every close border pixel and passes along every step over close pixels holds of the ground
-    pub ground-least : (P : ℕ → Type 0) → ((i : ℕ) → i < h * w → onBorder h w i ≡ true → isOn close i ≡ true → P i)
-        → ((i j : ℕ) → P i → beside w i j ≡ true → isOn close j ≡ true → P j) → (i : ℕ) → isOn (groundFrom close h w) i ≡ true → P i
+    pub ground-least : (P : ℕ → Type 0) → ((i : ℕ) → i < h * w → on_border h w i ≡ true → is_on close i ≡ true → P i)
+        → ((i j : ℕ) → P i → beside w i j ≡ true → is_on close j ≡ true → P j) → (i : ℕ) → is_on (ground_from close h w) i ≡ true → P i
     ground-least P b s i e = let z = ground-joined i e in spreads P s z.3 (b z.0 z.1 z.2 (start-on z.3))
 
     -- these laws determine it
     pub ground-is : (p : ℕ → Bool) → ((i : ℕ) → i < h * w → p i ≡ true → Source close h w i)
-        → ((i : ℕ) → i < h * w → onBorder h w i ≡ true → isOn close i ≡ true → p i ≡ true)
-        → ((i j : ℕ) → p i ≡ true → beside w i j ≡ true → isOn close j ≡ true → p j ≡ true) → mask_of (h * w) p ≡ groundFrom close h w
-    unfolding groundFrom mask_of
-    ground-is p sound border step = mask-same (h * w) p (isGround close h w) (λ i l. alike i l ∙ ground-on i l)
+        → ((i : ℕ) → i < h * w → on_border h w i ≡ true → is_on close i ≡ true → p i ≡ true)
+        → ((i j : ℕ) → p i ≡ true → beside w i j ≡ true → is_on close j ≡ true → p j ≡ true) → mask_of (h * w) p ≡ ground_from close h w
+    unfolding ground_from mask_of
+    ground-is p sound border step = mask-same (h * w) p (is_ground close h w) (λ i l. alike i l ∙ ground-on i l)
       where
         alike : (i : ℕ) → i < h * w → p i ≡ ground i
         alike i l =
@@ -107,51 +107,51 @@ module _ (close : List ℕ) (h w : ℕ) where
 
 module _ (colours : List Float) (h w : ℕ) (reference : Rgb) (tolerance : Float) where
   -- whether pixel i of the picture is close
-  abbrev pub closeAt : ℕ → Bool
-  closeAt = isClose colours reference tolerance
+  abbrev pub close_at : ℕ → Bool
+  close_at = is_close colours reference tolerance
 
   abbrev closes : List ℕ
-  closes = closePlane colours h w reference tolerance
+  closes = close_plane colours h w reference tolerance
 
   -- and is ground
-  abbrev groundAt : ℕ → Bool
-  groundAt = isOn (groundOf colours h w reference tolerance)
+  abbrev ground_at : ℕ → Bool
+  ground_at = is_on (ground_of colours h w reference tolerance)
 
   pub close-length : length closes ≡ h * w
-  unfolding closePlane mask_of
-  close-length = mask-length (h * w) closeAt
+  unfolding close_plane mask_of
+  close-length = mask-length (h * w) close_at
 
   -- a pixel of the plane of close pixels is on exactly when it is close
-  pub close-on : (i : ℕ) → i < h * w → isOn closes i ≡ closeAt i
-  unfolding closePlane mask_of
-  close-on = mask-on (h * w) closeAt
+  pub close-on : (i : ℕ) → i < h * w → is_on closes i ≡ close_at i
+  unfolding close_plane mask_of
+  close-on = mask-on (h * w) close_at
 
   -- the ground is close,
-  pub picture-close : (i : ℕ) → groundAt i ≡ true → closeAt i ≡ true
-  unfolding groundOf
+  pub picture-close : (i : ℕ) → ground_at i ≡ true → close_at i ≡ true
+  unfolding ground_of
   picture-close i e = sym (close-on i (ground-inside closes h w i e)) ∙ ground-close closes h w i e
 
   -- joined to a close border pixel by 4-steps over close pixels,
-  pub picture-joined : (i : ℕ) → groundAt i ≡ true → Source closes h w i
-  unfolding groundOf
+  pub picture-joined : (i : ℕ) → ground_at i ≡ true → Source closes h w i
+  unfolding ground_of
   picture-joined i e = ground-joined closes h w close-length i e
 
   -- has every close border pixel,
-  pub picture-border : (i : ℕ) → i < h * w → onBorder h w i ≡ true → closeAt i ≡ true → groundAt i ≡ true
-  unfolding groundOf
+  pub picture-border : (i : ℕ) → i < h * w → on_border h w i ≡ true → close_at i ≡ true → ground_at i ≡ true
+  unfolding ground_of
   picture-border i l b e = ground-border closes h w close-length i l b (close-on i l ∙ e)
 
   -- and is closed under 4-steps over close pixels
-  pub picture-step : (i j : ℕ) → groundAt i ≡ true → beside w i j ≡ true → j < h * w → closeAt j ≡ true → groundAt j ≡ true
-  unfolding groundOf
+  pub picture-step : (i j : ℕ) → ground_at i ≡ true → beside w i j ≡ true → j < h * w → close_at j ≡ true → ground_at j ≡ true
+  unfolding ground_of
   picture-step i j e b l c = ground-step closes h w close-length i j e b (close-on j l ∙ c)
 
 -- ---- two planes of close pixels
 
 -- planes that are alike on the border and within 1 of the first one's ground have one ground
 module _ (a b : List ℕ) (h w : ℕ) (tall : 0 < h) (wide : 0 < w) (long : length a ≡ h * w) (long' : length b ≡ h * w)
-    (border : (i : ℕ) → i < h * w → onBorder h w i ≡ true → isOn a i ≡ isOn b i)
-    (about : (i : ℕ) → i < h * w → nearGround (groundFrom a h w) h w 1 i ≡ true → isOn a i ≡ isOn b i) where
+    (border : (i : ℕ) → i < h * w → on_border h w i ≡ true → is_on a i ≡ is_on b i)
+    (about : (i : ℕ) → i < h * w → near_ground (ground_from a h w) h w 1 i ≡ true → is_on a i ≡ is_on b i) where
   forth : (i : ℕ) → ground a h w i ≡ true → ground b h w i ≡ true
   forth i e =
       (ground-least a h w long (λ (k : ℕ). (ground a h w k ≡ true) × (ground b h w k ≡ true))
@@ -173,13 +173,13 @@ module _ (a b : List ℕ) (h w : ℕ) (tall : 0 < h) (wide : 0 < w) (long : leng
       ground-step a h w long k j z o (about j l n ∙ c)))
       i e
 
-  pub ground-same : groundFrom a h w ≡ groundFrom b h w
-  unfolding groundFrom mask_of
+  pub ground-same : ground_from a h w ≡ ground_from b h w
+  unfolding ground_from mask_of
   ground-same =
-      mask-same (h * w) (isGround a h w) (isGround b h w)
+      mask-same (h * w) (is_ground a h w) (is_ground b h w)
       (λ i l. sym (ground-on a h w i l) ∙ same_test (ground a h w i) (ground b h w i) (forth i) (back i) ∙ ground-on b h w i l)
 
   -- and are found alike
   pub found-same : found_from a h w ≡ found_from b h w
-  unfolding found_from onBorder
-  found-same = rw (ground-same, count-alike a b (borderList h w) (λ i e. border i (border-inside h w tall wide i e) e))
+  unfolding found_from on_border
+  found-same = rw (ground-same, count-alike a b (border_list h w) (λ i e. border i (border-inside h w tall wide i e) e))

@@ -16,18 +16,18 @@ use Rattle.plane.proofs.Refusal.{and-true}
 use Rattle.colour.specs.declared.Rgb.{Rgb}
 use Rattle.colour.specs.declared.Settings.{Settings}
 use Rattle.colour.specs.Number.{Binary64}
-use Rattle.colour.specs.Settings.{passesOf}
+use Rattle.colour.specs.Settings.{passes_of}
 use Rattle.card.specs.declared.Card.{Card}
 use Rattle.colour.proofs.Range.{is}
 use Rattle.colour.proofs.Zero.{plus0, Alike, eq-alike}
 use Rattle.colour.proofs.Same.{Held, same-colour}
-use Rattle.outline.specs.Border.{onBorder, channelAt, colourAt, referenceOn}
-use Rattle.outline.specs.Ground.{groundOf}
-use Rattle.outline.specs.Growth.{nearGround, growthOf}
-use Rattle.outline.specs.Cut.{alphaMask, isSought, isKeyed, grownGround, cutMask, cut_of}
-use Rattle.outline.specs.Refusal.{workTests, cutLengths, pictureTests, cutContents, cutRefusal}
-use Rattle.outline.specs.Calls.{Buffers, refusalIn, cut_in, HeldIn}
-use Rattle.outline.specs.Premises.{sameTolerance, AgreeAt, TwoCalls, TwoPictures}
+use Rattle.outline.specs.Border.{on_border, channel_at, colour_at, reference_on}
+use Rattle.outline.specs.Ground.{ground_of}
+use Rattle.outline.specs.Growth.{near_ground, growth_of}
+use Rattle.outline.specs.Cut.{alpha_mask, is_sought, is_keyed, grown_ground, cut_mask, cut_of}
+use Rattle.outline.specs.Refusal.{work_tests, cut_lengths, picture_tests, cut_contents, cut_refusal}
+use Rattle.outline.specs.Calls.{Buffers, refusal_in, cut_in, HeldIn}
+use Rattle.outline.specs.Premises.{same_tolerance, AgreeAt, TwoCalls, TwoPictures}
 use Rattle.outline.proofs.Masks.{near-found, near-is, within_more}
 use Rattle.outline.proofs.Borders.{border-inside, reference-on-same}
 use Rattle.outline.proofs.CutLaws.{Taken, taken}
@@ -42,15 +42,15 @@ no_number (inf s) q = absurd (is (is_nan (inf s)) q)
 no_number (fin s m d) q = absurd (is (is_nan (fin s m d)) q)
 
 -- equal tolerances are equal as numbers, or both no number
-same_cases : {C : Type 0} (t u : Float) → (eq t u ≡ true → C) → (t ≡ u → C) → sameTolerance t u ≡ true → C
-unfolding sameTolerance
+same_cases : {C : Type 0} (t u : Float) → (eq t u ≡ true → C) → (t ≡ u → C) → same_tolerance t u ≡ true → C
+unfolding same_tolerance
 same_cases {C} t u f g e =
     ⊎_elim {C = C} f
     (λ (q : is_nan t && is_nan u ≡ true). (let z = and-true _ _ q in g (no_number t z.0 ∙ sym (no_number u z.1))))
     (or-true (eq t u) (is_nan t && is_nan u) e)
 
 -- held as binary64 numbers they are the same number, up to the sign of a zero
-tolerance-alike : (t u : Float) → T (fits binary64 t) → T (fits binary64 u) → sameTolerance t u ≡ true → Alike t u
+tolerance-alike : (t u : Float) → T (fits binary64 t) → T (fits binary64 u) → same_tolerance t u ≡ true → Alike t u
 tolerance-alike t u a b = same_cases t u (λ q. eq-alike binary64 t u a b (is (eq t u) q)) (ap plus0)
 
 -- equal tolerances are finite alike
@@ -64,13 +64,13 @@ eq-finite (fin s m d) nan e = not-both false e refl
 eq-finite (fin s m d) (inf r) e = not-both false e refl
 eq-finite (fin s m d) (fin r n k) e = refl
 
-finite-alike : (t u : Float) → sameTolerance t u ≡ true → finite t ≡ finite u
+finite-alike : (t u : Float) → same_tolerance t u ≡ true → finite t ≡ finite u
 finite-alike t u = same_cases t u (eq-finite t u) (ap finite)
 
 -- ---- agreeing pictures have the same colours, as numbers
 
-colour-held : (colours : List Float) (n i : ℕ) → Binary64 colours → length colours ≡ 3 * n → i < n → Held (colourAt colours i)
-unfolding colourAt channelAt
+colour-held : (colours : List Float) (n i : ℕ) → Binary64 colours → length colours ≡ 3 * n → i < n → Held (colour_at colours i)
+unfolding colour_at channel_at
 colour-held colours n i a e l = record { r = a (3 * i + 0) (omega arith); g = a (3 * i + 1) (omega arith); b = a (3 * i + 2) (omega arith) }
 
 -- ---- the cut
@@ -84,15 +84,15 @@ module _ (one two : List Float) (alpha : List ℕ) (h w : ℕ) (card card' : Car
   tol' = t.key_bg_tolerance
 
   abbrev ref : Rgb
-  ref = referenceOn card one h w
+  ref = reference_on card one h w
 
-  alphas : alphaMask alpha (h * w) s ≡ alphaMask alpha (h * w) t
-  unfolding alphaMask
+  alphas : alpha_mask alpha (h * w) s ≡ alpha_mask alpha (h * w) t
+  unfolding alpha_mask
   alphas = rw calls.settings.threshold
 
   -- the numbers are equal, whatever the pictures show
-  refusals : refusalIn one alpha h w card s b ≡ refusalIn two alpha h w card' t c
-  unfolding cutRefusal cutLengths workTests pictureTests cutContents
+  refusals : refusal_in one alpha h w card s b ≡ refusal_in two alpha h w card' t c
+  unfolding cut_refusal cut_lengths work_tests picture_tests cut_contents
   refusals =
       let l = calls.lengths in
       rw (
@@ -111,7 +111,7 @@ module _ (one two : List Float) (alpha : List ℕ) (h w : ℕ) (card card' : Car
       )
 
   -- where the first call is accepted, and both are lent binary64 numbers, as every accepted call is
-  module _ (good : refusalIn one alpha h w card s b ≡ 0) (held : HeldIn one s) (held' : HeldIn two t) where
+  module _ (good : refusal_in one alpha h w card s b ≡ 0) (held : HeldIn one s) (held' : HeldIn two t) where
     known : Taken one alpha h w s b
     known = taken one alpha h w card s b good
 
@@ -127,29 +127,29 @@ module _ (one two : List Float) (alpha : List ℕ) (h w : ℕ) (card card' : Car
     -- where the pictures agree, their colours are the same
     agreed : (i : ℕ) → i < h * w → AgreeAt one two i → Same one two h w tall wide i
     agreed i l e =
-        same-colour (colourAt one i) (colourAt two i) (colour-held one (h * w) i held.picture known.colours-long l)
+        same-colour (colour_at one i) (colour_at two i) (colour-held one (h * w) i held.picture known.colours-long l)
         (colour-held two (h * w) i held'.picture (sym calls.sizes ∙ known.colours-long) l) e
 
-    border : (i : ℕ) → onBorder h w i ≡ true → Same one two h w tall wide i
+    border : (i : ℕ) → on_border h w i ≡ true → Same one two h w tall wide i
     border i e = let l = border-inside h w tall wide i e in agreed i l ((calls.agree good).border i l e)
 
-    around : (k : ℕ) → k ≤ passesOf s + 4 → (i : ℕ) → i < h * w → nearGround (groundOf one h w ref tol) h w k i ≡ true
+    around : (k : ℕ) → k ≤ passes_of s + 4 → (i : ℕ) → i < h * w → near_ground (ground_of one h w ref tol) h w k i ≡ true
         → Same one two h w tall wide i
     around k m i l e = agreed i l ((calls.agree good).around i l (near-is wide (within_more (omega arith) (near-found e))))
 
-    keyed : isKeyed one alpha h w ref s ≡ isKeyed two alpha h w ref t
-    unfolding isKeyed isSought
+    keyed : is_keyed one alpha h w ref s ≡ is_keyed two alpha h w ref t
+    unfolding is_keyed is_sought
     keyed = rw (alphas, calls.settings.keying, found_alike one two h w tall wide ref tol tol' tolerances border (around 1 (omega arith)))
 
-    grown : grownGround one h w ref s ≡ grownGround two h w ref t
-    unfolding grownGround
+    grown : grown_ground one h w ref s ≡ grown_ground two h w ref t
+    unfolding grown_ground
     grown =
-        growths one two h w tall wide ref (passesOf s) (groundOf one h w ref tol) (around (passesOf s + 4) (omega arith))
-        ∙ ap (λ (p : ℕ). growthOf two ref h w p (groundOf one h w ref tol)) calls.settings.passes
-        ∙ ap (growthOf two ref h w (passesOf t)) (grounds one two h w tall wide ref tol tol' tolerances border (around 1 (omega arith)))
+        growths one two h w tall wide ref (passes_of s) (ground_of one h w ref tol) (around (passes_of s + 4) (omega arith))
+        ∙ ap (λ (p : ℕ). growth_of two ref h w p (ground_of one h w ref tol)) calls.settings.passes
+        ∙ ap (growth_of two ref h w (passes_of t)) (grounds one two h w tall wide ref tol tol' tolerances border (around 1 (omega arith)))
 
-    masks : cutMask one alpha h w ref s ≡ cutMask two alpha h w ref t
-    unfolding cutMask
+    masks : cut_mask one alpha h w ref s ≡ cut_mask two alpha h w ref t
+    unfolding cut_mask
     masks = rw (keyed, grown, alphas)
 
     cuts : cut_in one alpha h w card s ≡ cut_in two alpha h w card' t

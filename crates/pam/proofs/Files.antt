@@ -11,26 +11,26 @@ use lib.Dec.{leb}
 use lib.ListN.{length, take}
 use lib.Seq.{length-take-le}
 use borrow.Author.Tests.{ne_eqb, leb-true, eqb-true}
-use Rattle.plane.specs.Refusal.{refusalOf}
+use Rattle.plane.specs.Refusal.{refusal_of}
 use Rattle.plane.proofs.Search.{either}
 use Rattle.plane.proofs.Refusal.{passed}
 use Rattle.pam_header.specs.declared.Header.{Header}
-use Rattle.pam_header.specs.Header.{headerOf}
-use Rattle.pam.specs.Picture.{mostPixels, mostInput, pixelsOf, fileTests}
-use Rattle.pam.specs.steps.File.{fileRefusal}
+use Rattle.pam_header.specs.Header.{header_of}
+use Rattle.pam.specs.Picture.{most_pixels, most_input, pixels_of, file_tests}
+use Rattle.pam.specs.steps.File.{file_refusal}
 use Rattle.pam_header.proofs.Sizes.{Small, header-small, header-first}
 
 -- ---- an accepted file
 
 pub record FileOk (header : Header) (input : List ℕ) : Type 0 where
   pub header_ok : header.ok ≡ true
-  pub few : pixelsOf header ≤ mostPixels
-  pub long : length input ≡ header.body + 4 * pixelsOf header
+  pub few : pixels_of header ≤ most_pixels
+  pub long : length input ≡ header.body + 4 * pixels_of header
 
-pub file-ok : (header : Header) (input : List ℕ) → fileRefusal header input ≡ 0 → FileOk header input
-unfolding fileRefusal
+pub file-ok : (header : Header) (input : List ℕ) → file_refusal header input ≡ 0 → FileOk header input
+unfolding file_refusal
 file-ok header input e =
-    let t = passed (fileTests header input) refl e in
+    let t = passed (file_tests header input) refl e in
     record { header_ok = t.0; few = leb-true _ _ t.1.0; long = eqb-true _ _ t.1.1.0 }
 
 -- a side is at most the product
@@ -42,10 +42,10 @@ factor-most a (suc b) l = rw (mul-suc a b) (omega arith)
 pub record SidesOk (h w : ℕ) : Type 0 where
   pub some-rows : 1 ≤ h
   pub some-columns : 1 ≤ w
-  pub tall : h ≤ mostPixels
-  pub wide : w ≤ mostPixels
+  pub tall : h ≤ most_pixels
+  pub wide : w ≤ most_pixels
 
-pub sides-of : (header : Header) → Small header → header.ok ≡ true → pixelsOf header ≤ mostPixels
+pub sides-of : (header : Header) → Small header → header.ok ≡ true → pixels_of header ≤ most_pixels
     → SidesOk header.height header.width
 sides-of header s e few =
     let h = header.height in
@@ -57,37 +57,37 @@ sides-of header s e few =
 -- ---- a long input is declined, by its header
 
 -- the number of a file whose length is not that of its picture
-longRefusal : Header → ℕ
-longRefusal header = refusalOf ((8, header.ok) ∷ (10, leb (pixelsOf header) mostPixels) ∷ (9, false) ∷ [])
+long_refusal : Header → ℕ
+long_refusal header = refusal_of ((8, header.ok) ∷ (10, leb (pixels_of header) most_pixels) ∷ (9, false) ∷ [])
 
-long-number : (input : List ℕ) → mostInput ≤ length input → fileRefusal (headerOf input) input ≡ longRefusal (headerOf input)
-unfolding fileRefusal longRefusal refusalOf
+long-number : (input : List ℕ) → most_input ≤ length input → file_refusal (header_of input) input ≡ long_refusal (header_of input)
+unfolding file_refusal long_refusal refusal_of
 long-number input l =
-    let header = headerOf input in
-    ⊎_elim {C = fileRefusal header input ≡ longRefusal header}
-    (λ (t : leb (pixelsOf header) mostPixels ≡ true).
-    let few = leb-true (pixelsOf header) mostPixels t in
-    rw (ne_eqb (length input) (header.body + 4 * pixelsOf header) (λ e. omega (arith, e, (header-small input).body-most))))
-    (λ (t : leb (pixelsOf header) mostPixels ≡ false). rw t)
-    (either (leb (pixelsOf header) mostPixels))
+    let header = header_of input in
+    ⊎_elim {C = file_refusal header input ≡ long_refusal header}
+    (λ (t : leb (pixels_of header) most_pixels ≡ true).
+    let few = leb-true (pixels_of header) most_pixels t in
+    rw (ne_eqb (length input) (header.body + 4 * pixels_of header) (λ e. omega (arith, e, (header-small input).body-most))))
+    (λ (t : leb (pixels_of header) most_pixels ≡ false). rw t)
+    (either (leb (pixels_of header) most_pixels))
 
 long-some : (a b : Bool) → ◌≡◌ {A = ℕ} (cond a (cond b 9 10) 8) 0 → ⊥
 long-some true true e = let z : ◌≡◌ {A = ℕ} 9 0 = e in omega arith
 long-some true false e = let z : ◌≡◌ {A = ℕ} 10 0 = e in omega arith
 long-some false b e = let z : ◌≡◌ {A = ℕ} 8 0 = e in omega arith
 
--- a file as long as mostInput is declined, and its first mostInput bytes are declined by the same number
+-- a file as long as most_input is declined, and its first most_input bytes are declined by the same number
 pub record LongDeclined (input : List ℕ) : Type 0 where
-  pub declined : fileRefusal (headerOf input) input ≡ 0 → ⊥
-  pub first-same : let first = take mostInput input in fileRefusal (headerOf first) first ≡ fileRefusal (headerOf input) input
+  pub declined : file_refusal (header_of input) input ≡ 0 → ⊥
+  pub first-same : let first = take most_input input in file_refusal (header_of first) first ≡ file_refusal (header_of input) input
 
-pub long-declined : (input : List ℕ) → mostInput ≤ length input → LongDeclined input
-unfolding longRefusal refusalOf
+pub long-declined : (input : List ℕ) → most_input ≤ length input → LongDeclined input
+unfolding long_refusal refusal_of
 long-declined input l =
-    let t = take mostInput input in
-    let k : length t ≡ mostInput = length-take-le mostInput input l in
+    let t = take most_input input in
+    let k : length t ≡ most_input = length-take-le most_input input l in
     record {
-      declined = λ e. long-some (headerOf input).ok (leb (pixelsOf (headerOf input)) mostPixels) (sym (long-number input l) ∙ e);
+      declined = λ e. long-some (header_of input).ok (leb (pixels_of (header_of input)) most_pixels) (sym (long-number input l) ∙ e);
       first-same =
-          long-number t (omega arith) ∙ ap longRefusal (header-first mostInput input (omega arith)) ∙ sym (long-number input l);
+          long-number t (omega arith) ∙ ap long_refusal (header-first most_input input (omega arith)) ∙ sym (long-number input l);
     }

@@ -1,10 +1,10 @@
 // What cutcard is given: a picture in a PAM file, of at most 2304 pixels, and its settings.
 ghost use Rattle.std.specs.Prelude.{◌≡◌, true, ◌*◌, ◌≤◌, length};
-ghost use Rattle.colour.specs.Colour.{coloursOk};
+ghost use Rattle.colour.specs.Colour.{colours_ok};
 ghost use Rattle.pam.specs.Settings.{settings};
-ghost use Rattle.pam_header.specs.Header.{mostHeader, headerOf};
-ghost use Rattle.pam.specs.Picture.{mostPixels, mostInput, coloursFrom, alphaFrom};
-ghost use Rattle.pam.specs.steps.File.{fileRefusal};
+ghost use Rattle.pam_header.specs.Header.{most_header, header_of};
+ghost use Rattle.pam.specs.Picture.{most_pixels, most_input, colours_from, alpha_from};
+ghost use Rattle.pam.specs.steps.File.{file_refusal};
 
 use colour::Settings;
 use pam_header::Header;
@@ -17,15 +17,15 @@ pub const MOST_INPUT: usize = 13313;
 
 // MOST_INPUT is the number of the definitions.
 pub fn most_input() -> usize
-    ensures { result ≡ mostInput }
+    ensures { result ≡ most_input }
 {
     MOST_INPUT
 }
 
 // 8, 10 or 9 where the file with this header is declined, else 0.
 pub fn file_refusal(header: Header, input: &[u8]) -> u32
-    requires { header ≡ headerOf input.now }
-    ensures { result ≡ fileRefusal header input.now }
+    requires { header ≡ header_of input.now }
+    ensures { result ≡ file_refusal header input.now }
 {
     if !header.ok {
         return 8;
@@ -43,9 +43,9 @@ pub fn file_refusal(header: Header, input: &[u8]) -> u32
 
 // The colours of n pixels that stand from a place on.
 pub fn colours(input: &[u8], body: usize, n: usize, out: &mut [f64])
-    requires { (body ≤ mostHeader) × (n ≤ mostPixels) × (length out.old ≡ 3 * n) }
-    ensures out_after { out.new ≡ coloursFrom input.now body n }
-    ensures out_after_2 { coloursOk out.new ≡ true }
+    requires { (body ≤ most_header) × (n ≤ most_pixels) × (length out.old ≡ 3 * n) }
+    ensures out_after { out.new ≡ colours_from input.now body n }
+    ensures out_after_2 { colours_ok out.new ≡ true }
 {
     let mut k = 0usize;
     while k < out.len() {
@@ -57,8 +57,8 @@ pub fn colours(input: &[u8], body: usize, n: usize, out: &mut [f64])
 
 // Their alpha.
 pub fn alpha(input: &[u8], body: usize, n: usize, out: &mut [u8])
-    requires { (body ≤ mostHeader) × (n ≤ mostPixels) × (length out.old ≡ n) }
-    ensures { out.new ≡ alphaFrom input.now body n }
+    requires { (body ≤ most_header) × (n ≤ most_pixels) × (length out.old ≡ n) }
+    ensures { out.new ≡ alpha_from input.now body n }
 {
     let mut i = 0usize;
     while i < out.len() {

@@ -14,25 +14,25 @@ use lib.Seq.{drop-cons, drop-drop, drop_at, get_or-drop, get_or-take, take_all, 
 use borrow.Author.Tests.{eq-eqb, ne_eqb, eqb-true, eqb-false, not-true}
 use Rattle.plane.proofs.Search.{which}
 use Rattle.plane.proofs.Refusal.{and-true}
-use Rattle.pam_header.specs.Header.{startsAt, isText}
+use Rattle.pam_header.specs.Header.{starts_at, is_text}
 
 module _ (line text : List ℕ) (i : ℕ) where
   pub starts_more : i < length text → get_or line i 0 ≡ get_or text i 0
-      → startsAt line i (drop i text) ≡ startsAt line (i + 1) (drop (i + 1) text)
-  unfolding startsAt
+      → starts_at line i (drop i text) ≡ starts_at line (i + 1) (drop (i + 1) text)
+  unfolding starts_at
   starts_more l e =
-      ap (startsAt line i) (drop-cons text i 0 l)
-      ∙ ap (λ (t : Bool). t && startsAt line (suc i) (drop (suc i) text)) (eq-eqb _ _ e)
-      ∙ ap (λ (k : ℕ). startsAt line k (drop k text)) (sym (add-one i))
+      ap (starts_at line i) (drop-cons text i 0 l)
+      ∙ ap (λ (t : Bool). t && starts_at line (suc i) (drop (suc i) text)) (eq-eqb _ _ e)
+      ∙ ap (λ (k : ℕ). starts_at line k (drop k text)) (sym (add-one i))
 
-  pub starts-not : i < length text → (get_or line i 0 ≡ get_or text i 0 → ⊥) → startsAt line i (drop i text) ≡ false
-  unfolding startsAt
+  pub starts-not : i < length text → (get_or line i 0 ≡ get_or text i 0 → ⊥) → starts_at line i (drop i text) ≡ false
+  unfolding starts_at
   starts-not l e =
-      ap (startsAt line i) (drop-cons text i 0 l) ∙ ap (λ (t : Bool). t && startsAt line (suc i) (drop (suc i) text)) (ne_eqb _ _ e)
+      ap (starts_at line i) (drop-cons text i 0 l) ∙ ap (λ (t : Bool). t && starts_at line (suc i) (drop (suc i) text)) (ne_eqb _ _ e)
 
-  pub starts-end : length text ≤ i → startsAt line i (drop i text) ≡ true
-  unfolding startsAt
-  starts-end l = ap (startsAt line i) (drop_of_length-le text l)
+  pub starts-end : length text ≤ i → starts_at line i (drop i text) ≡ true
+  unfolding starts_at
+  starts-end l = ap (starts_at line i) (drop_of_length-le text l)
 
 -- ---- what stands at a place
 
@@ -50,16 +50,16 @@ module _ (input : List ℕ) where
   pub byte-is : (at b : ℕ) (q : List ℕ) → drop at input ≡ b ∷ q → get_or input at 0 ≡ b
   byte-is at b q e = byte-first at ∙ ap (λ (l : List ℕ). get_or l 0 0) e
 
-  pub starts_is : (text rest : List ℕ) (at : ℕ) → drop at input ≡ text ++ rest → startsAt input at text ≡ true
-  unfolding startsAt
+  pub starts_is : (text rest : List ℕ) (at : ℕ) → drop at input ≡ text ++ rest → starts_at input at text ≡ true
+  unfolding starts_at
   starts_is [] rest at e = refl
   starts_is (b ∷ text) rest at e =
       rw (eq-eqb _ _ (byte-is at b (text ++ rest) e)) (starts_is text rest (suc at) (drop-one at b (text ++ rest) e))
 
 -- no byte is 0, which is read past the end
-unfoldable pub noZero : List ℕ → Bool
-noZero [] = true
-noZero (b ∷ l) = not (eqb b 0) && noZero l
+unfoldable pub no_zero : List ℕ → Bool
+no_zero [] = true
+no_zero (b ∷ l) = not (eqb b 0) && no_zero l
 
 module _ (input : List ℕ) where
   -- past the end there is no byte but 0
@@ -71,13 +71,13 @@ module _ (input : List ℕ) where
       (which at (length input))
 
   -- a text that stands at a place, and what follows it
-  pub starts-split : (text : List ℕ) (at : ℕ) → noZero text ≡ true → startsAt input at text ≡ true
+  pub starts-split : (text : List ℕ) (at : ℕ) → no_zero text ≡ true → starts_at input at text ≡ true
       → drop at input ≡ text ++ drop (at + length text) input
-  unfolding noZero startsAt
+  unfolding no_zero starts_at
   starts-split [] at t e = ap (λ (k : ℕ). drop k input) (sym (add-zero at))
   starts-split (b ∷ text) at t e =
-      let z = and-true (not (eqb b 0)) (noZero text) t in
-      let a = and-true (eqb (get_or input at 0) b) (startsAt input (suc at) text) e in
+      let z = and-true (not (eqb b 0)) (no_zero text) t in
+      let a = and-true (eqb (get_or input at 0) b) (starts_at input (suc at) text) e in
       let i = eqb-true (get_or input at 0) b a.0 in
       let s : suc at + length text ≡ at + suc (length text) = omega arith in
       drop-cons input at 0 (inside at b i (eqb-false b 0 (not-true (eqb b 0) z.0)))
@@ -88,20 +88,20 @@ module _ (input : List ℕ) where
 -- ---- a line that is a text, or begins with one
 
 -- every byte of the text stands in the line
-starts-bytes : (line text : List ℕ) (at : ℕ) → startsAt line at text ≡ true → (i : ℕ) → i < length text
+starts-bytes : (line text : List ℕ) (at : ℕ) → starts_at line at text ≡ true → (i : ℕ) → i < length text
     → get_or line (at + i) 0 ≡ get_or text i 0
-unfolding startsAt
+unfolding starts_at
 starts-bytes line [] at e i l = absurd (omega arith)
 starts-bytes line (b ∷ text) at e zero l =
     ap (λ (k : ℕ). get_or line k 0) (add-zero at)
-    ∙ eqb-true (get_or line at 0) b (and-true (eqb (get_or line at 0) b) (startsAt line (suc at) text) e).0
+    ∙ eqb-true (get_or line at 0) b (and-true (eqb (get_or line at 0) b) (starts_at line (suc at) text) e).0
 starts-bytes line (b ∷ text) at e (suc i) l =
     let k : at + suc i ≡ suc at + i = omega arith in
     ap (λ (n : ℕ). get_or line n 0) k
-    ∙ starts-bytes line text (suc at) (and-true (eqb (get_or line at 0) b) (startsAt line (suc at) text) e).1 i (omega arith)
+    ∙ starts-bytes line text (suc at) (and-true (eqb (get_or line at 0) b) (starts_at line (suc at) text) e).1 i (omega arith)
 
 -- a text that begins a line, where the line is as long, is its front
-pub starts-front : (line text : List ℕ) → startsAt line 0 text ≡ true → length text ≤ length line → take (length text) line ≡ text
+pub starts-front : (line text : List ℕ) → starts_at line 0 text ≡ true → length text ≤ length line → take (length text) line ≡ text
 starts-front line text e l =
     let n : length (take (length text) line) ≡ length text = length-take-le (length text) line l in
     ext_get_or 0 (take (length text) line) text n
@@ -110,13 +110,13 @@ starts-front line text e l =
     ∙ ap (λ (k : ℕ). get_or line k 0) (sym (zero-add i))
     ∙ starts-bytes line text 0 e i (omega arith))
 
-pub text-long : (text line : List ℕ) → isText text line ≡ true → length line ≡ length text
-unfolding isText
-text-long text line t = eqb-true _ _ (and-true (startsAt line 0 text) (eqb (length line) (length text)) t).1
+pub text-long : (text line : List ℕ) → is_text text line ≡ true → length line ≡ length text
+unfolding is_text
+text-long text line t = eqb-true _ _ (and-true (starts_at line 0 text) (eqb (length line) (length text)) t).1
 
-pub text-is : (text line : List ℕ) → isText text line ≡ true → line ≡ text
-unfolding isText
+pub text-is : (text line : List ℕ) → is_text text line ≡ true → line ≡ text
+unfolding is_text
 text-is text line t =
     let n = text-long text line t in
     sym (take_all (length text) line (omega arith))
-    ∙ starts-front line text (and-true (startsAt line 0 text) (eqb (length line) (length text)) t).0 (omega arith)
+    ∙ starts-front line text (and-true (starts_at line 0 text) (eqb (length line) (length text)) t).0 (omega arith)

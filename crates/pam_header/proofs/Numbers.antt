@@ -13,69 +13,69 @@ use lib.Seq.{take-length}
 use borrow.Author.Tests.{eq-eqb, le-leb, leb-true, eqb-true, eqb-false, not-true}
 use Rattle.plane.proofs.Search.{either, and_is}
 use Rattle.plane.proofs.Refusal.{and-true}
-use Rattle.text.specs.Decimal.{isDigit, allDigits, valueFrom, value_of, digitsUpto, numberUpto}
+use Rattle.text.specs.Decimal.{is_digit, all_digits, value_from, value_of, digits_upto, number_upto}
 use Rattle.text.proofs.Decimal.{digit-is, digits-most, value-below, stand}
-use Rattle.pam_header.specs.Header.{mostDigits, isNumeral}
+use Rattle.pam_header.specs.Header.{most_digits, is_numeral}
 use Rattle.pam_header.proofs.Comparing.{byte-first, byte-is, drop-one}
 
 -- ---- digits that stand at a place
 
 module _ (input : List ℕ) where
   -- digits with no digit after them are counted
-  pub digits_are : (k : ℕ) (l rest : List ℕ) (at : ℕ) → drop at input ≡ l ++ rest → allDigits l ≡ true → length l ≤ k
-      → isDigit (get_or rest 0 0) ≡ false → digitsUpto k input at ≡ length l
-  unfolding digitsUpto allDigits
+  pub digits_are : (k : ℕ) (l rest : List ℕ) (at : ℕ) → drop at input ≡ l ++ rest → all_digits l ≡ true → length l ≤ k
+      → is_digit (get_or rest 0 0) ≡ false → digits_upto k input at ≡ length l
+  unfolding digits_upto all_digits
   digits_are zero [] rest at e d f z = refl
   digits_are (suc k) [] rest at e d f z = rw (byte-first input at ∙ ap (λ (q : List ℕ). get_or q 0 0) e, z)
   digits_are zero (b ∷ l) rest at e d f z = absurd (omega arith)
   digits_are (suc k) (b ∷ l) rest at e d f z =
-      let a = and-true (isDigit b) (allDigits l) d in
+      let a = and-true (is_digit b) (all_digits l) d in
       rw (byte-is input at b (l ++ rest) e, a.0)
       (ap suc (digits_are k l rest (suc at) (drop-one input at b (l ++ rest) e) a.1 (omega arith) z))
 
 -- past the end there is no digit
-zero-ends : isDigit 0 ≡ false
-unfolding isDigit
+zero-ends : is_digit 0 ≡ false
+unfolding is_digit
 zero-ends = refl
 
 -- digits up to the end of a text are counted
-digits_last : (input : List ℕ) (at : ℕ) → allDigits (drop at input) ≡ true → length (drop at input) ≤ mostDigits
-    → digitsUpto mostDigits input at ≡ length (drop at input)
-digits_last input at d l = digits_are input mostDigits (drop at input) [] at (sym (append-nil (drop at input))) d l zero-ends
+digits_last : (input : List ℕ) (at : ℕ) → all_digits (drop at input) ≡ true → length (drop at input) ≤ most_digits
+    → digits_upto most_digits input at ≡ length (drop at input)
+digits_last input at d l = digits_are input most_digits (drop at input) [] at (sym (append-nil (drop at input))) d l zero-ends
 
 -- ---- a number
 
 pub record Numeral (l : List ℕ) : Type 0 where
-  pub digits : allDigits l ≡ true
-  pub few : length l ≤ mostDigits
+  pub digits : all_digits l ≡ true
+  pub few : length l ≤ most_digits
   pub some : 1 ≤ length l
   pub first : get_or l 0 0 ≡ 48 → ⊥
 
-pub numeral : (l : List ℕ) → isNumeral l ≡ true → Numeral l
-unfolding isNumeral
+pub numeral : (l : List ℕ) → is_numeral l ≡ true → Numeral l
+unfolding is_numeral
 numeral l e =
-    let a = and-true (allDigits l && leb (length l) mostDigits && leb 1 (length l)) (not (eqb (get_or l 0 0) 48)) e in
-    let b = and-true (allDigits l && leb (length l) mostDigits) (leb 1 (length l)) a.0 in
-    let c = and-true (allDigits l) (leb (length l) mostDigits) b.0 in
+    let a = and-true (all_digits l && leb (length l) most_digits && leb 1 (length l)) (not (eqb (get_or l 0 0) 48)) e in
+    let b = and-true (all_digits l && leb (length l) most_digits) (leb 1 (length l)) a.0 in
+    let c = and-true (all_digits l) (leb (length l) most_digits) b.0 in
     record {
       digits = c.0;
-      few = leb-true (length l) mostDigits c.1;
+      few = leb-true (length l) most_digits c.1;
       some = leb-true 1 (length l) b.1;
       first = eqb-false (get_or l 0 0) 48 (not-true (eqb (get_or l 0 0) 48) a.1);
     }
 
 -- all bytes are counted where they are at most five digits
-pub digits-all : (l : List ℕ) → eqb (digitsUpto mostDigits l 0) (length l) ≡ allDigits l && leb (length l) mostDigits
+pub digits-all : (l : List ℕ) → eqb (digits_upto most_digits l 0) (length l) ≡ all_digits l && leb (length l) most_digits
 digits-all l =
-    let n = digitsUpto mostDigits l 0 in
-    same (eqb n (length l)) (allDigits l && leb (length l) mostDigits)
+    let n = digits_upto most_digits l 0 in
+    same (eqb n (length l)) (all_digits l && leb (length l) most_digits)
     (λ e.
     let z = eqb-true n (length l) e in
-    let all : allDigits l ≡ true = ap allDigits (sym (take-length l) ∙ ap (λ (k : ℕ). take k l) (sym z)) ∙ (stand l mostDigits 0).all in
-    and_is _ _ all (le-leb (length l) mostDigits (omega (arith, z, digits-most l mostDigits 0))))
+    let all : all_digits l ≡ true = ap all_digits (sym (take-length l) ∙ ap (λ (k : ℕ). take k l) (sym z)) ∙ (stand l most_digits 0).all in
+    and_is _ _ all (le-leb (length l) most_digits (omega (arith, z, digits-most l most_digits 0))))
     (λ e.
-    let a = and-true (allDigits l) (leb (length l) mostDigits) e in
-    eq-eqb n (length l) (digits_last l 0 a.0 (leb-true (length l) mostDigits a.1)))
+    let a = and-true (all_digits l) (leb (length l) most_digits) e in
+    eq-eqb n (length l) (digits_last l 0 a.0 (leb-true (length l) most_digits a.1)))
   where
     same : (s t : Bool) → (s ≡ true → t ≡ true) → (t ≡ true → s ≡ true) → s ≡ t
     same true t f g = sym (f refl)
@@ -83,23 +83,23 @@ digits-all l =
     same false false f g = refl
 
 -- a number that a line ends with is read whole
-pub number-last : (line : List ℕ) (at : ℕ) → isNumeral (drop at line) ≡ true → numberUpto mostDigits line at ≡ value_of (drop at line)
-unfolding numberUpto
+pub number-last : (line : List ℕ) (at : ℕ) → is_numeral (drop at line) ≡ true → number_upto most_digits line at ≡ value_of (drop at line)
+unfolding number_upto
 number-last line at e =
     let m = numeral (drop at line) e in
     ap value_of (ap (λ (k : ℕ). take k (drop at line)) (digits_last line at m.digits m.few) ∙ take-length (drop at line))
 
 -- a value does not fall with more digits
-value_grows : (v : ℕ) (l : List ℕ) → v ≤ valueFrom v l
-unfolding valueFrom
+value_grows : (v : ℕ) (l : List ℕ) → v ≤ value_from v l
+unfolding value_from
 value_grows v [] = omega arith
 value_grows v (b ∷ l) = omega (arith, value_grows (10 * v + (b - 48)) l)
 
 pub value-some : (l : List ℕ) → Numeral l → 1 ≤ value_of l
-unfolding valueFrom allDigits
+unfolding value_from all_digits
 value-some [] m = absurd (omega (arith, m.some))
 value-some (b ∷ l) m =
-    let d = digit-is b (and-true (isDigit b) (allDigits l) m.digits).0 in
+    let d = digit-is b (and-true (is_digit b) (all_digits l) m.digits).0 in
     ⊎_elim {C = 1 ≤ value_of (b ∷ l)}
     (λ (t : eqb b 48 ≡ true). absurd (m.first (eqb-true b 48 t)))
     (λ (t : eqb b 48 ≡ false). omega (arith, d.least, eqb-false b 48 t, value_grows (10 * 0 + (b - 48)) l))

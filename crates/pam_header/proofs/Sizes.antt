@@ -14,9 +14,9 @@ use Rattle.plane.proofs.Search.{either, not-both}
 use Rattle.plane.proofs.Refusal.{and-true}
 use Rattle.text.specs.Decimal.{value_of}
 use Rattle.pam_header.specs.declared.Header.{Header}
-use Rattle.pam_header.specs.Header.{inFront, lines_of, count_of, startsAt, isText, isNumeral, isSide, isOther}
-use Rattle.pam_header.specs.Header.{firstText, widthName, heightName, depthText, maxvalText, tupltypeText, endText}
-use Rattle.pam_header.specs.Header.{fieldLines, fieldsOk, sideFrom, side_in, bytes_of, linesOk, mostHeader, headerBy, headerOf}
+use Rattle.pam_header.specs.Header.{in_front, lines_of, count_of, starts_at, is_text, is_numeral, is_side, is_other}
+use Rattle.pam_header.specs.Header.{first_text, width_name, height_name, depth_text, maxval_text, tupltype_text, end_text}
+use Rattle.pam_header.specs.Header.{field_lines, fields_ok, side_from, side_in, bytes_of, are_lines_ok, most_header, header_by, header_of}
 use Rattle.pam_header.proofs.Comparing.{text-long}
 use Rattle.pam_header.proofs.Numbers.{numeral, value-some, value-most}
 
@@ -24,39 +24,39 @@ use Rattle.pam_header.proofs.Numbers.{numeral, value-some, value-most}
 
 module _ (name : List ℕ) where
   -- the number of a line that gives a side
-  side-number : (line : List ℕ) → isSide name line ≡ true → isNumeral (drop (length name) line) ≡ true
-  unfolding isSide
-  side-number line t = (and-true (startsAt line 0 name) (isNumeral (drop (length name) line)) t).1
+  side-number : (line : List ℕ) → is_side name line ≡ true → is_numeral (drop (length name) line) ≡ true
+  unfolding is_side
+  side-number line t = (and-true (starts_at line 0 name) (is_numeral (drop (length name) line)) t).1
 
   -- a side that some line gives is at least 1, and none is above 99999
-  side-some : (lines : List (List ℕ)) (v : ℕ) → 1 ≤ v + count_of (isSide name) lines → 1 ≤ side_in name v lines
-  unfolding side_in sideFrom count_of
+  side-some : (lines : List (List ℕ)) (v : ℕ) → 1 ≤ v + count_of (is_side name) lines → 1 ≤ side_in name v lines
+  unfolding side_in side_from count_of
   side-some [] v l = omega arith
   side-some (line ∷ lines) v l =
       ⊎_elim {C = 1 ≤ side_in name v (line ∷ lines)}
-      (λ (t : isSide name line ≡ true).
+      (λ (t : is_side name line ≡ true).
       let some = value-some (drop (length name) line) (numeral _ (side-number line t)) in
       rw t (side-some lines (value_of (drop (length name) line)) (omega arith)))
-      (λ (t : isSide name line ≡ false).
-      let m : 1 ≤ v + (0 + count_of (isSide name) lines) = rw t at l in
+      (λ (t : is_side name line ≡ false).
+      let m : 1 ≤ v + (0 + count_of (is_side name) lines) = rw t at l in
       rw t (side-some lines v (omega arith)))
-      (either (isSide name line))
+      (either (is_side name line))
 
   side-most : (lines : List (List ℕ)) (v : ℕ) → v ≤ 99999 → side_in name v lines ≤ 99999
-  unfolding side_in sideFrom
+  unfolding side_in side_from
   side-most [] v l = l
   side-most (line ∷ lines) v l =
       ⊎_elim {C = side_in name v (line ∷ lines) ≤ 99999}
-      (λ (t : isSide name line ≡ true).
+      (λ (t : is_side name line ≡ true).
       rw t (side-most lines _ (value-most (drop (length name) line) (numeral _ (side-number line t)))))
-      (λ (t : isSide name line ≡ false). rw t (side-most lines v l))
-      (either (isSide name line))
+      (λ (t : is_side name line ≡ false). rw t (side-most lines v l))
+      (either (is_side name line))
 
 -- ---- how long the header is
 
 -- lines with their newlines are part of the text
-bytes-front : (b : ℕ) (lines : List (List ℕ)) → bytes_of (inFront b lines) ≤ suc (bytes_of lines)
-unfolding bytes_of inFront
+bytes-front : (b : ℕ) (lines : List (List ℕ)) → bytes_of (in_front b lines) ≤ suc (bytes_of lines)
+unfolding bytes_of in_front
 bytes-front b [] = omega arith
 bytes-front b (line ∷ lines) = omega arith
 
@@ -70,51 +70,51 @@ bytes_most (b ∷ text) =
     (either (eqb b 10))
 
 -- ENDHDR is one of the lines that come after the fields
-field-bytes : (lines : List (List ℕ)) → 1 ≤ count_of (isText endText) lines → bytes_of (fieldLines lines) + 7 ≤ bytes_of lines
-unfolding bytes_of fieldLines count_of
+field-bytes : (lines : List (List ℕ)) → 1 ≤ count_of (is_text end_text) lines → bytes_of (field_lines lines) + 7 ≤ bytes_of lines
+unfolding bytes_of field_lines count_of
 field-bytes [] l = absurd (omega arith)
 field-bytes (line ∷ lines) l =
-    ⊎_elim {C = bytes_of (fieldLines (line ∷ lines)) + 7 ≤ bytes_of (line ∷ lines)}
-    (λ (t : isText endText line ≡ true). rw t (omega (arith, text-long endText line t)))
-    (λ (t : isText endText line ≡ false).
-    let m : 1 ≤ 0 + count_of (isText endText) lines = rw t at l in
+    ⊎_elim {C = bytes_of (field_lines (line ∷ lines)) + 7 ≤ bytes_of (line ∷ lines)}
+    (λ (t : is_text end_text line ≡ true). rw t (omega (arith, text-long end_text line t)))
+    (λ (t : is_text end_text line ≡ false).
+    let m : 1 ≤ 0 + count_of (is_text end_text) lines = rw t at l in
     rw t (omega (arith, field-bytes lines (omega arith))))
-    (either (isText endText line))
+    (either (is_text end_text line))
 
 -- ---- a header
 
 -- what an accepted header is made of
 pub record LinesOk (lines : List (List ℕ)) : Type 0 where
-  pub first-is : isText firstText (get_or lines 0 []) ≡ true
-  pub end-stands : 1 ≤ count_of (isText endText) (drop 1 lines)
-  pub fields-ok : fieldsOk (fieldLines (drop 1 lines)) ≡ true
+  pub first-is : is_text first_text (get_or lines 0 []) ≡ true
+  pub end-stands : 1 ≤ count_of (is_text end_text) (drop 1 lines)
+  pub fields-ok : fields_ok (field_lines (drop 1 lines)) ≡ true
 
-pub lines_ok : (lines : List (List ℕ)) → linesOk lines ≡ true → LinesOk lines
-unfolding linesOk
+pub lines_ok : (lines : List (List ℕ)) → are_lines_ok lines ≡ true → LinesOk lines
+unfolding are_lines_ok
 lines_ok lines e =
-    let f = isText firstText (get_or lines 0 []) in
-    let g = leb 1 (count_of (isText endText) (drop 1 lines)) in
-    let a = and-true (f && g) (fieldsOk (fieldLines (drop 1 lines))) e in
+    let f = is_text first_text (get_or lines 0 []) in
+    let g = leb 1 (count_of (is_text end_text) (drop 1 lines)) in
+    let a = and-true (f && g) (fields_ok (field_lines (drop 1 lines))) e in
     let b = and-true f g a.0 in
     record { first-is = b.0; end-stands = leb-true _ _ b.1; fields-ok = a.1 }
 
 pub record FieldsOk (lines : List (List ℕ)) : Type 0 where
-  pub one_width : count_of (isSide widthName) lines ≡ 1
-  pub one-height : count_of (isSide heightName) lines ≡ 1
-  pub one-depth : count_of (isText depthText) lines ≡ 1
-  pub one-maxval : count_of (isText maxvalText) lines ≡ 1
-  pub one-tupltype : count_of (isText tupltypeText) lines ≡ 1
-  pub no_other : count_of isOther lines ≡ 0
+  pub one_width : count_of (is_side width_name) lines ≡ 1
+  pub one-height : count_of (is_side height_name) lines ≡ 1
+  pub one-depth : count_of (is_text depth_text) lines ≡ 1
+  pub one-maxval : count_of (is_text maxval_text) lines ≡ 1
+  pub one-tupltype : count_of (is_text tupltype_text) lines ≡ 1
+  pub no_other : count_of is_other lines ≡ 0
 
-pub fields-are : (lines : List (List ℕ)) → fieldsOk lines ≡ true → FieldsOk lines
-unfolding fieldsOk
+pub fields-are : (lines : List (List ℕ)) → fields_ok lines ≡ true → FieldsOk lines
+unfolding fields_ok
 fields-are lines e =
-    let w = eqb (count_of (isSide widthName) lines) 1 in
-    let h = eqb (count_of (isSide heightName) lines) 1 in
-    let d = eqb (count_of (isText depthText) lines) 1 in
-    let m = eqb (count_of (isText maxvalText) lines) 1 in
-    let t = eqb (count_of (isText tupltypeText) lines) 1 in
-    let o5 = and-true (w && h && d && m && t) (eqb (count_of isOther lines) 0) e in
+    let w = eqb (count_of (is_side width_name) lines) 1 in
+    let h = eqb (count_of (is_side height_name) lines) 1 in
+    let d = eqb (count_of (is_text depth_text) lines) 1 in
+    let m = eqb (count_of (is_text maxval_text) lines) 1 in
+    let t = eqb (count_of (is_text tupltype_text) lines) 1 in
+    let o5 = and-true (w && h && d && m && t) (eqb (count_of is_other lines) 0) e in
     let o4 = and-true (w && h && d && m) t o5.0 in
     let o3 = and-true (w && h && d) m o4.0 in
     let o2 = and-true (w && h) d o3.0 in
@@ -132,27 +132,27 @@ fields-are lines e =
 pub record Small (header : Header) : Type 0 where
   pub height-most : header.height ≤ 99999
   pub width-most : header.width ≤ 99999
-  pub body-most : header.body ≤ mostHeader
+  pub body-most : header.body ≤ most_header
   pub height-some : header.ok ≡ true → 1 ≤ header.height
   pub width_some : header.ok ≡ true → 1 ≤ header.width
 
-small_by : (lines : List (List ℕ)) → bytes_of lines ≤ mostHeader → Small (headerBy lines)
-unfolding headerBy bytes_of isText startsAt
+small_by : (lines : List (List ℕ)) → bytes_of lines ≤ most_header → Small (header_by lines)
+unfolding header_by bytes_of is_text starts_at
 small_by lines l =
-    ⊎_elim {C = Small (headerBy lines)}
-    (λ (t : linesOk lines ≡ true).
+    ⊎_elim {C = Small (header_by lines)}
+    (λ (t : are_lines_ok lines ≡ true).
     let o = lines_ok lines t in
-    let fields = fieldLines (drop 1 lines) in
+    let fields = field_lines (drop 1 lines) in
     let f = fields-are fields o.fields-ok in
     rw t
     (record {
-      height-most = side-most heightName fields 0 (omega arith);
-      width-most = side-most widthName fields 0 (omega arith);
+      height-most = side-most height_name fields 0 (omega arith);
+      width-most = side-most width_name fields 0 (omega arith);
       body-most = omega (arith, l, after_first lines o.first-is, field-bytes (drop 1 lines) o.end-stands);
-      height-some = λ _. side-some heightName fields 0 (omega (arith, f.one-height));
-      width_some = λ _. side-some widthName fields 0 (omega (arith, f.one_width));
+      height-some = λ _. side-some height_name fields 0 (omega (arith, f.one-height));
+      width_some = λ _. side-some width_name fields 0 (omega (arith, f.one_width));
     }))
-    (λ (t : linesOk lines ≡ false).
+    (λ (t : are_lines_ok lines ≡ false).
     rw t
     (record {
       height-most = omega arith;
@@ -161,20 +161,20 @@ small_by lines l =
       height-some = λ e. not-both false e refl;
       width_some = λ e. not-both false e refl;
     }))
-    (either (linesOk lines))
+    (either (are_lines_ok lines))
   where
-    after_first : (all : List (List ℕ)) → isText firstText (get_or all 0 []) ≡ true → 3 + bytes_of (drop 1 all) ≤ bytes_of all
+    after_first : (all : List (List ℕ)) → is_text first_text (get_or all 0 []) ≡ true → 3 + bytes_of (drop 1 all) ≤ bytes_of all
     after_first [] e = not-both false e refl
-    after_first (first ∷ rest) e = omega (arith, text-long firstText first e)
+    after_first (first ∷ rest) e = omega (arith, text-long first_text first e)
 
-pub header-small : (input : List ℕ) → Small (headerOf input)
-unfolding headerOf
+pub header-small : (input : List ℕ) → Small (header_of input)
+unfolding header_of
 header-small input =
-    let front = take mostHeader input in
-    let long : length front ≤ mostHeader = rw length-take (omega arith) in
+    let front = take most_header input in
+    let long : length front ≤ most_header = rw length-take (omega arith) in
     small_by (lines_of front) (omega (arith, bytes_most front))
 
--- the header depends on the first mostHeader bytes alone, and with it the refusal 8
-pub header-first : (n : ℕ) (input : List ℕ) → mostHeader ≤ n → headerOf (take n input) ≡ headerOf input
-unfolding headerOf
-header-first n input l = ap (λ (front : List ℕ). headerBy (lines_of front)) (take-take mostHeader n input l)
+-- the header depends on the first most_header bytes alone, and with it the refusal 8
+pub header-first : (n : ℕ) (input : List ℕ) → most_header ≤ n → header_of (take n input) ≡ header_of input
+unfolding header_of
+header-first n input l = ap (λ (front : List ℕ). header_by (lines_of front)) (take-take most_header n input l)

@@ -1,8 +1,8 @@
 // Reading the header of a PAM file, line by line.
 ghost use Rattle.std.specs.Prelude.{◌≡◌, true, [], ◌+◌, ◌*◌, ◌≤◌, ◌<◌, length, get_or, drop};
-ghost use Rattle.pam_header.specs.Header.{startsAt, isText, isNumeral, isSide, sideFrom, isSkipped};
-ghost use Rattle.pam_header.specs.Header.{lines_of, firstText, mostHeader, declined, headerBy, headerOf};
-ghost use Rattle.pam_header.specs.steps.Reading.{lineLong, more, withLine, Few, noFields, headerFrom, readFrom};
+ghost use Rattle.pam_header.specs.Header.{starts_at, is_text, is_numeral, is_side, side_from, is_skipped};
+ghost use Rattle.pam_header.specs.Header.{lines_of, first_text, most_header, declined, header_by, header_of};
+ghost use Rattle.pam_header.specs.steps.Reading.{line_long, more, with_line, Few, no_fields, header_from, read_from};
 
 // The most bytes of a header, up to and with the newline of ENDHDR.
 const MOST_HEADER: usize = 4096;
@@ -36,7 +36,7 @@ struct Fields {
 
 // Whether a line begins with a text.
 fn starts(line: &[u8], text: &[u8]) -> bool
-    ensures { result ≡ startsAt line.now 0 text.now }
+    ensures { result ≡ starts_at line.now 0 text.now }
 {
     let mut i = 0usize;
     while i < text.len() {
@@ -51,14 +51,14 @@ fn starts(line: &[u8], text: &[u8]) -> bool
 
 // Whether a line is a text and nothing more.
 fn is_text(line: &[u8], text: &[u8]) -> bool
-    ensures { result ≡ isText text.now line.now }
+    ensures { result ≡ is_text text.now line.now }
 {
     starts(line, text) & (line.len() == text.len())
 }
 
 // Whether these are 1 to 5 digits, the first not '0'.
 fn is_numeral(digits: &[u8]) -> bool
-    ensures { result ≡ isNumeral digits.now }
+    ensures { result ≡ is_numeral digits.now }
 {
     let n = digits.len();
     (text::digits(digits, 0, MOST_DIGITS) == n) & (1 <= n) & !(text::byte_at(digits, 0) == b'0')
@@ -66,7 +66,7 @@ fn is_numeral(digits: &[u8]) -> bool
 
 // Whether a line is a name, with its space, and a number.
 fn is_side(line: &[u8], name: &[u8]) -> bool
-    ensures { result ≡ isSide name.now line.now }
+    ensures { result ≡ is_side name.now line.now }
 {
     let at = name.len();
     if line.len() < at {
@@ -77,7 +77,7 @@ fn is_side(line: &[u8], name: &[u8]) -> bool
 
 // The number on such a line; for any other line the old one.
 fn side(line: &[u8], name: &[u8], old: usize) -> usize
-    ensures { result ≡ sideFrom name.now old line.now }
+    ensures { result ≡ side_from name.now old line.now }
 {
     if !is_side(line, name) {
         return old;
@@ -87,7 +87,7 @@ fn side(line: &[u8], name: &[u8], old: usize) -> usize
 
 // Whether a line is empty or begins with '#'.
 fn is_skipped(line: &[u8]) -> bool
-    ensures { result ≡ isSkipped line.now }
+    ensures { result ≡ is_skipped line.now }
 {
     (line.len() == 0) | (text::byte_at(line, 0) == b'#')
 }
@@ -96,7 +96,7 @@ fn is_skipped(line: &[u8]) -> bool
 
 // A count with one more line, where that counts.
 fn counted(n: usize, t: bool) -> usize
-    requires { n < 6 * mostHeader }
+    requires { n < 6 * most_header }
     ensures { result ≡ more n t }
 {
     if t { n + 1 } else { n }
@@ -105,7 +105,7 @@ fn counted(n: usize, t: bool) -> usize
 // What the lines gave, with one more.
 fn with_line(seen: Fields, line: &[u8]) -> Fields
     requires { Few seen 4095 }
-    ensures { result ≡ withLine seen line.now }
+    ensures { result ≡ with_line seen line.now }
 {
     let is_width = is_side(line, b"WIDTH ");
     let is_height = is_side(line, b"HEIGHT ");
@@ -139,7 +139,7 @@ fn declined_header() -> Header
 
 // The header whose lines gave this, with the pixels at a place.
 fn header_from(seen: Fields, at: usize) -> Header
-    ensures { result ≡ headerFrom seen at }
+    ensures { result ≡ header_from seen at }
 {
     let ok = (seen.widths == 1)
         & (seen.heights == 1)
@@ -161,7 +161,7 @@ fn header_from(seen: Fields, at: usize) -> Header
 // Where the line ends that a place is in: at its newline, or at the end of the text.
 fn line_end(text: &[u8], at: usize) -> usize
     requires { at ≤ length text.now }
-    ensures { result ≡ at + lineLong (drop at text.now) }
+    ensures { result ≡ at + line_long (drop at text.now) }
 {
     let mut i = at;
     while i < text.len() {
@@ -175,8 +175,8 @@ fn line_end(text: &[u8], at: usize) -> usize
 
 // The header whose lines after P7 stand from a place on.
 fn read_lines(front: &[u8], start: usize) -> Header
-    requires { (start ≤ length front.now) × (length front.now ≤ mostHeader) }
-    ensures { result ≡ readFrom noFields start (lines_of (drop start front.now)) }
+    requires { (start ≤ length front.now) × (length front.now ≤ most_header) }
+    ensures { result ≡ read_from no_fields start (lines_of (drop start front.now)) }
 {
     let mut at = start;
     let mut seen = Fields {
@@ -206,15 +206,15 @@ fn read_lines(front: &[u8], start: usize) -> Header
 
 // Whether the first line is P7.
 fn is_pam(front: &[u8]) -> bool
-    ensures { result ≡ isText firstText (get_or (lines_of front.now) 0 []) }
+    ensures { result ≡ is_text first_text (get_or (lines_of front.now) 0 []) }
 {
     starts(front, b"P7\n")
 }
 
 // The header that stands in the first bytes of an input.
 fn header_in(front: &[u8]) -> Header
-    requires { length front.now ≤ mostHeader }
-    ensures { result ≡ headerBy (lines_of front.now) }
+    requires { length front.now ≤ most_header }
+    ensures { result ≡ header_by (lines_of front.now) }
 {
     if !is_pam(front) {
         return declined_header();
@@ -224,7 +224,7 @@ fn header_in(front: &[u8]) -> Header
 
 // The header of an input.
 pub fn read_header(input: &[u8]) -> Header
-    ensures { result ≡ headerOf input.now }
+    ensures { result ≡ header_of input.now }
 {
     if input.len() < MOST_HEADER {
         return header_in(input);

@@ -6,9 +6,9 @@ use Prim.Native.Nat.{ℕ}
 use lib.Dec.{T, eqb}
 use lib.ListN.{replicate}
 use Rattle.plane.specs.Plane.{on}
-use Rattle.plane.specs.Mask.{isOn}
-use Rattle.text.specs.Decimal.{decimalUpto, decimal}
-use Rattle.pbm.specs.Text.{bitByte, endsLine, pixelText, pixelsText, refusalText}
+use Rattle.plane.specs.Mask.{is_on}
+use Rattle.text.specs.Decimal.{decimal_upto, decimal}
+use Rattle.pbm.specs.Text.{bit_byte, ends_line, pixel_text, pixels_text, refusal_text}
 
 -- two texts are equal
 same : List ℕ → List ℕ → Bool
@@ -20,10 +20,10 @@ same (k ∷ l) (n ∷ m) = eqb k n && same l m
 line : List ℕ
 line = replicate 70 49 ++ (10 ∷ 49 ∷ 10 ∷ [])
 
-lines-hold : T (same (pixelsText (replicate 142 1) 71 142) (line ++ line))
-unfolding same line on isOn bitByte endsLine pixelText pixelsText
+lines-hold : T (same (pixels_text (replicate 142 1) 71 142) (line ++ line))
+unfolding same line on is_on bit_byte ends_line pixel_text pixels_text
 lines-hold = tt
 
-refusal-holds : T (same (refusalText 10) (114 ∷ 101 ∷ 102 ∷ 117 ∷ 115 ∷ 101 ∷ 100 ∷ 32 ∷ 49 ∷ 48 ∷ 10 ∷ []))
-unfolding same decimalUpto decimal refusalText
+refusal-holds : T (same (refusal_text 10) (114 ∷ 101 ∷ 102 ∷ 117 ∷ 115 ∷ 101 ∷ 100 ∷ 32 ∷ 49 ∷ 48 ∷ 10 ∷ []))
+unfolding same decimal_upto decimal refusal_text
 refusal-holds = tt

@@ -2,8 +2,8 @@
 // the place after it.
 ghost use Rattle.std.specs.Prelude.{◌≡◌, cond, [], ◌+◌, ◌*◌, ◌<◌, ◌≤◌, length};
 ghost use Rattle.text.specs.steps.Writing.{Wrote};
-ghost use Rattle.pbm.specs.Text.{bitByte, endsLine, newline, pixelText, pixelsText, pairText, keyedEnd};
-ghost use Rattle.pbm.specs.Text.{cropLines, sizeLine, maskText, refusalText};
+ghost use Rattle.pbm.specs.Text.{bit_byte, ends_line, newline, pixel_text, pixels_text, pair_text, keyed_end};
+ghost use Rattle.pbm.specs.Text.{crop_lines, size_line, mask_text, refusal_text};
 
 use plane::Box;
 
@@ -12,8 +12,8 @@ const LINE: usize = 70;
 
 // Two numbers with a space between them.
 fn pair(out: &mut [u8], at: usize, a: usize, b: usize) -> usize
-    requires { at + length (pairText a b) ≤ length out.old }
-    ensures { Wrote (pairText a b) out.old out.new at result }
+    requires { at + length (pair_text a b) ≤ length out.old }
+    ensures { Wrote (pair_text a b) out.old out.new at result }
 {
     let first = text::write_number(out, at, a as u64);
     let second = text::put(out, first, b' ');
@@ -21,7 +21,7 @@ fn pair(out: &mut [u8], at: usize, a: usize, b: usize) -> usize
 }
 
 fn bit_byte(t: bool) -> u8
-    ensures { result ≡ bitByte t }
+    ensures { result ≡ bit_byte t }
 {
     if t { b'1' } else { b'0' }
 }
@@ -29,7 +29,7 @@ fn bit_byte(t: bool) -> u8
 // Whether a line ends after column x of a row of w pixels.
 fn ends_line(w: usize, x: usize) -> bool
     requires { x < w }
-    ensures { result ≡ endsLine w x }
+    ensures { result ≡ ends_line w x }
 {
     ((x + 1) % LINE == 0) | (x + 1 == w)
 }
@@ -48,7 +48,7 @@ fn line_end(out: &mut [u8], at: usize, ends: bool) -> usize
 // Pixel i of a mask with w columns.
 fn pixel(out: &mut [u8], at: usize, mask: &[u8], w: usize, i: usize) -> usize
     requires { (0 < w) × (i < length mask.now) × (at + 2 ≤ length out.old) }
-    ensures { Wrote (pixelText mask.now w i) out.old out.new at result }
+    ensures { Wrote (pixel_text mask.now w i) out.old out.new at result }
 {
     let next = text::put(out, at, bit_byte(mask[i] != 0));
     line_end(out, next, ends_line(w, i % w))
@@ -57,7 +57,7 @@ fn pixel(out: &mut [u8], at: usize, mask: &[u8], w: usize, i: usize) -> usize
 // All pixels of a mask.
 fn pixels(out: &mut [u8], at: usize, mask: &[u8], w: usize) -> usize
     requires { (0 < w) × (at + 2 * length mask.now ≤ length out.old) }
-    ensures { Wrote (pixelsText mask.now w (length mask.now)) out.old out.new at result }
+    ensures { Wrote (pixels_text mask.now w (length mask.now)) out.old out.new at result }
 {
     let mut next = at;
     let mut i = 0usize;
@@ -71,7 +71,7 @@ fn pixels(out: &mut [u8], at: usize, mask: &[u8], w: usize) -> usize
 // The end of the second line: the keyed flag.
 fn keyed_end(out: &mut [u8], at: usize, keyed: bool) -> usize
     requires { at + 9 ≤ length out.old }
-    ensures { Wrote (keyedEnd keyed) out.old out.new at result }
+    ensures { Wrote (keyed_end keyed) out.old out.new at result }
 {
     let flag = text::copy(out, at, b" keyed ");
     let end = text::put(out, flag, bit_byte(keyed));
@@ -80,8 +80,8 @@ fn keyed_end(out: &mut [u8], at: usize, keyed: bool) -> usize
 
 // The first two lines: P1, and the comment with the crop box and the keyed flag.
 fn crop_lines(out: &mut [u8], at: usize, crop: Box, keyed: bool) -> usize
-    requires { at + length (cropLines crop keyed) ≤ length out.old }
-    ensures { Wrote (cropLines crop keyed) out.old out.new at result }
+    requires { at + length (crop_lines crop keyed) ≤ length out.old }
+    ensures { Wrote (crop_lines crop keyed) out.old out.new at result }
 {
     let rows = text::copy(out, at, b"P1\n# crop ");
     let between = pair(out, rows, crop.y0, crop.y1);
@@ -92,8 +92,8 @@ fn crop_lines(out: &mut [u8], at: usize, crop: Box, keyed: bool) -> usize
 
 // Width and height.
 fn size_line(out: &mut [u8], at: usize, h: usize, w: usize) -> usize
-    requires { at + length (sizeLine h w) ≤ length out.old }
-    ensures { Wrote (sizeLine h w) out.old out.new at result }
+    requires { at + length (size_line h w) ≤ length out.old }
+    ensures { Wrote (size_line h w) out.old out.new at result }
 {
     let end = pair(out, at, w, h);
     text::put(out, end, b'\n')
@@ -102,8 +102,8 @@ fn size_line(out: &mut [u8], at: usize, h: usize, w: usize) -> usize
 // A mask with its crop box and keyed flag, from the front of the buffer, which has room for two bytes a pixel.
 pub fn write_mask(out: &mut [u8], mask: &[u8], h: usize, w: usize, crop: Box, keyed: bool) -> usize
     requires w_nonzero { (0 < w) × (length mask.now ≡ h * w) }
-    requires w_in_bounds { length (cropLines crop keyed) + length (sizeLine h w) + 2 * (h * w) ≤ length out.old }
-    ensures { Wrote (maskText mask.now h w crop keyed) out.old out.new 0 result }
+    requires w_in_bounds { length (crop_lines crop keyed) + length (size_line h w) + 2 * (h * w) ≤ length out.old }
+    ensures { Wrote (mask_text mask.now h w crop keyed) out.old out.new 0 result }
 {
     let size = crop_lines(out, 0, crop, keyed);
     let body = size_line(out, size, h, w);
@@ -112,8 +112,8 @@ pub fn write_mask(out: &mut [u8], mask: &[u8], h: usize, w: usize, crop: Box, ke
 
 // A refusal, from the front of the buffer.
 pub fn write_refusal(out: &mut [u8], n: u32) -> usize
-    requires { length (refusalText n) ≤ length out.old }
-    ensures { Wrote (refusalText n) out.old out.new 0 result }
+    requires { length (refusal_text n) ≤ length out.old }
+    ensures { Wrote (refusal_text n) out.old out.new 0 result }
 {
     let at = text::copy(out, 0, b"refused ");
     let end = text::write_number(out, at, n as u64);

@@ -15,8 +15,8 @@ use mir.Syntax.{w64}
 use mir.Val.{Fits}
 use mir.Facts.{Fits-le, Fits-lit}
 use borrow.Author.Count.{below_more}
-use Rattle.plane.specs.Plane.{apart, on, bit, table, rowsUpto, planeOf}
-use Rattle.plane.specs.steps.Sides.{longestSide}
+use Rattle.plane.specs.Plane.{apart, on, bit, table, rows_upto, plane_of}
+use Rattle.plane.specs.steps.Sides.{longest_side}
 use Rattle.plane.proofs.Search.{which}
 
 -- ---- indices
@@ -42,10 +42,10 @@ pub index-of : (i w : ℕ) → i / w * w + i % w ≡ i
 index-of i w = div-add-mod' i w
 
 -- the largest plane's area fits a usize
-pub area-most : {h w : ℕ} → h ≤ longestSide → w ≤ longestSide → h * w ≤ 4294967296
+pub area-most : {h w : ℕ} → h ≤ longest_side → w ≤ longest_side → h * w ≤ 4294967296
 area-most a b = mul-le-mul a b
 
-pub area-fits : {h w : ℕ} → h ≤ longestSide → w ≤ longestSide → Fits w64 (h * w)
+pub area-fits : {h w : ℕ} → h ≤ longest_side → w ≤ longest_side → Fits w64 (h * w)
 area-fits a b = Fits-le (mul-le-mul a b) (Fits-lit tt)
 
 -- rows and columns are as far apart from either side
@@ -95,35 +95,35 @@ table_same f g n d h = table_is g n (table f 0 n) d (table-length f 0 n) (λ k l
 -- ---- rows one after the other
 
 module _ {A : Type 0} (g : ℕ → List A) (w : ℕ) (keeps : (y : ℕ) → length (g y) ≡ w) where
-  pub rows-length : (n : ℕ) → length (rowsUpto n g) ≡ n * w
-  unfolding rowsUpto
+  pub rows-length : (n : ℕ) → length (rows_upto n g) ≡ n * w
+  unfolding rows_upto
   rows-length zero = sym (zero-mul w)
-  rows-length (suc n) = length-append (rowsUpto n g) (g n) ∙ omega (arith, rows-length n, keeps n, suc-mul n w)
+  rows-length (suc n) = length-append (rows_upto n g) (g n) ∙ omega (arith, rows-length n, keeps n, suc-mul n w)
 
   -- the element at row y and column x
-  pub rows_at : (n y x : ℕ) (d : A) → y < n → x < w → get_or (rowsUpto n g) (y * w + x) d ≡ get_or (g y) x d
-  unfolding rowsUpto
+  pub rows_at : (n y x : ℕ) (d : A) → y < n → x < w → get_or (rows_upto n g) (y * w + x) d ≡ get_or (g y) x d
+  unfolding rows_upto
   rows_at zero y x d a b = absurd (not-suc-le-zero a)
   rows_at (suc n) y x d a b =
       let long = rows-length n in
       ⊎_elim
       (λ (h : y < n).
       let r = row_in y n w h in
-      get_or-append (rowsUpto n g) (g n) d (y * w + x) (omega arith) ∙ rows_at n y x d h b)
+      get_or-append (rows_upto n g) (g n) d (y * w + x) (omega arith) ∙ rows_at n y x d h b)
       (λ (h : n ≤ y).
       let e : y ≡ n = omega arith in
-      let i : y * w + x ≡ length (rowsUpto n g) + x = ap (λ (k : ℕ). k * w + x) e ∙ ap (λ (k : ℕ). k + x) (sym long) in
-      ap (λ (k : ℕ). get_or (rowsUpto n g ++ g n) k d) i ∙ get_or-append-add (rowsUpto n g) (g n) x d ∙ ap (λ (k : ℕ). get_or (g k) x d) (sym e))
+      let i : y * w + x ≡ length (rows_upto n g) + x = ap (λ (k : ℕ). k * w + x) e ∙ ap (λ (k : ℕ). k + x) (sym long) in
+      ap (λ (k : ℕ). get_or (rows_upto n g ++ g n) k d) i ∙ get_or-append-add (rows_upto n g) (g n) x d ∙ ap (λ (k : ℕ). get_or (g k) x d) (sym e))
       (which y n)
 
-  pub rows_more : (y : ℕ) → rowsUpto (y + 1) g ≡ rowsUpto y g ++ g y
-  rows_more y = rw (add-one y) (unfold rowsUpto in refl)
+  pub rows_more : (y : ℕ) → rows_upto (y + 1) g ≡ rows_upto y g ++ g y
+  rows_more y = rw (add-one y) (unfold rows_upto in refl)
 
   -- the rows done and then the old list, with row y put in its place: one row more is done
-  pub put-row : (y k : ℕ) (old now row : List A) → now ≡ rowsUpto y g ++ drop (y * w) old → k ≡ w → row ≡ g y
-      → take (y * w) now ++ (row ++ drop k (drop (y * w) now)) ≡ rowsUpto (y + 1) g ++ drop ((y + 1) * w) old
+  pub put-row : (y k : ℕ) (old now row : List A) → now ≡ rows_upto y g ++ drop (y * w) old → k ≡ w → row ≡ g y
+      → take (y * w) now ++ (row ++ drop k (drop (y * w) now)) ≡ rows_upto (y + 1) g ++ drop ((y + 1) * w) old
   put-row y k old now row e q r =
-      let done = rowsUpto y g in
+      let done = rows_upto y g in
       let front : take (y * w) now ≡ done = rw e (take_at done (drop (y * w) old) (y * w) (rows-length y)) in
       let back : drop k (drop (y * w) now) ≡ drop ((y + 1) * w) old =
       ap (λ (t : List A). drop k (drop (y * w) t)) e
@@ -137,11 +137,11 @@ module _ {A : Type 0} (g : ℕ → List A) (w : ℕ) (keeps : (y : ℕ) → leng
       ∙ ap (λ (t : List A). t ++ drop ((y + 1) * w) old) (sym (rows_more y))
 
 -- rows that are equal make equal planes
-pub rows_same : {A : Type 0} (f g : ℕ → List A) (n : ℕ) → ((y : ℕ) → y < n → f y ≡ g y) → rowsUpto n f ≡ rowsUpto n g
-unfolding rowsUpto
+pub rows_same : {A : Type 0} (f g : ℕ → List A) (n : ℕ) → ((y : ℕ) → y < n → f y ≡ g y) → rows_upto n f ≡ rows_upto n g
+unfolding rows_upto
 rows_same f g zero h = refl
 rows_same {A} f g (suc n) h =
-    ap (λ (t : List A). t ++ f n) (rows_same f g n (λ y l. h y (omega arith))) ∙ ap (λ (t : List A). rowsUpto n g ++ t) (h n (omega arith))
+    ap (λ (t : List A). t ++ f n) (rows_same f g n (λ y l. h y (omega arith))) ∙ ap (λ (t : List A). rows_upto n g ++ t) (h n (omega arith))
 
 -- ---- planes
 
@@ -149,27 +149,27 @@ module _ {A : Type 0} (h w : ℕ) (f : ℕ → ℕ → A) where
   row-long : (y : ℕ) → length (table (f y) 0 w) ≡ w
   row-long y = table-length (f y) 0 w
 
-  pub plane-length : length (planeOf h w f) ≡ h * w
-  unfolding planeOf
+  pub plane-length : length (plane_of h w f) ≡ h * w
+  unfolding plane_of
   plane-length = rows-length (λ (y : ℕ). table (f y) 0 w) w row-long h
 
   -- the element at row y and column x
-  pub plane-at : (y x : ℕ) (d : A) → y < h → x < w → get_or (planeOf h w f) (y * w + x) d ≡ f y x
-  unfolding planeOf
+  pub plane-at : (y x : ℕ) (d : A) → y < h → x < w → get_or (plane_of h w f) (y * w + x) d ≡ f y x
+  unfolding plane_of
   plane-at y x d a b = rows_at (λ (k : ℕ). table (f k) 0 w) w row-long h y x d a b ∙ table_at (f y) w x d b
 
   -- the element at an index
-  pub plane-index : (i : ℕ) (d : A) → 0 < w → i < h * w → get_or (planeOf h w f) i d ≡ f (i / w) (i % w)
+  pub plane-index : (i : ℕ) (d : A) → 0 < w → i < h * w → get_or (plane_of h w f) i d ≡ f (i / w) (i % w)
   plane-index i d p l =
-      ap (λ (k : ℕ). get_or (planeOf h w f) k d) (sym (index-of i w)) ∙ plane-at (i / w) (i % w) d (row_of i h w p l) (column-of i w p)
+      ap (λ (k : ℕ). get_or (plane_of h w f) k d) (sym (index-of i w)) ∙ plane-at (i / w) (i % w) d (row_of i h w p l) (column-of i w p)
 
   -- a list is the plane where its elements are, by row and column
   pub plane-is : (out : List A) (d : A) → length out ≡ h * w → ((y x : ℕ) → y < h → x < w → get_or out (y * w + x) d ≡ f y x)
-      → out ≡ planeOf h w f
+      → out ≡ plane_of h w f
   plane-is out d e p =
-      ext_get_or d out (planeOf h w f) (e ∙ sym plane-length)
+      ext_get_or d out (plane_of h w f) (e ∙ sym plane-length)
       (λ i l.
-      ⊎_elim {C = get_or out i d ≡ get_or (planeOf h w f) i d}
+      ⊎_elim {C = get_or out i d ≡ get_or (plane_of h w f) i d}
       (λ (z : 0 < w).
       let m : i < h * w = omega arith in
       let q = p (i / w) (i % w) (row_of i h w z m) (column-of i w z) in
@@ -182,8 +182,8 @@ module _ {A : Type 0} (h w : ℕ) (f : ℕ → ℕ → A) where
 
 -- planes with equal elements are equal
 pub plane-same : {A : Type 0} (h w : ℕ) (f g : ℕ → ℕ → A) (d : A) → ((y x : ℕ) → y < h → x < w → f y x ≡ g y x)
-    → planeOf h w f ≡ planeOf h w g
-plane-same h w f g d p = plane-is h w g (planeOf h w f) d (plane-length h w f) (λ y x a b. plane-at h w f y x d a b ∙ p y x a b)
+    → plane_of h w f ≡ plane_of h w g
+plane-same h w f g d p = plane-is h w g (plane_of h w f) d (plane-length h w f) (λ y x a b. plane-at h w f y x d a b ∙ p y x a b)
 
 -- the element of row y's part of a plane
 pub part_at : {A : Type 0} (plane : List A) (y w x : ℕ) (d : A) → x < w → get_or (take w (drop (y * w) plane)) x d ≡ get_or plane (y * w + x) d

@@ -8,9 +8,9 @@ use native.Mathlib.Nat.{mul-le-mul}
 use native.Mathlib.Omega.{arith}
 use lib.Dec.{leb}
 use borrow.Author.Tests.{leb-true, le-leb, eq-eqb, ne_eqb}
-use Rattle.plane.specs.Plane.{mostSide}
+use Rattle.plane.specs.Plane.{most_side}
 use Rattle.plane.specs.steps.Sides.{Sides}
-use Rattle.plane.specs.Refusal.{Test, refusalOf, after, sidesOk, room_for}
+use Rattle.plane.specs.Refusal.{Test, refusal_of, after, sides_ok, room_for}
 use Rattle.plane.proofs.Search.{not-both}
 use Rattle.plane.proofs.Plane.{area-most}
 
@@ -35,31 +35,31 @@ one-passed true n m p e = (refl, e)
 one-passed false n m p e = absurd (omega (arith, leb-true 1 n p))
 
 -- the law of refusals: 0 means that all tests hold
-pub passed : (ts : List Test) → numbered ts ≡ true → refusalOf ts ≡ 0 → Passed ts
-unfolding refusalOf
+pub passed : (ts : List Test) → numbered ts ≡ true → refusal_of ts ≡ 0 → Passed ts
+unfolding refusal_of
 passed [] p e = tt
 passed (t ∷ ts) p e =
     let q = and-true (leb 1 t.0) (numbered ts) p in
-    let r = one-passed t.1 t.0 (refusalOf ts) q.0 e in
+    let r = one-passed t.1 t.0 (refusal_of ts) q.0 e in
     (r.0, passed ts q.1 r.1)
 
 -- the second of two lists matters only where all tests of the first hold
-pub declined-first : (ts us : List Test) → (refusalOf ts ≡ 0 → ⊥) → refusalOf (ts ++ us) ≡ refusalOf ts
-unfolding refusalOf
+pub declined-first : (ts us : List Test) → (refusal_of ts ≡ 0 → ⊥) → refusal_of (ts ++ us) ≡ refusal_of ts
+unfolding refusal_of
 declined-first [] us bad = absurd (bad refl)
 declined-first (t ∷ ts) us bad = go t.1 bad (λ n. declined-first ts us n)
   where
-    go : (b : Bool) → (cond b (refusalOf ts) t.0 ≡ 0 → ⊥) → ((refusalOf ts ≡ 0 → ⊥) → refusalOf (ts ++ us) ≡ refusalOf ts)
-        → cond b (refusalOf (ts ++ us)) t.0 ≡ cond b (refusalOf ts) t.0
+    go : (b : Bool) → (cond b (refusal_of ts) t.0 ≡ 0 → ⊥) → ((refusal_of ts ≡ 0 → ⊥) → refusal_of (ts ++ us) ≡ refusal_of ts)
+        → cond b (refusal_of (ts ++ us)) t.0 ≡ cond b (refusal_of ts) t.0
     go true n f = f n
     go false n f = refl
 
-pub passed_first : (ts us : List Test) → numbered ts ≡ true → refusalOf ts ≡ 0 → refusalOf (ts ++ us) ≡ refusalOf us
-unfolding refusalOf
+pub passed_first : (ts us : List Test) → numbered ts ≡ true → refusal_of ts ≡ 0 → refusal_of (ts ++ us) ≡ refusal_of us
+unfolding refusal_of
 passed_first [] us p e = refl
 passed_first (t ∷ ts) us p e =
     let q = and-true (leb 1 t.0) (numbered ts) p in
-    let r = one-passed t.1 t.0 (refusalOf ts) q.0 e in
+    let r = one-passed t.1 t.0 (refusal_of ts) q.0 e in
     rw r.0 (passed_first ts us q.1 r.1)
 
 -- two tests with one number, one after the other, are one test: that both hold
@@ -83,33 +83,33 @@ kept n new old e = rw (ne_eqb n 0 e)
 pub record Within (h w : ℕ) : Type 0 where
   pub some-rows : 1 ≤ h
   pub some-columns : 1 ≤ w
-  pub tall : h ≤ mostSide
-  pub wide : w ≤ mostSide
+  pub tall : h ≤ most_side
+  pub wide : w ≤ most_side
 
-pub sides-within : (h w : ℕ) → sidesOk h w ≡ true → Within h w
+pub sides-within : (h w : ℕ) → sides_ok h w ≡ true → Within h w
 sides-within h w e =
-    let a = and-true (leb 1 h && leb h mostSide && leb 1 w) (leb w mostSide) e in
-    let b = and-true (leb 1 h && leb h mostSide) (leb 1 w) a.0 in
-    let c = and-true (leb 1 h) (leb h mostSide) b.0 in
+    let a = and-true (leb 1 h && leb h most_side && leb 1 w) (leb w most_side) e in
+    let b = and-true (leb 1 h && leb h most_side) (leb 1 w) a.0 in
+    let c = and-true (leb 1 h) (leb h most_side) b.0 in
     record {
       some-rows = leb-true 1 h c.0;
       some-columns = leb-true 1 w b.1;
-      tall = leb-true h mostSide c.1;
-      wide = leb-true w mostSide a.1;
+      tall = leb-true h most_side c.1;
+      wide = leb-true w most_side a.1;
     }
 
-pub sides-are : (h w : ℕ) → sidesOk h w ≡ true → Sides h w
+pub sides-are : (h w : ℕ) → sides_ok h w ≡ true → Sides h w
 sides-are h w e =
     let s = sides-within h w e in
     record { some-rows = s.some-rows; some-columns = s.some-columns; tall = omega arith; wide = omega arith }
 
 -- the area of accepted sides fits a usize
-pub accepted-area : (h w : ℕ) → sidesOk h w ≡ true → h * w ≤ 4294967296
+pub accepted-area : (h w : ℕ) → sides_ok h w ≡ true → h * w ≤ 4294967296
 accepted-area h w e = let s = sides-are h w e in let m = area-most {h = h} {w = w} s.tall s.wide in omega arith
 
 -- sides within the limits are accepted
-pub sides-accepted : (h w : ℕ) → 1 ≤ h → h ≤ mostSide → 1 ≤ w → w ≤ mostSide → sidesOk h w ≡ true
-sides-accepted h w a b c d = simp (le-leb 1 h a, le-leb h mostSide b, le-leb 1 w c, le-leb w mostSide d)
+pub sides-accepted : (h w : ℕ) → 1 ≤ h → h ≤ most_side → 1 ≤ w → w ≤ most_side → sides_ok h w ≡ true
+sides-accepted h w a b c d = simp (le-leb 1 h a, le-leb h most_side b, le-leb 1 w c, le-leb w most_side d)
 
 -- a work buffer has room for a plane and three lines
 pub three-lines : (h w n : ℕ) → Sides h w → room_for h w ≤ n → h * w + 3 * w ≤ n

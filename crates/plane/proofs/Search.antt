@@ -9,7 +9,7 @@ use native.Mathlib.Numerals.{add-one}
 use native.Mathlib.Omega.{arith}
 use lib.Dec.{ltb}
 use borrow.Author.Tests.{ltb-true, ltb-false}
-use Rattle.plane.specs.Search.{someBelow, countBelow}
+use Rattle.plane.specs.Search.{some_below, count_below}
 
 which-of : (a b : ℕ) (t : Bool) → ltb a b ≡ t → (a < b) ⊎ (b ≤ a)
 which-of a b true e = inl (ltb-true a b e)
@@ -76,62 +76,62 @@ or-false false t e = (refl, e)
 
 module _ (p : ℕ → Bool) where
   -- a search that finds has a place
-  pub some-found : (n : ℕ) → someBelow n p ≡ true → (i : ℕ) × (i < n) × (p i ≡ true)
-  unfolding someBelow
+  pub some-found : (n : ℕ) → some_below n p ≡ true → (i : ℕ) × (i < n) × (p i ≡ true)
+  unfolding some_below
   some-found zero e = not-both false e refl
   some-found (suc n) e =
       ⊎_elim {C = (i : ℕ) × (i < suc n) × (p i ≡ true)}
-      (λ (a : someBelow n p ≡ true). (let z = some-found n a in (z.0, omega (arith, z.1), z.2)))
+      (λ (a : some_below n p ≡ true). (let z = some-found n a in (z.0, omega (arith, z.1), z.2)))
       (λ (a : p n ≡ true). (n, omega arith, a))
-      (or-true (someBelow n p) (p n) e)
+      (or-true (some_below n p) (p n) e)
 
   -- a search that finds nothing has no place
-  pub none_found : (n : ℕ) → someBelow n p ≡ false → (i : ℕ) → i < n → p i ≡ false
-  unfolding someBelow
+  pub none_found : (n : ℕ) → some_below n p ≡ false → (i : ℕ) → i < n → p i ≡ false
+  unfolding some_below
   none_found zero e i l = absurd (not-suc-le-zero l)
   none_found (suc n) e i l =
-      let z = or-false (someBelow n p) (p n) e in
+      let z = or-false (some_below n p) (p n) e in
       below_suc (λ (k : ℕ). p k ≡ false) n (none_found n z.0) z.1 i l
 
   -- a place is found
-  pub some_is : (n i : ℕ) → i < n → p i ≡ true → someBelow n p ≡ true
+  pub some_is : (n i : ℕ) → i < n → p i ≡ true → some_below n p ≡ true
   some_is n i l e =
-      ⊎_elim {C = someBelow n p ≡ true}
-      (λ (a : someBelow n p ≡ true). a)
-      (λ (a : someBelow n p ≡ false). not-both (p i) e (none_found n a i l))
-      (either (someBelow n p))
+      ⊎_elim {C = some_below n p ≡ true}
+      (λ (a : some_below n p ≡ true). a)
+      (λ (a : some_below n p ≡ false). not-both (p i) e (none_found n a i l))
+      (either (some_below n p))
 
   -- and where there is none, nothing is
-  pub none_is : (n : ℕ) → ((i : ℕ) → i < n → p i ≡ false) → someBelow n p ≡ false
+  pub none_is : (n : ℕ) → ((i : ℕ) → i < n → p i ≡ false) → some_below n p ≡ false
   none_is n h =
-      ⊎_elim {C = someBelow n p ≡ false}
-      (λ (a : someBelow n p ≡ true). (let z = some-found n a in not-both (p z.0) z.2 (h z.0 z.1)))
-      (λ (a : someBelow n p ≡ false). a)
-      (either (someBelow n p))
+      ⊎_elim {C = some_below n p ≡ false}
+      (λ (a : some_below n p ≡ true). (let z = some-found n a in not-both (p z.0) z.2 (h z.0 z.1)))
+      (λ (a : some_below n p ≡ false). a)
+      (either (some_below n p))
 
   -- a count is at most n
-  pub count_most : (n : ℕ) → countBelow n p ≤ n
-  unfolding countBelow
+  pub count_most : (n : ℕ) → count_below n p ≤ n
+  unfolding count_below
   count_most zero = omega arith
   count_most (suc n) =
       let z = count_most n in
-      ⊎_elim {C = countBelow n p + cond (p n) 1 0 ≤ suc n}
+      ⊎_elim {C = count_below n p + cond (p n) 1 0 ≤ suc n}
       (λ (a : p n ≡ true). rw a (omega arith))
       (λ (a : p n ≡ false). rw a (omega arith))
       (either (p n))
 
 -- equal tests find alike, and count alike
-pub some_same : (p q : ℕ → Bool) (n : ℕ) → ((i : ℕ) → i < n → p i ≡ q i) → someBelow n p ≡ someBelow n q
-unfolding someBelow
+pub some_same : (p q : ℕ → Bool) (n : ℕ) → ((i : ℕ) → i < n → p i ≡ q i) → some_below n p ≡ some_below n q
+unfolding some_below
 some_same p q zero h = refl
 some_same p q (suc n) h = rw (some_same p q n (λ i l. h i (omega arith)), h n (omega arith))
 
-pub count_same : (p q : ℕ → Bool) (n : ℕ) → ((i : ℕ) → i < n → p i ≡ q i) → countBelow n p ≡ countBelow n q
-unfolding countBelow
+pub count_same : (p q : ℕ → Bool) (n : ℕ) → ((i : ℕ) → i < n → p i ≡ q i) → count_below n p ≡ count_below n q
+unfolding count_below
 count_same p q zero h = refl
 count_same p q (suc n) h = rw (count_same p q n (λ i l. h i (omega arith)), h n (omega arith))
 
 -- one number more is searched
-pub some_more : (p : ℕ → Bool) (i : ℕ) (found t : Bool) → found ≡ someBelow i p → t ≡ p i → (found || t) ≡ someBelow (i + 1) p
-unfolding someBelow
+pub some_more : (p : ℕ → Bool) (i : ℕ) (found t : Bool) → found ≡ some_below i p → t ≡ p i → (found || t) ≡ some_below (i + 1) p
+unfolding some_below
 some_more p i found t e d = rw (add-one i, e, d)

@@ -4,8 +4,8 @@ use Rattle.std.specs.Prelude.{ℕ, zero, suc, ◌+◌, ◌*◌, ◌-◌, ◌≤�
 use Rattle.std.proofs.Math.Option.{Option, none, some}
 
 -- the largest side that the public calls accept (R1)
-abbrev pub mostSide : ℕ
-mostSide = 4096
+abbrev pub most_side : ℕ
+most_side = 4096
 
 -- a byte of a mask (R3): 0 is off, any other on
 unfoldable pub on : ℕ → Bool
@@ -16,8 +16,8 @@ unfoldable pub bit : Bool → ℕ
 bit t = cond t 1 0
 
 -- whether pixel (y, x) of a mask with w columns is on (R3)
-unfoldable pub onAt : List ℕ → ℕ → ℕ → ℕ → Bool
-onAt mask w y x = on (get_or mask (y * w + x) 0)
+unfoldable pub on_at : List ℕ → ℕ → ℕ → ℕ → Bool
+on_at mask w y x = on (get_or mask (y * w + x) 0)
 
 -- how far apart two rows or two columns are (R4)
 unfoldable pub apart : ℕ → ℕ → ℕ
@@ -33,13 +33,13 @@ table f k zero = []
 table f k (suc n) = f k ∷ table f (suc k) n
 
 -- n rows, one after the other (R1)
-unfoldable pub rowsUpto : {A : Type 0} → ℕ → (ℕ → List A) → List A
-rowsUpto zero g = []
-rowsUpto (suc n) g = rowsUpto n g ++ g n
+unfoldable pub rows_upto : {A : Type 0} → ℕ → (ℕ → List A) → List A
+rows_upto zero g = []
+rows_upto (suc n) g = rows_upto n g ++ g n
 
 -- the plane whose element at row y and column x is f y x (R1)
-unfoldable pub planeOf : {A : Type 0} → ℕ → ℕ → (ℕ → ℕ → A) → List A
-planeOf h w f = rowsUpto h (λ (y : ℕ). table (f y) 0 w)
+unfoldable pub plane_of : {A : Type 0} → ℕ → ℕ → (ℕ → ℕ → A) → List A
+plane_of h w f = rows_upto h (λ (y : ℕ). table (f y) 0 w)
 
 -- the index of a pixel that is given by its column and its row; 0 where there is none (R1)
 unfoldable pub index_of : ℕ → Option (ℕ × ℕ) → ℕ

@@ -3,12 +3,12 @@
 ghost use Rattle.std.specs.Prelude.{◌≡◌, not, length};
 ghost use Rattle.plane.specs.Plane.{bit, apart};
 ghost use Rattle.plane.specs.steps.Sides.{Sides};
-ghost use Rattle.plane.specs.Search.{someBelow};
-ghost use Rattle.plane.specs.Mask.{isOn, someOff};
-ghost use Rattle.plane.specs.steps.Complement.{complementOf};
-ghost use Rattle.plane.specs.Refusal.{sidesOk, room_for};
+ghost use Rattle.plane.specs.Search.{some_below};
+ghost use Rattle.plane.specs.Mask.{is_on, some_off};
+ghost use Rattle.plane.specs.steps.Complement.{complement_of};
+ghost use Rattle.plane.specs.Refusal.{sides_ok, room_for};
 
-// The largest side that the public calls accept (mostSide in specs/Plane.antt).
+// The largest side that the public calls accept (most_side in specs/Plane.antt).
 pub const MOST_SIDE: usize = 4096;
 
 // Rows y0 to y1 and columns x0 to x1, ends excluded.
@@ -23,7 +23,7 @@ pub struct Box {
 
 // Whether each side is from 1 to the largest side.
 pub fn sides_ok(h: usize, w: usize) -> bool
-    ensures { result ≡ sidesOk h w }
+    ensures { result ≡ sides_ok h w }
 {
     (1 <= h) & (h <= MOST_SIDE) & (1 <= w) & (w <= MOST_SIDE)
 }
@@ -59,7 +59,7 @@ pub fn apart(a: usize, b: usize) -> usize
 
 // Whether some pixel is on.
 pub fn any(mask: &[u8]) -> bool
-    ensures { result ≡ someBelow (length mask.now) (isOn mask.now) }
+    ensures { result ≡ some_below (length mask.now) (is_on mask.now) }
 {
     let mut found = false;
     let mut i = 0usize;
@@ -72,7 +72,7 @@ pub fn any(mask: &[u8]) -> bool
 
 // Whether some pixel is off.
 pub fn some_off(mask: &[u8]) -> bool
-    ensures { result ≡ someOff mask.now (length mask.now) }
+    ensures { result ≡ some_off mask.now (length mask.now) }
 {
     let mut found = false;
     let mut i = 0usize;
@@ -85,7 +85,7 @@ pub fn some_off(mask: &[u8]) -> bool
 
 // On and off exchanged, in place.
 pub fn complement(mask: &mut [u8])
-    ensures { mask.new ≡ complementOf mask.old }
+    ensures { mask.new ≡ complement_of mask.old }
 {
     let mut i = 0usize;
     while i < mask.len() {

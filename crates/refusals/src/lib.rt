@@ -3,23 +3,23 @@
 // than the first block with a wrong one. Of ground and cut the lengths are judged by one function and what stands in the buffers by
 // another, so that a text with the card's colour is read between the two.
 ghost use Rattle.std.specs.Prelude.{◌≡◌, length};
-ghost use Rattle.plane.specs.Refusal.{refusalOf};
-ghost use Rattle.colour.specs.Colour.{rgbOk};
-ghost use Rattle.outline.specs.Refusal.{workTests, groundLengths, growthLengths, cutLengths, pictureTests, cutContents, growthRefusal};
+ghost use Rattle.plane.specs.Refusal.{refusal_of};
+ghost use Rattle.colour.specs.Colour.{rgb_ok};
+ghost use Rattle.outline.specs.Refusal.{work_tests, ground_lengths, growth_lengths, cut_lengths, picture_tests, cut_contents, growth_refusal};
 
 use card::Card;
 use colour::{Rgb, Settings};
 
 // Whether the three channels of a colour are from 0 to 1.
 fn rgb_ok(c: Rgb) -> bool
-    ensures { result ≡ rgbOk c }
+    ensures { result ≡ rgb_ok c }
 {
     colour::colour_ok(c.r) & colour::colour_ok(c.g) & colour::colour_ok(c.b)
 }
 
 // Ground: the lengths of the colours, the output and the work buffer.
 pub fn ground_lengths(h: usize, w: usize, colours: usize, out: usize, work: usize) -> u32
-    ensures { result ≡ refusalOf (groundLengths h w colours out work) }
+    ensures { result ≡ refusal_of (ground_lengths h w colours out work) }
 {
     if !plane::sides_ok(h, w) {
         return 1;
@@ -46,7 +46,7 @@ fn growth_lengths(
     deep: usize,
     marks: usize,
 ) -> u32
-    ensures { result ≡ refusalOf (growthLengths h w colours back out nearest shallow deep marks) }
+    ensures { result ≡ refusal_of (growth_lengths h w colours back out nearest shallow deep marks) }
 {
     if !plane::sides_ok(h, w) {
         return 1;
@@ -74,7 +74,7 @@ pub fn cut_lengths(
     deep: usize,
     marks: usize,
 ) -> u32
-    ensures { result ≡ refusalOf (cutLengths h w colours alpha mask weights nearest shallow deep marks) }
+    ensures { result ≡ refusal_of (cut_lengths h w colours alpha mask weights nearest shallow deep marks) }
 {
     if !plane::sides_ok(h, w) {
         return 1;
@@ -91,7 +91,7 @@ pub fn cut_lengths(
 
 // Four work buffers that hold at least `least` numbers.
 fn work_lengths(least: usize, nearest: usize, shallow: usize, deep: usize, marks: usize) -> u32
-    ensures { result ≡ refusalOf (workTests least nearest shallow deep marks) }
+    ensures { result ≡ refusal_of (work_tests least nearest shallow deep marks) }
 {
     if (least <= nearest) & (least <= shallow) & (least <= deep) & (least <= marks) {
         return 0;
@@ -101,7 +101,7 @@ fn work_lengths(least: usize, nearest: usize, shallow: usize, deep: usize, marks
 
 // What a picture is declined for: a text that names no card's colour, its colours, then the tolerance.
 pub fn picture_refusal(card: Card, colours: &[f64], tolerance: f64) -> u32
-    ensures { result ≡ refusalOf (pictureTests card colours.now tolerance) }
+    ensures { result ≡ refusal_of (picture_tests card colours.now tolerance) }
 {
     if !card::readable(card) {
         return 11;
@@ -117,7 +117,7 @@ pub fn picture_refusal(card: Card, colours: &[f64], tolerance: f64) -> u32
 
 // What a cut is declined for once its lengths are accepted: the picture, then an alpha that nowhere reaches the threshold.
 pub fn cut_contents(card: Card, colours: &[f64], alpha: &[u8], s: Settings) -> u32
-    ensures { result ≡ refusalOf (cutContents card colours.now alpha.now (length alpha.now) s) }
+    ensures { result ≡ refusal_of (cut_contents card colours.now alpha.now (length alpha.now) s) }
 {
     let picture = picture_refusal(card, colours, s.key_bg_tolerance);
     if picture != 0 {
@@ -142,7 +142,7 @@ pub fn growth_refusal(
     deep: usize,
     marks: usize,
 ) -> u32
-    ensures { result ≡ growthRefusal colours.now back h w reference out nearest shallow deep marks }
+    ensures { result ≡ growth_refusal colours.now back h w reference out nearest shallow deep marks }
 {
     let lengths = growth_lengths(
         h,

@@ -1,13 +1,13 @@
 // The line pass of the dilation by squares: along each row of a mask the running count of the window, block by block of columns. What
 // holds its changes has a fixed size, however long a row is.
 ghost use Rattle.std.specs.Prelude.{◌≡◌, ◌+◌, ◌*◌, ◌≤◌, ◌++◌, length, drop};
-ghost use Rattle.plane.specs.Search.{countBelow};
+ghost use Rattle.plane.specs.Search.{count_below};
 ghost use Rattle.plane.specs.Plane.{table};
-ghost use Rattle.plane.specs.Mask.{isOn};
-ghost use Rattle.plane.specs.steps.Sides.{longestSide};
+ghost use Rattle.plane.specs.Mask.{is_on};
+ghost use Rattle.plane.specs.steps.Sides.{longest_side};
 ghost use Rattle.counts.specs.Running.{running};
-ghost use Rattle.counts.specs.steps.Parts.{fullByte, rest_of};
-ghost use Rattle.row_counts.specs.steps.Rows.{changeLine, tally, ranLine, countedPart, dilatedRow, dilatedRows};
+ghost use Rattle.counts.specs.steps.Parts.{full_byte, rest_of};
+ghost use Rattle.row_counts.specs.steps.Rows.{change_line, tally, ran_line, counted_part, dilated_row, dilated_rows};
 ghost use Rattle.row_counts.specs.steps.Rows.{Changing, Steppable, Stepped, Runnable, Block, Rows, RowPlanes};
 
 // How many columns of a row are stepped at a time, and how many of them a byte runs through.
@@ -17,8 +17,8 @@ const RUN: usize = 64;
 
 // How many pixels of a line are on.
 fn count(line: &[u8]) -> u32
-    requires { length line.now ≤ longestSide }
-    ensures { result ≡ countBelow (length line.now) (isOn line.now) }
+    requires { length line.now ≤ longest_side }
+    ensures { result ≡ count_below (length line.now) (is_on line.now) }
 {
     let mut n = 0u32;
     let mut x = 0usize;
@@ -44,7 +44,7 @@ fn fill(b: u8, out: &mut [u8])
 // leaves.
 fn change_line(enter: &[u8], leave: &[u8], steps: &mut [u8])
     requires { Changing enter.now leave.now steps.old }
-    ensures { steps.new ≡ changeLine enter.now leave.now }
+    ensures { steps.new ≡ change_line enter.now leave.now }
 {
     let mut x = 0usize;
     while x < enter.len() {
@@ -96,8 +96,8 @@ fn row_steps(row: &[u8], k: usize, c: usize, steps: &mut [u8])
 // runs, at first as much of it as is at most 128: so it is 0 only where the count is.
 fn run(steps: &[u8], n: u32, out: &mut [u8]) -> u32
     requires { Runnable steps.now n out.old }
-    ensures value { result ≡ rest_of n + tally steps.now (fullByte n) (length steps.now) }
-    ensures out_after { out.new ≡ ranLine steps.now (fullByte n) }
+    ensures value { result ≡ rest_of n + tally steps.now (full_byte n) (length steps.now) }
+    ensures out_after { out.new ≡ ran_line steps.now (full_byte n) }
 {
     let b = if n < 128 { n } else { 128 };
     let mut v = b as u8;
@@ -114,8 +114,8 @@ fn run(steps: &[u8], n: u32, out: &mut [u8]) -> u32
 // before them; the count after them is handed back.
 fn dilate_block(row: &[u8], k: usize, c: usize, n: u32, out: &mut [u8]) -> u32
     requires { Block row.now k c n out.old }
-    ensures value { result ≡ running (length row.now) k (isOn row.now) (c + length out.old) }
-    ensures out_after { out.new ≡ countedPart row.now k c (length out.old) }
+    ensures value { result ≡ running (length row.now) k (is_on row.now) (c + length out.old) }
+    ensures out_after { out.new ≡ counted_part row.now k c (length out.old) }
 {
     let m = out.len();
     let mut steps = [0u8; BLOCK];
@@ -137,7 +137,7 @@ fn dilate_block(row: &[u8], k: usize, c: usize, n: u32, out: &mut [u8]) -> u32
 // The line pass: each pixel of a row is 1 where the row has an on-pixel at most k away.
 fn dilate_line(row: &[u8], k: usize, out: &mut [u8])
     requires { Rows row.now k out.old }
-    ensures { out.new ≡ dilatedRow row.now k }
+    ensures { out.new ≡ dilated_row row.now k }
 {
     let w = row.len();
     let first = counts::lesser(k, w);
@@ -153,7 +153,7 @@ fn dilate_line(row: &[u8], k: usize, out: &mut [u8])
 // The line pass along each row of a mask.
 pub fn dilate_rows(mask: &[u8], h: usize, w: usize, k: usize, out: &mut [u8])
     requires { RowPlanes mask.now h w k out.old }
-    ensures { out.new ≡ dilatedRows mask.now h w k ++ drop (h * w) out.old }
+    ensures { out.new ≡ dilated_rows mask.now h w k ++ drop (h * w) out.old }
 {
     let mut y = 0usize;
     while y < h {

@@ -9,13 +9,13 @@ use native.Mathlib.Omega.{arith}
 use lib.Dec.{leb}
 use lib.ListN.{length}
 use borrow.Author.Tests.{leb-true, le-leb, lt-leb, ne_eqb}
-use Rattle.plane.specs.Search.{someBelow}
-use Rattle.plane.specs.Plane.{bit, onAt, apart, within}
+use Rattle.plane.specs.Search.{some_below}
+use Rattle.plane.specs.Plane.{bit, on_at, apart, within}
 use Rattle.plane.proofs.Search.{which, some-found, some_is, and_is}
 use Rattle.plane.proofs.Plane.{plane-length}
 use Rattle.plane.proofs.Refusal.{and-true}
-use Rattle.squares.specs.Squares.{larger, reach, inSquare, squaresPlane}
-use Rattle.squares.specs.steps.Radius.{radiusOf}
+use Rattle.squares.specs.Squares.{larger, reach, in_square, squares_plane}
+use Rattle.squares.specs.steps.Radius.{radius_of}
 
 -- ---- the larger side and the k that is used
 
@@ -50,17 +50,17 @@ pub reach-some : (h w n : ℕ) → 0 < n → reach h w n ≡ n
 unfolding reach
 reach-some h w n a = rw (ne_eqb n 0 (λ (e : n ≡ 0). absurd (omega arith)))
 
-pub radius-near : (h w n : ℕ) → reach h w n ≤ larger h w → radiusOf h w n ≡ reach h w n
-unfolding radiusOf
+pub radius-near : (h w n : ℕ) → reach h w n ≤ larger h w → radius_of h w n ≡ reach h w n
+unfolding radius_of
 radius-near h w n a = rw (le-leb (reach h w n) (larger h w) a)
 
-pub radius-far : (h w n : ℕ) → larger h w < reach h w n → radiusOf h w n ≡ larger h w
-unfolding radiusOf
+pub radius-far : (h w n : ℕ) → larger h w < reach h w n → radius_of h w n ≡ larger h w
+unfolding radius_of
 radius-far h w n a = rw (lt-leb (reach h w n) (larger h w) a)
 
-pub radius-most : (h w n : ℕ) → radiusOf h w n ≤ larger h w
+pub radius-most : (h w n : ℕ) → radius_of h w n ≤ larger h w
 radius-most h w n =
-    ⊎_elim {C = radiusOf h w n ≤ larger h w}
+    ⊎_elim {C = radius_of h w n ≤ larger h w}
     (λ (a : larger h w < reach h w n). omega (arith, radius-far h w n a))
     (λ (a : reach h w n ≤ larger h w). omega (arith, radius-near h w n a))
     (which (larger h w) (reach h w n))
@@ -79,18 +79,18 @@ pub record Site (mask : List ℕ) (h w k y x : ℕ) : Type 0 where
   pub column : ℕ
   pub row_in : row < h
   pub column-in : column < w
-  pub lit : onAt mask w row column ≡ true
+  pub lit : on_at mask w row column ≡ true
   pub rows : apart y row ≤ k
   pub columns : apart x column ≤ k
 
 module _ {mask : List ℕ} {h w k y x : ℕ} where
   -- a pixel of the square that is on has a site,
-  pub square-found : inSquare mask h w k y x ≡ true → Site mask h w k y x
-  unfolding inSquare within
+  pub square-found : in_square mask h w k y x ≡ true → Site mask h w k y x
+  unfolding in_square within
   square-found e =
-      let j = some-found (λ (j : ℕ). someBelow w (λ (i : ℕ). onAt mask w j i && within k y x j i)) h e in
-      let i = some-found (λ (i : ℕ). onAt mask w j.0 i && within k y x j.0 i) w j.2 in
-      let both = and-true (onAt mask w j.0 i.0) (within k y x j.0 i.0) i.2 in
+      let j = some-found (λ (j : ℕ). some_below w (λ (i : ℕ). on_at mask w j i && within k y x j i)) h e in
+      let i = some-found (λ (i : ℕ). on_at mask w j.0 i && within k y x j.0 i) w j.2 in
+      let both = and-true (on_at mask w j.0 i.0) (within k y x j.0 i.0) i.2 in
       let near = and-true (leb (apart y j.0) k) (leb (apart x i.0) k) both.1 in
       record {
         row = j.0;
@@ -103,16 +103,16 @@ module _ {mask : List ℕ} {h w k y x : ℕ} where
       }
 
   -- and one with a site is on
-  pub square-is : Site mask h w k y x → inSquare mask h w k y x ≡ true
-  unfolding inSquare within
+  pub square-is : Site mask h w k y x → in_square mask h w k y x ≡ true
+  unfolding in_square within
   square-is s =
       let near = and_is _ _ (le-leb (apart y s.row) k s.rows) (le-leb (apart x s.column) k s.columns) in
-      some_is (λ (j : ℕ). someBelow w (λ (i : ℕ). onAt mask w j i && within k y x j i)) h s.row s.row_in
-      (some_is (λ (i : ℕ). onAt mask w s.row i && within k y x s.row i) w s.column s.column-in
+      some_is (λ (j : ℕ). some_below w (λ (i : ℕ). on_at mask w j i && within k y x j i)) h s.row s.row_in
+      (some_is (λ (i : ℕ). on_at mask w s.row i && within k y x s.row i) w s.column s.column-in
       (and_is _ _ s.lit near))
 
 -- so squares grow with k
-pub square-more : (mask : List ℕ) (h w a b y x : ℕ) → a ≤ b → inSquare mask h w a y x ≡ true → inSquare mask h w b y x ≡ true
+pub square-more : (mask : List ℕ) (h w a b y x : ℕ) → a ≤ b → in_square mask h w a y x ≡ true → in_square mask h w b y x ≡ true
 square-more mask h w a b y x l e =
     let s : Site mask h w a y x = square-found e in
     square-is
@@ -127,8 +127,8 @@ square-more mask h w a b y x l e =
     })
 
 -- the larger side reaches every pixel where one is on
-pub square-all : (mask : List ℕ) (h w y x j i : ℕ) → y < h → x < w → j < h → i < w → onAt mask w j i ≡ true
-    → inSquare mask h w (larger h w) y x ≡ true
+pub square-all : (mask : List ℕ) (h w y x j i : ℕ) → y < h → x < w → j < h → i < w → on_at mask w j i ≡ true
+    → in_square mask h w (larger h w) y x ≡ true
 unfolding apart
 square-all mask h w y x j i a b c d e =
     let most = larger-most h w in
@@ -136,9 +136,9 @@ square-all mask h w y x j i a b c d e =
 
 -- a k from the larger side on acts as the larger side
 square-far : (mask : List ℕ) (h w k y x : ℕ) → y < h → x < w → larger h w ≤ k
-    → inSquare mask h w k y x ≡ inSquare mask h w (larger h w) y x
+    → in_square mask h w k y x ≡ in_square mask h w (larger h w) y x
 square-far mask h w k y x a b l =
-    same_test (inSquare mask h w k y x) (inSquare mask h w (larger h w) y x)
+    same_test (in_square mask h w k y x) (in_square mask h w (larger h w) y x)
     (λ e.
     let s : Site mask h w k y x = square-found e in
     square-all mask h w y x s.row s.column a b s.row_in s.column-in s.lit)
@@ -146,9 +146,9 @@ square-far mask h w k y x a b l =
 
 -- so the k that is used gives the same square
 pub square-radius : (mask : List ℕ) (h w n y x : ℕ) → y < h → x < w
-    → inSquare mask h w (radiusOf h w n) y x ≡ inSquare mask h w (reach h w n) y x
+    → in_square mask h w (radius_of h w n) y x ≡ in_square mask h w (reach h w n) y x
 square-radius mask h w n y x a b =
-    ⊎_elim {C = inSquare mask h w (radiusOf h w n) y x ≡ inSquare mask h w (reach h w n) y x}
+    ⊎_elim {C = in_square mask h w (radius_of h w n) y x ≡ in_square mask h w (reach h w n) y x}
     (λ (l : larger h w < reach h w n). rw (radius-far h w n l) (sym (square-far mask h w (reach h w n) y x a b (omega arith))))
     (λ (l : reach h w n ≤ larger h w). rw (radius-near h w n l))
     (which (larger h w) (reach h w n))
@@ -160,6 +160,6 @@ apart-sum p q r a b s t = omega arith
 
 -- ---- the whole plane
 
-pub squares-length : (mask : List ℕ) (h w n : ℕ) → length (squaresPlane mask h w n) ≡ h * w
-unfolding squaresPlane
-squares-length mask h w n = plane-length h w (λ (y x : ℕ). bit (inSquare mask h w (reach h w n) y x))
+pub squares-length : (mask : List ℕ) (h w n : ℕ) → length (squares_plane mask h w n) ≡ h * w
+unfolding squares_plane
+squares-length mask h w n = plane-length h w (λ (y x : ℕ). bit (in_square mask h w (reach h w n) y x))

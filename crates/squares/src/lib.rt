@@ -1,12 +1,12 @@
 // Squares: the dilation of a mask by a square (binary_dilation8), by a pass along each row and a pass down each column.
 ghost use Rattle.std.specs.Prelude.{◌≡◌};
-ghost use Rattle.squares.specs.Squares.{squaresPlane};
+ghost use Rattle.squares.specs.Squares.{squares_plane};
 ghost use Rattle.squares.specs.Work.{BitOrOld};
-ghost use Rattle.squares.specs.steps.Radius.{radiusOf, Lent};
+ghost use Rattle.squares.specs.steps.Radius.{radius_of, Lent};
 
 // The k that is used: the larger side for iterations 0 and for more iterations than that.
 fn radius(h: usize, w: usize, iterations: u64) -> usize
-    ensures { result ≡ radiusOf h w iterations }
+    ensures { result ≡ radius_of h w iterations }
 {
     let side = if h <= w { w } else { h };
     if iterations == 0 {
@@ -22,7 +22,7 @@ fn radius(h: usize, w: usize, iterations: u64) -> usize
 // goes to work.
 pub fn dilate(mask: &[u8], h: usize, w: usize, iterations: u64, work: &mut [u8], out: &mut [u8])
     requires { Lent mask.now work.old out.old h w }
-    ensures out_after { out.new ≡ squaresPlane mask.now h w iterations }
+    ensures out_after { out.new ≡ squares_plane mask.now h w iterations }
     ensures bit_or_old { BitOrOld work.old work.new }
 {
     let k = radius(h, w, iterations);

@@ -13,11 +13,11 @@ use Rattle.keying.specs.Earlier.{EarlierGround, EarlierCalled}
 use Rattle.keying.proofs.EarlierLaws.{ground-as-before, cut-as-before}
 use Rattle.stand.specs.declared.StandGround.{StandGround}
 use Rattle.stand.specs.declared.StandCut.{StandCut}
-use Rattle.stand.specs.Exports.{Returns, CutReturns, groundValues, cutValues}
+use Rattle.stand.specs.Exports.{Returns, CutReturns, ground_values, cut_values}
 
 pub exported-ground-as-before : (colours : List Float) (h w : ℕ) (t : Float) (work out : List ℕ) (r : StandGround) (work' out' : List ℕ)
-    → Returns groundValues (λ (a : Ground). GroundCalled colours h w Border t work out a work' out') r
-    → Returns groundValues (λ (a : Ground). EarlierGround colours h w t work out a work' out') r
+    → Returns ground_values (λ (a : Ground). GroundCalled colours h w Border t work out a work' out') r
+    → Returns ground_values (λ (a : Ground). EarlierGround colours h w t work out a work' out') r
 exported-ground-as-before colours h w t work out r work' out' e =
     record {
       answer = e.answer;
@@ -27,6 +27,6 @@ exported-ground-as-before colours h w t work out r work' out' e =
 
 pub exported-cut-as-before : (colours : List Float) (alpha : List ℕ) (h w : ℕ) (s : Settings) (b : Buffers) (r : StandCut) (b' : Buffers)
     → CutReturns colours alpha h w Border s b r b'
-    → Returns cutValues (λ (a : Outcome). EarlierCalled colours alpha h w s b a b') r
+    → Returns cut_values (λ (a : Outcome). EarlierCalled colours alpha h w s b a b') r
 exported-cut-as-before colours alpha h w s b r b' e =
     record { answer = e.answer; called = cut-as-before colours alpha h w s b e.answer b' e.called; returned = e.returned }

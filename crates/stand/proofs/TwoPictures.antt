@@ -8,15 +8,15 @@ use Rattle.colour.specs.declared.Settings.{Settings}
 use Rattle.card.specs.declared.Card.{Card}
 use Rattle.outline.specs.declared.Outcome.{Outcome}
 use Rattle.outline.specs.declared.Outcome.TheVariants.{Done, Refused}
-use Rattle.outline.specs.Answer.{refusalOfOutcome}
+use Rattle.outline.specs.Answer.{refusal_of_outcome}
 use Rattle.outline.specs.Calls.{Buffers}
 use Rattle.outline.specs.Premises.{TwoCalls}
 use Rattle.keying.proofs.TwoPictures.{one-outline}
 use Rattle.stand.specs.declared.StandCut.{StandCut}
-use Rattle.stand.specs.Exports.{CutReturns, cutValues, SameCut}
+use Rattle.stand.specs.Exports.{CutReturns, cut_values, SameCut}
 
 -- the number that is handed back is that of the answer
-refusal-handed : (a : Outcome) → (cutValues a).refusal ≡ refusalOfOutcome a
+refusal-handed : (a : Outcome) → (cut_values a).refusal ≡ refusal_of_outcome a
 refusal-handed (Done keyed box) = refl
 refusal-handed (Refused n) = refl
 
@@ -29,9 +29,9 @@ pub exported-alike : (one two : List Float) (alpha : List ℕ) (h w : ℕ) (card
 exported-alike one two alpha h w card card' s t b c b' c' r q calls first second =
     let o = one-outline one two alpha h w card card' s t b c b' c' first.answer second.answer calls first.called second.called in
     let answer = first.answer in
-    let n : r.refusal ≡ refusalOfOutcome answer = ap (λ (z : StandCut). z.refusal) first.returned ∙ refusal-handed answer in
+    let n : r.refusal ≡ refusal_of_outcome answer = ap (λ (z : StandCut). z.refusal) first.returned ∙ refusal-handed answer in
     record {
-      answers = first.returned ∙ ap cutValues o.answers ∙ sym second.returned;
+      answers = first.returned ∙ ap cut_values o.answers ∙ sym second.returned;
       masks = λ e. o.masks (sym n ∙ e);
       weights = λ e. o.weights (sym n ∙ e);
     }

@@ -14,7 +14,7 @@ use Rattle.card.specs.declared.Card.{Card}
 use Rattle.outline.specs.Calls.{Buffers}
 use Rattle.keying.specs.Calls.{Called}
 use Rattle.next_pass.specs.declared.NextPass.{NextPass}
-use Rattle.next_pass.specs.declared.NextPass.TheVariants as nextPass
+use Rattle.next_pass.specs.declared.NextPass.TheVariants as next_pass_is
 use Rattle.stand.specs.declared.StandLabels.{StandLabels}
 use Rattle.stand.specs.declared.StandGround.{StandGround}
 use Rattle.stand.specs.declared.StandCut.{StandCut}
@@ -27,34 +27,34 @@ pub record Returns {A R : Type 0} (values : A → R) (Call : A → Type 0) (r : 
   pub returned : r ≡ values answer
 
 -- labels: the refusal, and the number of parts; 0 where it was declined (R7)
-abbrev pub labelsValues : Labelled → StandLabels
-labelsValues (labelled.Parts n) = record { refusal = 0; parts = n }
-labelsValues (labelled.Refused n) = record { refusal = n; parts = 0 }
+abbrev pub labels_values : Labelled → StandLabels
+labels_values (labelled.Parts n) = record { refusal = 0; parts = n }
+labels_values (labelled.Refused n) = record { refusal = n; parts = 0 }
 
 -- the colour that stands where there is no reference (R22)
-abbrev pub noColour : Rgb
-noColour = record { r = zero64; g = zero64; b = zero64 }
+abbrev pub no_colour : Rgb
+no_colour = record { r = zero64; g = zero64; b = zero64 }
 
 -- ground: the refusal, whether the ground was found, and the reference colour; all +0 where it was not (R22)
-abbrev pub groundValues : Ground → StandGround
-groundValues (ground.Found reference) = record { refusal = 0; found = true; reference = reference }
-groundValues ground.Absent = record { refusal = 0; found = false; reference = noColour }
-groundValues (ground.Refused n) = record { refusal = n; found = false; reference = noColour }
+abbrev pub ground_values : Ground → StandGround
+ground_values (ground.Found reference) = record { refusal = 0; found = true; reference = reference }
+ground_values ground.Absent = record { refusal = 0; found = false; reference = no_colour }
+ground_values (ground.Refused n) = record { refusal = n; found = false; reference = no_colour }
 
 -- the cut: the refusal, whether a ground was sought and found, and the crop box; no and all 0 where it was declined (R33, R35)
-abbrev pub cutValues : Outcome → StandCut
-cutValues (outcome.Done keyed box) =
+abbrev pub cut_values : Outcome → StandCut
+cut_values (outcome.Done keyed box) =
     record { refusal = 0; keyed = keyed; y0 = box.y0; y1 = box.y1; x0 = box.x0; x1 = box.x1 }
-cutValues (outcome.Refused n) = record { refusal = n; keyed = false; y0 = 0; y1 = 0; x0 = 0; x1 = 0 }
+cut_values (outcome.Refused n) = record { refusal = n; keyed = false; y0 = 0; y1 = 0; x0 = 0; x1 = 0 }
 
 -- a look at the coming pass: the refusal, and the number of joins; 0 where it was declined (R90)
-abbrev pub nextPassValues : NextPass → StandNextPass
-nextPassValues (nextPass.Joins n) = record { refusal = 0; joins = n }
-nextPassValues (nextPass.Refused n) = record { refusal = n; joins = 0 }
+abbrev pub next_pass_values : NextPass → StandNextPass
+next_pass_values (next_pass_is.Joins n) = record { refusal = 0; joins = n }
+next_pass_values (next_pass_is.Refused n) = record { refusal = n; joins = 0 }
 
 -- a call of the exported cut on a card, with these buffers, has handed back r and left b' (R70)
 abbrev pub CutReturns : List Float → List ℕ → ℕ → ℕ → Card → Settings → Buffers → StandCut → Buffers → Type 0
-CutReturns colours alpha h w card s b r b' = Returns cutValues (λ (a : Outcome). Called colours alpha h w card s b a b') r
+CutReturns colours alpha h w card s b r b' = Returns cut_values (λ (a : Outcome). Called colours alpha h w card s b a b') r
 
 -- two calls of the exported cut have one outline: they hand back the same number, keyed flag and crop box, and, accepted, the same mask and
 -- the same weights bit for bit (R66)

@@ -3,14 +3,14 @@
 ghost use Rattle.std.specs.Prelude.{◌≡◌};
 ghost use Rattle.geometry.specs.declared.Answer.{Answer};
 ghost use Rattle.geometry.specs.declared.Labelled.{Labelled};
-ghost use Rattle.geometry.specs.Answer.{refusalOfAnswer};
+ghost use Rattle.geometry.specs.Answer.{refusal_of_answer};
 ghost use Rattle.geometry.specs.Calls.{NearestCalled, LabelsCalled, SquaresCalled, DistanceCalled, FillCalled};
 ghost use Rattle.card.specs.declared.Card.TheVariants.{Border};
-ghost use Rattle.card.specs.Card.{cardOf};
+ghost use Rattle.card.specs.Card.{card_of};
 ghost use Rattle.outline.specs.declared.Ground.{Ground};
 ghost use Rattle.keying.specs.Calls.{GroundCalled, GrowthCalled, NextPassCalled};
 ghost use Rattle.next_pass.specs.declared.NextPass.{NextPass};
-ghost use Rattle.stand.specs.Exports.{Returns, CutReturns, labelsValues, groundValues, cutValues, nextPassValues};
+ghost use Rattle.stand.specs.Exports.{Returns, CutReturns, labels_values, ground_values, cut_values, next_pass_values};
 
 use colour::{Rgb, Settings};
 use geometry::Labelled;
@@ -56,7 +56,7 @@ pub struct StandNextPass {
 
 // The values of an answer, as they cross.
 fn labels_values(answer: Labelled) -> StandLabels
-    ensures { result ≡ labelsValues answer }
+    ensures { result ≡ labels_values answer }
 {
     match answer {
         Labelled::Parts(parts) => StandLabels { refusal: 0, parts },
@@ -65,7 +65,7 @@ fn labels_values(answer: Labelled) -> StandLabels
 }
 
 fn ground_values(answer: Ground) -> StandGround
-    ensures { result ≡ groundValues answer }
+    ensures { result ≡ ground_values answer }
 {
     let none = Rgb {
         r: 0.0,
@@ -92,7 +92,7 @@ fn ground_values(answer: Ground) -> StandGround
 }
 
 fn cut_values(answer: Outcome) -> StandCut
-    ensures { result ≡ cutValues answer }
+    ensures { result ≡ cut_values answer }
 {
     match answer {
         Outcome::Done(keyed, crop) => StandCut {
@@ -115,7 +115,7 @@ fn cut_values(answer: Outcome) -> StandCut
 }
 
 fn next_pass_values(answer: NextPass) -> StandNextPass
-    ensures { result ≡ nextPassValues answer }
+    ensures { result ≡ next_pass_values answer }
 {
     match answer {
         NextPass::Joins(joins) => StandNextPass { refusal: 0, joins },
@@ -133,7 +133,7 @@ pub extern "C" fn stand_nearest(
     rows: &mut [i32],
     cols: &mut [i32],
 ) -> u32
-    ensures { Returns refusalOfAnswer (λ (a : Answer). NearestCalled mask.now h w
+    ensures { Returns refusal_of_answer (λ (a : Answer). NearestCalled mask.now h w
         work.old rows.old cols.old a
         work.new rows.new cols.new) result }
 {
@@ -149,7 +149,7 @@ pub extern "C" fn stand_labels(
     parents: &mut [u32],
     labels: &mut [u32],
 ) -> StandLabels
-    ensures { Returns labelsValues (λ (a : Labelled). LabelsCalled mask.now h w
+    ensures { Returns labels_values (λ (a : Labelled). LabelsCalled mask.now h w
         parents.old labels.old a
         parents.new labels.new) result }
 {
@@ -166,7 +166,7 @@ pub extern "C" fn stand_squares(
     work: &mut [u8],
     out: &mut [u8],
 ) -> u32
-    ensures { Returns refusalOfAnswer (λ (a : Answer). SquaresCalled mask.now h w iterations
+    ensures { Returns refusal_of_answer (λ (a : Answer). SquaresCalled mask.now h w iterations
         work.old out.old a
         work.new out.new) result }
 {
@@ -182,7 +182,7 @@ pub extern "C" fn stand_distance(
     work: &mut [u32],
     out: &mut [u32],
 ) -> u32
-    ensures { Returns refusalOfAnswer (λ (a : Answer). DistanceCalled mask.now h w
+    ensures { Returns refusal_of_answer (λ (a : Answer). DistanceCalled mask.now h w
         work.old out.old a
         work.new out.new) result }
 {
@@ -199,7 +199,7 @@ pub extern "C" fn stand_fill(
     work: &mut [u32],
     out: &mut [u64],
 ) -> u32
-    ensures { Returns refusalOfAnswer (λ (a : Answer). FillCalled colours.now mask.now h w
+    ensures { Returns refusal_of_answer (λ (a : Answer). FillCalled colours.now mask.now h w
         work.old out.old a
         work.new out.new) result }
 {
@@ -260,7 +260,7 @@ pub extern "C" fn stand_cut_with_colour(
     mask: &mut [u8],
     weights: &mut [f64],
 ) -> StandCut
-    ensures { CutReturns colours.now alpha.now h w (cardOf text.now) settings
+    ensures { CutReturns colours.now alpha.now h w (card_of text.now) settings
         (record {
           mask = mask.entry.now;
           weights = weights.old;
@@ -293,7 +293,7 @@ pub extern "C" fn stand_ground(
     work: &mut [u32],
     out: &mut [u8],
 ) -> StandGround
-    ensures { Returns groundValues (λ (a : Ground). GroundCalled colours.now h w Border tolerance
+    ensures { Returns ground_values (λ (a : Ground). GroundCalled colours.now h w Border tolerance
         work.old out.old a
         work.new out.new) result }
 {
@@ -311,7 +311,7 @@ pub extern "C" fn stand_ground_with_colour(
     work: &mut [u32],
     out: &mut [u8],
 ) -> StandGround
-    ensures { Returns groundValues (λ (a : Ground). GroundCalled colours.now h w (cardOf text.now) tolerance
+    ensures { Returns ground_values (λ (a : Ground). GroundCalled colours.now h w (card_of text.now) tolerance
         work.old out.old a
         work.new out.new) result }
 {
@@ -333,7 +333,7 @@ pub extern "C" fn stand_growth(
     marks: &mut [u8],
     out: &mut [u8],
 ) -> u32
-    ensures { Returns refusalOfAnswer (λ (a : Answer).
+    ensures { Returns refusal_of_answer (λ (a : Answer).
         GrowthCalled colours.now background.now h w reference passes
         (record {
           out = out.entry.now;
@@ -369,7 +369,7 @@ pub extern "C" fn stand_next_pass(
     marks: &mut [u8],
     out: &mut [u8],
 ) -> StandNextPass
-    ensures { Returns nextPassValues (λ (a : NextPass).
+    ensures { Returns next_pass_values (λ (a : NextPass).
         NextPassCalled colours.now background.now h w reference
         (record {
           out = out.entry.now;

@@ -14,7 +14,7 @@ use lib.Seq.{take-suc, drop-cons}
 use borrow.Author.Tests.{le-leb, lt-leb, leb-true}
 use Rattle.plane.proofs.Search.{which, either, and_is}
 use Rattle.plane.proofs.Refusal.{and-true}
-use Rattle.text.specs.Decimal.{isDigit, allDigits, valueFrom, value_of, digitsUpto, decimalUpto, decimal}
+use Rattle.text.specs.Decimal.{is_digit, all_digits, value_from, value_of, digits_upto, decimal_upto, decimal}
 
 -- ---- digits
 
@@ -22,19 +22,19 @@ pub record Digit (b : ℕ) : Type 0 where
   pub least : 48 ≤ b
   pub most : b ≤ 57
 
-pub digit-is : (b : ℕ) → isDigit b ≡ true → Digit b
-unfolding isDigit
+pub digit-is : (b : ℕ) → is_digit b ≡ true → Digit b
+unfolding is_digit
 digit-is b e =
     let a = and-true (leb 48 b) (leb b 57) e in
     record { least = leb-true 48 b a.0; most = leb-true b 57 a.1 }
 
-is_digit : (d : ℕ) → d < 10 → isDigit (48 + d) ≡ true
-unfolding isDigit
-is_digit d l = and_is _ _ (le-leb 48 (48 + d) (omega arith)) (le-leb (48 + d) 57 (omega arith))
+is_digit_lem : (d : ℕ) → d < 10 → is_digit (48 + d) ≡ true
+unfolding is_digit
+is_digit_lem d l = and_is _ _ (le-leb 48 (48 + d) (omega arith)) (le-leb (48 + d) 57 (omega arith))
 
 module _ (text : List ℕ) where
   -- a digit stands inside the text
-  pub digit-inside : (at : ℕ) → isDigit (get_or text at 0) ≡ true → at < length text
+  pub digit-inside : (at : ℕ) → is_digit (get_or text at 0) ≡ true → at < length text
   digit-inside at e =
       ⊎_elim {C = at < length text}
       (λ (l : at < length text). l)
@@ -44,48 +44,48 @@ module _ (text : List ℕ) where
       absurd (omega (arith, d.least)))
       (which at (length text))
 
-  pub digits-most : (k at : ℕ) → digitsUpto k text at ≤ k
-  unfolding digitsUpto
+  pub digits-most : (k at : ℕ) → digits_upto k text at ≤ k
+  unfolding digits_upto
   digits-most zero at = omega arith
-  digits-most (suc k) at = at-most (isDigit (get_or text at 0)) (digitsUpto k text (suc at)) k (digits-most k (suc at))
+  digits-most (suc k) at = at-most (is_digit (get_or text at 0)) (digits_upto k text (suc at)) k (digits-most k (suc at))
     where
       at-most : (t : Bool) (a b : ℕ) → a ≤ b → cond t (suc a) 0 ≤ suc b
       at-most true a b l = omega arith
       at-most false a b l = omega arith
 
-  pub digits_more : (k m at i : ℕ) → k ≡ suc m → isDigit (get_or text (at + i) 0) ≡ true
-      → i + digitsUpto k text (at + i) ≡ (i + 1) + digitsUpto m text (at + (i + 1))
-  unfolding digitsUpto
+  pub digits_more : (k m at i : ℕ) → k ≡ suc m → is_digit (get_or text (at + i) 0) ≡ true
+      → i + digits_upto k text (at + i) ≡ (i + 1) + digits_upto m text (at + (i + 1))
+  unfolding digits_upto
   digits_more k m at i e d =
       let s : suc (at + i) ≡ at + (i + 1) = omega arith in
       rw (e, d, s) (omega arith)
 
-  pub digits-end : (k at : ℕ) → isDigit (get_or text at 0) ≡ false → digitsUpto k text at ≡ 0
-  unfolding digitsUpto
+  pub digits-end : (k at : ℕ) → is_digit (get_or text at 0) ≡ false → digits_upto k text at ≡ 0
+  unfolding digits_upto
   digits-end zero at d = refl
   digits-end (suc k) at d = rw d
 
-  pub digits-past : (k at : ℕ) → length text ≤ at → digitsUpto k text at ≡ 0
-  unfolding isDigit
-  digits-past k at l = digits-end k at (ap isDigit (get_or-eq_default text 0 l))
+  pub digits-past : (k at : ℕ) → length text ≤ at → digits_upto k text at ≡ 0
+  unfolding is_digit
+  digits-past k at l = digits-end k at (ap is_digit (get_or-eq_default text 0 l))
 
-  pub digits-start : (k at : ℕ) → digitsUpto k text at ≡ 0 + digitsUpto (k - 0) text (at + 0)
+  pub digits-start : (k at : ℕ) → digits_upto k text at ≡ 0 + digits_upto (k - 0) text (at + 0)
   digits-start k at = let e : k - 0 ≡ k = omega arith in rw (e, add-zero at) (omega arith)
 
   -- what stands there: so many digits, all inside the text
   pub record Stand (k at : ℕ) : Type 0 where
-    pub inside : 1 ≤ digitsUpto k text at → at + digitsUpto k text at ≤ length text
-    pub all : allDigits (take (digitsUpto k text at) (drop at text)) ≡ true
+    pub inside : 1 ≤ digits_upto k text at → at + digits_upto k text at ≤ length text
+    pub all : all_digits (take (digits_upto k text at) (drop at text)) ≡ true
 
   pub stand : (k at : ℕ) → Stand k at
-  unfolding digitsUpto allDigits
+  unfolding digits_upto all_digits
   stand zero at = record { inside = λ l. absurd (omega arith); all = refl }
   stand (suc k) at =
       ⊎_elim {C = Stand (suc k) at}
-      (λ (d : isDigit (get_or text at 0) ≡ true).
+      (λ (d : is_digit (get_or text at 0) ≡ true).
       let l = digit-inside at d in
       let r = stand k (suc at) in
-      let n = digitsUpto k text (suc at) in
+      let n = digits_upto k text (suc at) in
       record {
         inside =
             λ g.
@@ -96,31 +96,31 @@ module _ (text : List ℕ) where
             (which n 1));
         all = rw (d, drop-cons text at 0 l) (and_is _ _ d r.all);
       })
-      (λ (d : isDigit (get_or text at 0) ≡ false). record { inside = λ g. absurd (let z : 1 ≤ 0 = rw d at g in omega arith); all = rw d })
-      (either (isDigit (get_or text at 0)))
+      (λ (d : is_digit (get_or text at 0) ≡ false). record { inside = λ g. absurd (let z : 1 ≤ 0 = rw d at g in omega arith); all = rw d })
+      (either (is_digit (get_or text at 0)))
 
 -- ---- values
 
-pub value-append : (v b : ℕ) (l : List ℕ) → valueFrom v (l ++ (b ∷ [])) ≡ 10 * valueFrom v l + (b - 48)
-unfolding valueFrom
+pub value-append : (v b : ℕ) (l : List ℕ) → value_from v (l ++ (b ∷ [])) ≡ 10 * value_from v l + (b - 48)
+unfolding value_from
 value-append v b [] = refl
 value-append v b (a ∷ l) = value-append (10 * v + (a - 48)) b l
 
 pub value-more : (l : List ℕ) (i : ℕ) → i < length l → value_of (take (i + 1) l) ≡ 10 * value_of (take i l) + (get_or l i 0 - 48)
 value-more l i g = ap (λ (k : ℕ). value_of (take k l)) (add-one i) ∙ ap value_of (take-suc l i 0 g) ∙ value-append 0 (get_or l i 0) (take i l)
 
-pub digit_at : (l : List ℕ) (i : ℕ) → allDigits l ≡ true → i < length l → isDigit (get_or l i 0) ≡ true
-unfolding allDigits
+pub digit_at : (l : List ℕ) (i : ℕ) → all_digits l ≡ true → i < length l → is_digit (get_or l i 0) ≡ true
+unfolding all_digits
 digit_at [] i e g = absurd (omega arith)
-digit_at (b ∷ l) zero e g = (and-true (isDigit b) (allDigits l) e).0
-digit_at (b ∷ l) (suc i) e g = digit_at l i (and-true (isDigit b) (allDigits l) e).1 (omega arith)
+digit_at (b ∷ l) zero e g = (and-true (is_digit b) (all_digits l) e).0
+digit_at (b ∷ l) (suc i) e g = digit_at l i (and-true (is_digit b) (all_digits l) e).1 (omega arith)
 
 -- i digits have a value below 10 ^ i
-pub value-below : (v k : ℕ) (l : List ℕ) → allDigits l ≡ true → v < 10 ^ k → valueFrom v l < 10 ^ (k + length l)
-unfolding valueFrom allDigits
+pub value-below : (v k : ℕ) (l : List ℕ) → all_digits l ≡ true → v < 10 ^ k → value_from v l < 10 ^ (k + length l)
+unfolding value_from all_digits
 value-below v k [] e g = rw (add-zero k) g
 value-below v k (b ∷ l) e g =
-    let a = and-true (isDigit b) (allDigits l) e in
+    let a = and-true (is_digit b) (all_digits l) e in
     let d = digit-is b a.0 in
     let s : k + suc (length l) ≡ suc k + length l = omega arith in
     let n : 10 * v + (b - 48) < 10 ^ suc k = rw (pow-succ' 10 k) (omega (arith, d.most)) in
@@ -132,27 +132,27 @@ tenth-less : (n k : ℕ) → 10 ≤ n → n ≤ suc k → n / 10 ≤ k
 tenth-less n k l g = omega (arith, div-add-mod' n 10)
 
 -- more steps give the same digits
-enough : (k m n : ℕ) → n ≤ k → n ≤ m → decimalUpto k n ≡ decimalUpto m n
-unfolding decimalUpto
+enough : (k m n : ℕ) → n ≤ k → n ≤ m → decimal_upto k n ≡ decimal_upto m n
+unfolding decimal_upto
 enough zero zero n a b = refl
 enough zero (suc m) n a b = rw (lt-leb 10 n (omega arith))
 enough (suc k) zero n a b = rw (lt-leb 10 n (omega arith))
 enough (suc k) (suc m) n a b =
-    ⊎_elim {C = decimalUpto (suc k) n ≡ decimalUpto (suc m) n}
+    ⊎_elim {C = decimal_upto (suc k) n ≡ decimal_upto (suc m) n}
     (λ (l : n < 10). rw (lt-leb 10 n l))
     (λ (l : 10 ≤ n). rw (le-leb 10 n l, enough k m (n / 10) (tenth-less n k l a) (tenth-less n m l b)))
     (which n 10)
 
 pub decimal-one : (n : ℕ) → n < 10 → decimal n ≡ (48 + n) ∷ []
-unfolding decimal decimalUpto
+unfolding decimal decimal_upto
 decimal-one n l = one n
   where
-    one : (k : ℕ) → decimalUpto k n ≡ (48 + n) ∷ []
+    one : (k : ℕ) → decimal_upto k n ≡ (48 + n) ∷ []
     one zero = refl
     one (suc k) = rw (lt-leb 10 n l)
 
 pub decimal-more : (n : ℕ) → 10 ≤ n → decimal n ≡ decimal (n / 10) ++ ((48 + n % 10) ∷ [])
-unfolding decimal decimalUpto
+unfolding decimal decimal_upto
 decimal-more zero l = absurd (omega arith)
 decimal-more (suc n) l =
     let g : suc n / 10 ≤ n = tenth-less (suc n) n l (omega arith) in
@@ -172,7 +172,7 @@ by-tenths P one more n = upto n n (omega arith)
 
 -- reading what was written gives the number back
 pub decimal-value : (n : ℕ) → value_of (decimal n) ≡ n
-unfolding valueFrom
+unfolding value_from
 decimal-value = by-tenths (λ (n : ℕ). value_of (decimal n) ≡ n) value-one value-tenth
   where
     value-one : (n : ℕ) → n < 10 → value_of (decimal n) ≡ n

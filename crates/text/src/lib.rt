@@ -1,7 +1,7 @@
 // Text in a buffer of bytes: decimal numbers read and written, and bytes put at a place. A function that writes does so from a
 // place on and answers the place after what it wrote.
 ghost use Rattle.std.specs.Prelude.{◌≡◌, true, [], ◌∷◌, ◌+◌, ◌<◌, ◌≤◌, length, get_or};
-ghost use Rattle.text.specs.Decimal.{isDigit, allDigits, digitsUpto, value_of, numberUpto, decimal};
+ghost use Rattle.text.specs.Decimal.{is_digit, all_digits, digits_upto, value_of, number_upto, decimal};
 ghost use Rattle.text.specs.steps.Writing.{Wrote};
 
 // The byte at a place, 0 past the end.
@@ -12,14 +12,14 @@ pub fn byte_at(text: &[u8], at: usize) -> u8
 }
 
 fn is_digit(b: u8) -> bool
-    ensures { result ≡ isDigit b }
+    ensures { result ≡ is_digit b }
 {
     (b'0' <= b) & (b <= b'9')
 }
 
 // How many digits stand from a place on, at most so many.
 pub fn digits(text: &[u8], at: usize, most: usize) -> usize
-    ensures { result ≡ digitsUpto most text.now at }
+    ensures { result ≡ digits_upto most text.now at }
 {
     if text.len() < at {
         return 0;
@@ -36,7 +36,7 @@ pub fn digits(text: &[u8], at: usize, most: usize) -> usize
 
 // A digit's value.
 fn digit(b: u8) -> u64
-    requires { isDigit b ≡ true }
+    requires { is_digit b ≡ true }
     ensures { 48 + result ≡ b }
 {
     (b - b'0') as u64
@@ -44,7 +44,7 @@ fn digit(b: u8) -> u64
 
 // The value of digits.
 fn value(digits: &[u8]) -> u64
-    requires { (allDigits digits.now ≡ true) × (length digits.now ≤ 19) }
+    requires { (all_digits digits.now ≡ true) × (length digits.now ≤ 19) }
     ensures { result ≡ value_of digits.now }
 {
     let mut v = 0u64;
@@ -59,7 +59,7 @@ fn value(digits: &[u8]) -> u64
 // The number that stands at a place, of at most so many digits; 0 where there is none.
 pub fn read_number(text: &[u8], at: usize, most: usize) -> u64
     requires { most ≤ 19 }
-    ensures { result ≡ numberUpto most text.now at }
+    ensures { result ≡ number_upto most text.now at }
 {
     let n = digits(text, at, most);
     if n == 0 {

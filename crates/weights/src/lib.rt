@@ -1,15 +1,15 @@
 // Alpha and weights: which alpha reaches the threshold, the mask of those that do, and the weight of each pixel.
 ghost use Rattle.std.specs.Prelude.{◌≡◌, ℕ, length, get_or};
 ghost use Rattle.plane.specs.Plane.{table};
-ghost use Rattle.plane.specs.Search.{someBelow};
+ghost use Rattle.plane.specs.Search.{some_below};
 ghost use Rattle.plane.specs.Mask.{mask_of};
-ghost use Rattle.colour.specs.Settings.{onOf};
-ghost use Rattle.outline.specs.Cut.{weightsOf};
-ghost use Rattle.weights.specs.steps.Weight.{onWeight, weightFor};
+ghost use Rattle.colour.specs.Settings.{on_of};
+ghost use Rattle.outline.specs.Cut.{weights_of};
+ghost use Rattle.weights.specs.steps.Weight.{on_weight, weight_for};
 
 // Whether some alpha reaches the threshold.
 pub fn some_reach(alpha: &[u8], threshold: i64) -> bool
-    ensures { result ≡ someBelow (length alpha.now) (λ (i : ℕ). onOf (get_or alpha.now i 0) threshold) }
+    ensures { result ≡ some_below (length alpha.now) (λ (i : ℕ). on_of (get_or alpha.now i 0) threshold) }
 {
     let mut found = false;
     let mut i = 0usize;
@@ -24,7 +24,7 @@ pub fn some_reach(alpha: &[u8], threshold: i64) -> bool
 pub fn reach(alpha: &[u8], threshold: i64, mask: &mut [u8])
     requires { length mask.old ≡ length alpha.now }
     ensures { mask.new ≡ mask_of (length alpha.now)
-        (λ (i : ℕ). onOf (get_or alpha.now i 0) threshold) }
+        (λ (i : ℕ). on_of (get_or alpha.now i 0) threshold) }
 {
     let mut i = 0usize;
     while i < mask.len() {
@@ -35,7 +35,7 @@ pub fn reach(alpha: &[u8], threshold: i64, mask: &mut [u8])
 
 // The weight of an on-pixel by its alpha, which counts as 1 where it is 0.
 fn on_weight(alpha: u8) -> f64
-    ensures { result ≡ onWeight alpha }
+    ensures { result ≡ on_weight alpha }
 {
     if alpha == 0 {
         return colour::weights::weight(1);
@@ -46,7 +46,7 @@ fn on_weight(alpha: u8) -> f64
 // The weights of all on-pixels, by alpha.
 fn on_weights(out: &mut [f64])
     requires { length out.old ≡ 256 }
-    ensures { out.new ≡ table onWeight 0 256 }
+    ensures { out.new ≡ table on_weight 0 256 }
 {
     let mut v = 0usize;
     while v < 256 {
@@ -57,8 +57,8 @@ fn on_weights(out: &mut [f64])
 
 // The weight of a pixel.
 fn weigh(entries: &[f64], m: u8, alpha: u8) -> f64
-    requires { entries.now ≡ table onWeight 0 256 }
-    ensures { result ≡ weightFor m alpha }
+    requires { entries.now ≡ table on_weight 0 256 }
+    ensures { result ≡ weight_for m alpha }
 {
     if m == 0 {
         return 0.0;
@@ -69,8 +69,8 @@ fn weigh(entries: &[f64], m: u8, alpha: u8) -> f64
 // The weights of the plane, from the table.
 fn weigh_all(entries: &[f64], mask: &[u8], alpha: &[u8], out: &mut [f64])
     requires mask_len { (length mask.now ≡ length out.old) × (length alpha.now ≡ length out.old) }
-    requires entries_value { entries.now ≡ table onWeight 0 256 }
-    ensures { out.new ≡ weightsOf mask.now alpha.now (length out.old) }
+    requires entries_value { entries.now ≡ table on_weight 0 256 }
+    ensures { out.new ≡ weights_of mask.now alpha.now (length out.old) }
 {
     let mut i = 0usize;
     while i < out.len() {
@@ -82,7 +82,7 @@ fn weigh_all(entries: &[f64], mask: &[u8], alpha: &[u8], out: &mut [f64])
 // The weights of the plane.
 pub fn weights(mask: &[u8], alpha: &[u8], out: &mut [f64])
     requires { (length mask.now ≡ length out.old) × (length alpha.now ≡ length out.old) }
-    ensures { out.new ≡ weightsOf mask.now alpha.now (length out.old) }
+    ensures { out.new ≡ weights_of mask.now alpha.now (length out.old) }
 {
     let mut entries = [0.0f64; 256];
     on_weights(&mut entries);

@@ -10,48 +10,48 @@ use native.Mathlib.Omega.{arith}
 use lib.Dec.{leb, ltb}
 use lib.ListN.{length}
 use borrow.Author.Tests.{leb-true, le-leb, lt-leb, ltb-true, lt-ltb}
-use Rattle.plane.specs.Plane.{onAt, apart, index_of}
-use Rattle.plane.specs.Search.{someBelow}
+use Rattle.plane.specs.Plane.{on_at, apart, index_of}
+use Rattle.plane.specs.Search.{some_below}
 use Rattle.plane.proofs.Plane.{pixel-in, row_of, column-of, index-of}
 use Rattle.plane.proofs.Search.{which, not-both, some-found, or_left, or_right}
 use Rattle.plane.proofs.Refusal.{and-true}
 use Rattle.line.proofs.Squares.{square_le, square-lt}
-use Rattle.nearest.specs.Nearest.{nearest, away, distanceTo}
+use Rattle.nearest.specs.Nearest.{nearest, away, distance_to}
 use Rattle.nearest.proofs.Laws.{nearest-some, nearest-none, nearest-is}
-use Rattle.plane.specs.Mask.{isOn}
+use Rattle.plane.specs.Mask.{is_on}
 use Rattle.labels.proofs.Steps.{row_is, column-is}
-use Rattle.outline.specs.Growth.{bodyReach, isReach}
-use Rattle.window.specs.steps.Window.{nearPixel, upOn, downOn, levelOn, Inside, Gap, Chosen, Searched}
+use Rattle.outline.specs.Growth.{body_reach, is_reach}
+use Rattle.window.specs.steps.Window.{near_pixel, up_on, down_on, level_on, Inside, Gap, Chosen, Searched}
 
 module _ (deep : List ℕ) (h w y i : ℕ) where
-  up_is : (k : ℕ) → k ≤ y → onAt deep w k i ≡ true → upOn deep w y i (apart y k) ≡ true
-  unfolding upOn apart
+  up_is : (k : ℕ) → k ≤ y → on_at deep w k i ≡ true → up_on deep w y i (apart y k) ≡ true
+  unfolding up_on apart
   up_is k l e = let q : y - apart y k ≡ k = omega arith in rw (le-leb (apart y k) y (omega arith), q, e)
 
-  down_is : (k : ℕ) → k < h → y ≤ k → onAt deep w k i ≡ true → downOn deep h w y i (apart y k) ≡ true
-  unfolding downOn apart
+  down_is : (k : ℕ) → k < h → y ≤ k → on_at deep w k i ≡ true → down_on deep h w y i (apart y k) ≡ true
+  unfolding down_on apart
   down_is k g l e = let q : y + apart y k ≡ k = omega arith in rw (q, lt-ltb k h g, e)
 
   -- an on-pixel of column i is found at its distance from row y
-  level-is : (k : ℕ) → k < h → onAt deep w k i ≡ true → levelOn deep h w y i (apart y k) ≡ true
-  unfolding levelOn
+  level-is : (k : ℕ) → k < h → on_at deep w k i ≡ true → level_on deep h w y i (apart y k) ≡ true
+  unfolding level_on
   level-is k g e =
-      ⊎_elim {C = upOn deep w y i (apart y k) || downOn deep h w y i (apart y k) ≡ true}
-      (λ (l : k < y). or_left (upOn deep w y i (apart y k)) (downOn deep h w y i (apart y k)) (up_is k (omega arith) e))
-      (λ (l : y ≤ k). or_right (upOn deep w y i (apart y k)) (downOn deep h w y i (apart y k)) (down_is k g l e))
+      ⊎_elim {C = up_on deep w y i (apart y k) || down_on deep h w y i (apart y k) ≡ true}
+      (λ (l : k < y). or_left (up_on deep w y i (apart y k)) (down_on deep h w y i (apart y k)) (up_is k (omega arith) e))
+      (λ (l : y ≤ k). or_right (up_on deep w y i (apart y k)) (down_on deep h w y i (apart y k)) (down_is k g l e))
       (which k y)
 
   -- no on-pixel of the column is nearer to row y than the gap
-  gap-least : {across far e : ℕ} → Gap deep h w y i across far e → (k : ℕ) → k < h → onAt deep w k i ≡ true → e ≤ apart y k
+  gap-least : {across far e : ℕ} → Gap deep h w y i across far e → (k : ℕ) → k < h → on_at deep w k i ≡ true → e ≤ apart y k
   gap-least {across} {far} {e} p k g t =
       ⊎_elim
-      (λ (l : apart y k < e). not-both (levelOn deep h w y i (apart y k)) (level-is k g t) (p.before (apart y k) l))
+      (λ (l : apart y k < e). not-both (level_on deep h w y i (apart y k)) (level-is k g t) (p.before (apart y k) l))
       (λ (l : e ≤ apart y k). l)
       (which (apart y k) e)
 
 -- no on-pixel in the first c columns is nearer to (y, x) than far
 abbrev Least : List ℕ → ℕ → ℕ → ℕ → ℕ → ℕ → ℕ → Type 0
-Least deep h w y x c far = (k l : ℕ) → k < h → l < c → onAt deep w k l ≡ true → far ≤ away y x k l
+Least deep h w y x c far = (k l : ℕ) → k < h → l < c → on_at deep w k l ≡ true → far ≤ away y x k l
 
 module _ {deep : List ℕ} {h w y x i d e far at : ℕ} (inside : Inside deep h w y i) (side : d ≡ apart x i)
     (gap : Gap deep h w y i (d * d) far e) (so_far : Searched deep h w y x i far at) where
@@ -78,8 +78,8 @@ module _ {deep : List ℕ} {h w y x i d e far at : ℕ} (inside : Inside deep h 
   abbrev pub Taken : ℕ → Type 0
   Taken j = (j * w + i < length deep) × Searched deep h w y x (i + 1) (d * d + e * e) (j * w + i)
 
-  taken : (j : ℕ) → d * d + e * e < far → j < h → apart y j ≡ e → onAt deep w j i ≡ true
-      → ((k : ℕ) → k < j → onAt deep w k i ≡ true → e < apart y k) → Taken j
+  taken : (j : ℕ) → d * d + e * e < far → j < h → apart y j ≡ e → on_at deep w j i ≡ true
+      → ((k : ℕ) → k < j → on_at deep w k i ≡ true → e < apart y k) → Taken j
   taken j f g q t first = (
     omega (arith, pixel-in j i h w g inside.column, inside.long),
     record {
@@ -101,19 +101,19 @@ module _ {deep : List ℕ} {h w y x i d e far at : ℕ} (inside : Inside deep h 
   )
 
   -- the one above, if it is there
-  pub taken-up : d * d + e * e < far → upOn deep w y i e ≡ true → (e ≤ y) × Taken (y - e)
-  unfolding upOn apart
+  pub taken-up : d * d + e * e < far → up_on deep w y i e ≡ true → (e ≤ y) × Taken (y - e)
+  unfolding up_on apart
   taken-up f u =
-      let z = and-true (leb e y) (onAt deep w (y - e) i) u in
+      let z = and-true (leb e y) (on_at deep w (y - e) i) u in
       let l = leb-true e y z.0 in
       (l, taken (y - e) f (omega (arith, inside.row)) (omega arith) z.1 (λ k m t. omega arith))
 
   -- else the one below
-  pub taken-down : d * d + e * e < far → upOn deep w y i e ≡ false → Taken (y + e)
-  unfolding levelOn downOn apart
+  pub taken-down : d * d + e * e < far → up_on deep w y i e ≡ false → Taken (y + e)
+  unfolding level_on down_on apart
   taken-down f u =
-      let both : downOn deep h w y i e ≡ true = rw u at (gap.here f) in
-      let z = and-true (ltb (y + e) h) (onAt deep w (y + e) i) both in
+      let both : down_on deep h w y i e ≡ true = rw u at (gap.here f) in
+      let z = and-true (ltb (y + e) h) (on_at deep w (y + e) i) both in
       let l = ltb-true (y + e) h z.0 in
       taken (y + e) f l (omega arith) z.1
       (λ k m t.
@@ -122,22 +122,22 @@ module _ {deep : List ℕ} {h w y x i d e far at : ℕ} (inside : Inside deep h 
       (λ (q : e < apart y k). q)
       (λ (q : apart y k ≤ e).
       (let r : apart y k ≡ e = omega arith in
-      not-both (upOn deep w y i e) (rw r at (up_is deep h w y i k (omega arith) t)) u))
+      not-both (up_on deep w y i e) (rw r at (up_is deep h w y i k (omega arith) t)) u))
       (which e (apart y k))))
 
 module _ (deep : List ℕ) (h w y x : ℕ) where
   -- columns more than 6 away are too far
-  outside : (k l : ℕ) → 7 ≤ apart x l → bodyReach + 1 ≤ away y x k l
+  outside : (k l : ℕ) → 7 ≤ apart x l → body_reach + 1 ≤ away y x k l
   unfolding away
   outside k l g = omega (arith, square_le {a = 7} {b = apart x l} g)
 
   -- nothing is searched yet
-  pub started : (c : ℕ) → c ≤ x - 6 → Searched deep h w y x c (bodyReach + 1) (h * w)
+  pub started : (c : ℕ) → c ≤ x - 6 → Searched deep h w y x c (body_reach + 1) (h * w)
   unfolding apart
   started c l = record { low = omega arith; least = λ k m g q t. outside k m (omega arith); found = inl (refl, refl) }
 
-  chosen_is : (far at : ℕ) → Least deep h w y x w far → Chosen deep h w y x far at → at ≡ nearPixel deep h w y x
-  unfolding nearPixel isReach index_of distanceTo
+  chosen_is : (far at : ℕ) → Least deep h w y x w far → Chosen deep h w y x far at → at ≡ near_pixel deep h w y x
+  unfolding near_pixel is_reach index_of distance_to
   chosen_is far at least p =
       let e : nearest deep h w y x ≡ some (p.i, p.j) =
       nearest-is deep h w y x p.i p.j
@@ -149,27 +149,27 @@ module _ (deep : List ℕ) (h w y x : ℕ) where
         first-column = λ k l g m t. omega (arith, p.first-column k l g m t, p.distance);
         first-row = λ k g t. omega (arith, p.first-row k g t, p.distance);
       }) in
-      rw (e, le-leb (away y x p.j p.i) bodyReach (omega (arith, p.distance, p.reached))) p.place
+      rw (e, le-leb (away y x p.j p.i) body_reach (omega (arith, p.distance, p.reached))) p.place
 
-  none_is : (r : Option (ℕ × ℕ)) → nearest deep h w y x ≡ r → Least deep h w y x w (bodyReach + 1) → isReach y x r ≡ false
-  unfolding isReach distanceTo
+  none_is : (r : Option (ℕ × ℕ)) → nearest deep h w y x ≡ r → Least deep h w y x w (body_reach + 1) → is_reach y x r ≡ false
+  unfolding is_reach distance_to
   none_is none e least = refl
   none_is (some q) e least =
       let p = nearest-some deep h w y x q.0 q.1 e in
-      lt-leb (away y x q.1 q.0) bodyReach (omega (arith, least q.1 q.0 p.row_inside p.column-inside p.is-on))
+      lt-leb (away y x q.1 q.0) body_reach (omega (arith, least q.1 q.0 p.row_inside p.column-inside p.is-on))
 
   -- no deep pixel is near enough
-  pub near_none : isReach y x (nearest deep h w y x) ≡ false → nearPixel deep h w y x ≡ h * w
-  unfolding nearPixel
+  pub near_none : is_reach y x (nearest deep h w y x) ≡ false → near_pixel deep h w y x ≡ h * w
+  unfolding near_pixel
   near_none e = rw e
 
   -- one is
-  pub near-some : isReach y x (nearest deep h w y x) ≡ true → nearPixel deep h w y x ≡ index_of w (nearest deep h w y x)
-  unfolding nearPixel
+  pub near-some : is_reach y x (nearest deep h w y x) ≡ true → near_pixel deep h w y x ≡ index_of w (nearest deep h w y x)
+  unfolding near_pixel
   near-some e = rw e
 
   -- all columns that are near enough are searched
-  pub finished : (c far at : ℕ) → (c ≡ w) ⊎ (c ≡ x + 7) → Searched deep h w y x c far at → at ≡ nearPixel deep h w y x
+  pub finished : (c far at : ℕ) → (c ≡ w) ⊎ (c ≡ x + 7) → Searched deep h w y x c far at → at ≡ near_pixel deep h w y x
   unfolding apart
   finished c far at done s =
       let least : Least deep h w y x w far =
@@ -182,24 +182,24 @@ module _ (deep : List ℕ) (h w y x : ℕ) where
       (λ (z : c ≡ x + 7). omega (arith, outside k l (omega arith), s.low))
       done)
       (which l c) in
-      ⊎_elim {C = at ≡ nearPixel deep h w y x}
-      (λ (p : (far ≡ bodyReach + 1) × (at ≡ h * w)). p.1 ∙ sym (near_none (none_is (nearest deep h w y x) refl (rw p.0 at least))))
+      ⊎_elim {C = at ≡ near_pixel deep h w y x}
+      (λ (p : (far ≡ body_reach + 1) × (at ≡ h * w)). p.1 ∙ sym (near_none (none_is (nearest deep h w y x) refl (rw p.0 at least))))
       (chosen_is far at least)
       s.found
 
-  near-cases : 0 < w → someBelow (h * w) (isOn deep) ≡ true → (r : Option (ℕ × ℕ)) → nearest deep h w y x ≡ r → (b : ℕ) → b ≡ index_of w r
-      → cond (leb (away y x (b / w) (b % w)) bodyReach) b (h * w) ≡ cond (isReach y x r) (index_of w r) (h * w)
-  unfolding isReach distanceTo index_of isOn onAt
+  near-cases : 0 < w → some_below (h * w) (is_on deep) ≡ true → (r : Option (ℕ × ℕ)) → nearest deep h w y x ≡ r → (b : ℕ) → b ≡ index_of w r
+      → cond (leb (away y x (b / w) (b % w)) body_reach) b (h * w) ≡ cond (is_reach y x r) (index_of w r) (h * w)
+  unfolding is_reach distance_to index_of is_on on_at
   near-cases wide has none e b f =
-      let z = some-found (isOn deep) (h * w) has in
+      let z = some-found (is_on deep) (h * w) has in
       let off = nearest-none deep h w y x e (z.0 / w) (z.0 % w) (row_of z.0 h w wide z.1) (column-of z.0 w wide) in
-      not-both (isOn deep z.0) z.2 (rw (index-of z.0 w) at off)
+      not-both (is_on deep z.0) z.2 (rw (index-of z.0 w) at off)
   near-cases wide has (some q) e b f =
       let p = nearest-some deep h w y x q.0 q.1 e in
       rw (f, row_is q.1 q.0 w p.column-inside, column-is q.1 q.0 w p.column-inside)
 
   -- the nearest deep pixel where it is near enough, by its index
-  pub near-index : 0 < w → someBelow (h * w) (isOn deep) ≡ true → (b : ℕ) → b ≡ index_of w (nearest deep h w y x)
-      → cond (leb (away y x (b / w) (b % w)) bodyReach) b (h * w) ≡ nearPixel deep h w y x
-  unfolding nearPixel
+  pub near-index : 0 < w → some_below (h * w) (is_on deep) ≡ true → (b : ℕ) → b ≡ index_of w (nearest deep h w y x)
+      → cond (leb (away y x (b / w) (b % w)) body_reach) b (h * w) ≡ near_pixel deep h w y x
+  unfolding near_pixel
   near-index wide has b e = near-cases wide has (nearest deep h w y x) refl b e

@@ -2,16 +2,16 @@
 ghost use Rattle.std.specs.Prelude.{◌≡◌, cond, ◌+◌, ◌*◌, ◌<◌, ◌≤◌, ◌/◌, ◌%◌, leb, length};
 ghost use Rattle.plane.specs.steps.Sides.{Sides};
 ghost use Rattle.nearest.specs.Nearest.{away};
-ghost use Rattle.outline.specs.Growth.{bodyReach};
-ghost use Rattle.window.specs.steps.Window.{nearPixel, upOn, downOn, Inside, Gap, Searched, Made};
+ghost use Rattle.outline.specs.Growth.{body_reach};
+ghost use Rattle.window.specs.steps.Window.{near_pixel, up_on, down_on, Inside, Gap, Searched, Made};
 
-// One more than the squared distance up to which a deep pixel gives the body colour (bodyReach).
+// One more than the squared distance up to which a deep pixel gives the body colour (body_reach).
 const TOO_FAR: usize = 37;
 
 // Whether the pixel of column i that is e rows above row y is there, and on;
 fn up(deep: &[u8], h: usize, w: usize, y: usize, i: usize, e: usize) -> bool
     requires { Inside deep.now h w y i }
-    ensures { result ≡ upOn deep.now w y i e }
+    ensures { result ≡ up_on deep.now w y i e }
 {
     if y < e {
         return false;
@@ -24,7 +24,7 @@ fn up(deep: &[u8], h: usize, w: usize, y: usize, i: usize, e: usize) -> bool
 fn down(deep: &[u8], h: usize, w: usize, y: usize, i: usize, e: usize) -> bool
     requires inside { Inside deep.now h w y i }
     requires e_bound { e ≤ 7 }
-    ensures { result ≡ downOn deep.now h w y i e }
+    ensures { result ≡ down_on deep.now h w y i e }
 {
     let j = y + e;
     if h <= j {
@@ -88,7 +88,7 @@ fn column(deep: &[u8], h: usize, w: usize, y: usize, x: usize, i: usize, best: B
 // The deep pixel nearest to (y, x) where it is near enough, else h * w: the columns at most 6 away, from the left.
 fn window(deep: &[u8], h: usize, w: usize, y: usize, x: usize) -> usize
     requires { Inside deep.now h w y x }
-    ensures { result ≡ nearPixel deep.now h w y x }
+    ensures { result ≡ near_pixel deep.now h w y x }
 {
     let from = if x < 6 { 0 } else { x - 6 };
     let to = if x + 7 < w { x + 7 } else { w };
@@ -108,7 +108,7 @@ fn window(deep: &[u8], h: usize, w: usize, y: usize, x: usize) -> usize
 fn reached(h: usize, w: usize, y: usize, x: usize, b: usize) -> usize
     requires sides { Sides h w }
     requires y_lt_h { (y < h) × (x < w) × (b < h * w) }
-    ensures { result ≡ cond (leb (away y x (b / w) (b % w)) bodyReach) b (h * w) }
+    ensures { result ≡ cond (leb (away y x (b / w) (b % w)) body_reach) b (h * w) }
 {
     let dy = plane::apart(y, b / w);
     let dx = plane::apart(x, b % w);
@@ -125,7 +125,7 @@ pub fn near_pixel(deep: &[u8], nearest: &[u32], made: bool, h: usize, w: usize, 
     requires deep_len { length deep.now ≡ h * w }
     requires made { Made deep.now nearest.now made h w }
     requires i_bound { i < h * w }
-    ensures { result ≡ nearPixel deep.now h w (i / w) (i % w) }
+    ensures { result ≡ near_pixel deep.now h w (i / w) (i % w) }
 {
     let y = i / w;
     let x = i % w;

@@ -53,37 +53,37 @@ use mathlib.Core.List.{List, [], _∷_, map}
 use Prim.Native.Nat.{ℕ, _*_}
 use lib.IntN.{ℤ, pos, negsuc}
 use lib.Dec.{T, eqb}
-use lib.Ieee.{Float, binary64, lt, le, eq, add, sub, mul, div, neg, ofInt, ofBits, toBits}
-use Rattle·plane.specs.Plane.{on, bit, onAt, apart, within, table, rowsUpto, planeOf, indexOf}
-use Rattle·plane.specs.Search.{someBelow, countBelow, firstBelow, lastBelow}
-use Rattle·plane.specs.Mask.{isOn, maskOf, someOff}
-use Rattle·plane.specs.Box.{rowHas, columnHas, lesserOf, boxOf, wholeOf}
-use Rattle·plane.specs.Refusal.{roomFor, refusalOf}
+use lib.Ieee.{Float, binary64, lt, le, eq, add, sub, mul, div, neg, of_int, of_bits, to_bits}
+use Rattle·plane.specs.Plane.{on, bit, on_at, apart, within, table, rows_upto, plane_of, index_of}
+use Rattle·plane.specs.Search.{some_below, count_below, first_below, last_below}
+use Rattle·plane.specs.Mask.{is_on, mask_of, some_off}
+use Rattle·plane.specs.Box.{row_has, column_has, lesser_of, box_of, whole_of}
+use Rattle·plane.specs.Refusal.{room_for, refusal_of}
 use Rattle·line.specs.Walk.{lower}
-use Rattle·line.specs.Grid.{valueOf, walk, upto, grid, plus}
-use Rattle·nearest.specs.Nearest.{rowCost, nearest, away, distanceTo}
-use Rattle·squares.specs.Squares.{inSquare}
-use Rattle·labels.specs.Labels.{beside, renamed, merge, joinTwo, joinWith, joinUpto, firstPixel}
+use Rattle·line.specs.Grid.{value_of, walk, upto, grid, plus}
+use Rattle·nearest.specs.Nearest.{row_cost, nearest, away, distance_to}
+use Rattle·squares.specs.Squares.{in_square}
+use Rattle·labels.specs.Labels.{beside, renamed, merge, join_two, join_with, join_upto, first_pixel}
 use Rattle·colour.specs.declared.Rgb.{Rgb}
 use Rattle·colour.specs.declared.Settings.{Settings}
-use Rattle·colour.specs.Number.{absOf, larger, plusZero, halfOf}
-use Rattle·colour.specs.Colour.{differenceOf, closeTo, colourOk, coloursOk, rgbOk}
-use Rattle·colour.specs.Join.{joinsOf}
-use Rattle·colour.specs.Settings.{passesOf, onOf}
-use Rattle·colour.specs.Weight.{weightOf}
+use Rattle·colour.specs.Number.{abs_of, larger, plus_zero, half_of}
+use Rattle·colour.specs.Colour.{difference_of, close_to, colour_ok, colours_ok, rgb_ok}
+use Rattle·colour.specs.Join.{joins_of}
+use Rattle·colour.specs.Settings.{passes_of, on_of}
+use Rattle·colour.specs.Weight.{weight_of}
 use Rattle·card.specs.declared.Card.{Card}
 use Rattle·card.specs.declared.Card.the-variants.{Border}
-use Rattle·card.specs.Hex.{hexOf, allHex}
-use Rattle·card.specs.Card.{isColourText, textChannel, textColour, cardOf}
-use Rattle·median.specs.Median.{insert, sorted, placed, lowerMiddle, upperMiddle, medianOf}
-use Rattle·outline·specs.specs.Border.{rowPixels, innerColumn, borderList, listed, onBorder}
-use Rattle·outline·specs.specs.Border.{channelAt, colourAt, referenceChannel, referenceOf}
-use Rattle·outline·specs.specs.Ground.{isClose, closePlane, isGround, groundFrom, groundOf, countOn, foundFrom, isFound}
-use Rattle·outline·specs.specs.Growth.{nearGround, isEdge, isShallow, isDeep, isReach, bodyFrom, joinsFrom}
-use Rattle·outline·specs.specs.Growth.{isJoining, passOf, growthOf}
-use Rattle·outline·specs.specs.Cut.{Cut, alphaMask, isSought, isKeyed, grownGround, cutMask, weightAt, weightsOf, cropOf, cutOf}
-use Rattle·outline·specs.specs.Refusal.{workTests, pictureTests, cutLengths, cutContents, cutRefusal}
-use Rattle·outline·specs.specs.Calls.{cutIn}
+use Rattle·card.specs.Hex.{hex_of, all_hex}
+use Rattle·card.specs.Card.{is_colour_text, text_channel, text_colour, card_of}
+use Rattle·median.specs.Median.{insert, sorted, placed, lower_middle, upper_middle, median_of}
+use Rattle·outline·specs.specs.Border.{row_pixels, inner_column, border_list, listed, on_border}
+use Rattle·outline·specs.specs.Border.{channel_at, colour_at, reference_channel, reference_of}
+use Rattle·outline·specs.specs.Ground.{is_close, close_plane, is_ground, ground_from, ground_of, count_on, found_from, is_found}
+use Rattle·outline·specs.specs.Growth.{near_ground, is_edge, is_shallow, is_deep, is_reach, body_from, joins_from}
+use Rattle·outline·specs.specs.Growth.{is_joining, pass_of, growth_of}
+use Rattle·outline·specs.specs.Cut.{Cut, alpha_mask, is_sought, is_keyed, grown_ground, cut_mask, weight_at, weights_of, crop_of, cut_of}
+use Rattle·outline·specs.specs.Refusal.{work_tests, picture_tests, cut_lengths, cut_contents, cut_refusal}
+use Rattle·outline·specs.specs.Calls.{cut_in}
 
 same : List ℕ → List ℕ → Bool
 same [] [] = true
@@ -92,10 +92,10 @@ same (k ∷ l) [] = false
 same (k ∷ l) (n ∷ m) = eqb k n && same l m
 
 f64 : ℕ → Float
-f64 n = ofBits binary64 n
+f64 n = of_bits binary64 n
 
 bits : Float → ℕ
-bits x = toBits binary64 x
+bits x = to_bits binary64 x
 
 settings : ℤ → Bool → ℤ → ℕ → Bool → Settings
 settings threshold key p tolerance crop =
@@ -113,7 +113,7 @@ rgb r g b = record { r = f64 r; g = f64 g; b = f64 b }
 -- the refusal, with buffers that fit
 refused : List Float → List ℕ → ℕ → ℕ → Card → Settings → ℕ → Bool
 refused colours alpha h w card s number =
-    eqb (cutRefusal colours alpha h w card s (h * w) (h * w) (roomFor h w) (roomFor h w) (roomFor h w) (roomFor h w)) number
+    eqb (cut_refusal colours alpha h w card s (h * w) (h * w) (room_for h w) (room_for h w) (room_for h w) (room_for h w)) number
 
 -- a cut with this mask, these weights, this flag and this box
 isCut : Cut → List ℕ → List ℕ → Bool → List ℕ → Bool
@@ -126,32 +126,32 @@ isCut c mask weights keyed box =
 -- accepted, with these
 cutIs : List Float → List ℕ → ℕ → ℕ → Card → Settings → List ℕ → List ℕ → Bool → List ℕ → Bool
 cutIs colours alpha h w card s mask weights keyed box =
-    refused colours alpha h w card s 0 && isCut (cutIn colours alpha h w card s) mask weights keyed box
+    refused colours alpha h w card s 0 && isCut (cut_in colours alpha h w card s) mask weights keyed box
 
 growthIs : List Float → Rgb → ℕ → ℕ → ℕ → List ℕ → List ℕ → Bool
-growthIs colours reference h w p back grown = same (growthOf colours reference h w p back) grown
+growthIs colours reference h w p back grown = same (growth_of colours reference h w p back) grown
 
 ";
 
-    const UNFOLDING: &str = "unfolding same f64 bits settings rgb refused isCut cutIs growthIs on bit onAt apart within \
-        table rowsUpto planeOf indexOf someBelow countBelow firstBelow lastBelow isOn maskOf someOff rowHas columnHas \
-        lesserOf boxOf wholeOf refusalOf lower valueOf walk upto grid plus rowCost nearest away distanceTo inSquare beside \
-        renamed merge joinTwo joinWith joinUpto firstPixel absOf larger plusZero halfOf differenceOf closeTo \
-        colourOk coloursOk rgbOk joinsOf passesOf onOf weightOf insert sorted placed lowerMiddle upperMiddle medianOf \
-        rowPixels innerColumn borderList listed onBorder channelAt colourAt referenceChannel referenceOf isClose \
-        closePlane isGround groundFrom groundOf countOn foundFrom isFound nearGround isEdge isShallow isDeep isReach \
-        bodyFrom joinsFrom isJoining passOf growthOf alphaMask isSought isKeyed grownGround cutMask weightAt weightsOf \
-        cropOf cutOf workTests pictureTests cutLengths cutContents cutRefusal hexOf allHex isColourText textChannel \
-        textColour cardOf lt le eq add sub mul div neg ofInt ofBits toBits";
+    const UNFOLDING: &str = "unfolding same f64 bits settings rgb refused isCut cutIs growthIs on bit on_at apart within \
+        table rows_upto plane_of index_of some_below count_below first_below last_below is_on mask_of some_off row_has column_has \
+        lesser_of box_of whole_of refusal_of lower value_of walk upto grid plus row_cost nearest away distance_to in_square beside \
+        renamed merge join_two join_with join_upto first_pixel abs_of larger plus_zero half_of difference_of close_to \
+        colour_ok colours_ok rgb_ok joins_of passes_of on_of weight_of insert sorted placed lower_middle upper_middle median_of \
+        row_pixels inner_column border_list listed on_border channel_at colour_at reference_channel reference_of is_close \
+        close_plane is_ground ground_from ground_of count_on found_from is_found near_ground is_edge is_shallow is_deep is_reach \
+        body_from joins_from is_joining pass_of growth_of alpha_mask is_sought is_keyed grown_ground cut_mask weight_at weights_of \
+        crop_of cut_of work_tests picture_tests cut_lengths cut_contents cut_refusal hex_of all_hex is_colour_text text_channel \
+        text_colour card_of lt le eq add sub mul div neg of_int of_bits to_bits";
 
     /// What the tests of looks use beside the rest.
     const LOOK_USE: &str =
-        "use Rattle·next_pass·specs.specs.NextPass.{nextBackground, newlyOn, joinsIn}\n";
+        "use Rattle·next_pass·specs.specs.NextPass.{next_background, newly_on, joins_in}\n";
 
     const LOOK: &str = "\
 lookIs : List Float → Rgb → ℕ → ℕ → List ℕ → List ℕ → ℕ → Bool
 lookIs colours reference h w back next joins =
-    same (nextBackground colours reference h w back) next && eqb (joinsIn colours reference h w back) joins
+    same (next_background colours reference h w back) next && eqb (joins_in colours reference h w back) joins
 
 ";
 
@@ -269,7 +269,7 @@ lookIs colours reference h w back next joins =
             crop_to_alpha,
         } = drawn.settings;
         let card = match given {
-            Some(text) => format!("(cardOf {})", list(text.bytes())),
+            Some(text) => format!("(card_of {})", list(text.bytes())),
             None => "Border".into(),
         };
         format!(
@@ -437,7 +437,7 @@ lookIs colours reference h w back next joins =
             "{}{LOOK}",
             head.replacen("\nsame :", &format!("{LOOK_USE}\nsame :"), 1)
         );
-        let unfolding = format!("{UNFOLDING} lookIs nextBackground newlyOn joinsIn");
+        let unfolding = format!("{UNFOLDING} lookIs next_background newly_on joins_in");
         for i in 0..number {
             let test = look(&mut random, &mut count);
             println!("\nt{i} : T ({test})\n{unfolding}\nt{i} = tt");

@@ -7,12 +7,12 @@ use Prim.Native.Nat.{ℕ, ◌+◌, ◌*◌, ◌-◌, ◌≤◌}
 use native.Mathlib.Omega.{arith}
 use lib.ListN.{length, length-take}
 use borrow.Author.Rules.{rules}
-use Rattle.plane.specs.Plane.{onAt}
-use Rattle.plane.specs.Search.{firstBelow, lastBelow}
-use Rattle.plane.specs.Box.{rowHas, boxOf}
+use Rattle.plane.specs.Plane.{on_at}
+use Rattle.plane.specs.Search.{first_below, last_below}
+use Rattle.plane.specs.Box.{row_has, box_of}
 use Rattle.plane.proofs.Plane.{row_in}
 use Rattle.plane.proofs.Bounds.{last-most}
-use Rattle.bounds.proofs.Rows.{Row, rowPart, row-part, row_first, row_last}
+use Rattle.bounds.proofs.Rows.{Row, row_part, row-part, row_first, row_last}
 use Rattle.bounds.proofs.Rows.{Edges, no_edges, edges_none, edges_some, left_in, right-in}
 use Rattle.bounds.proofs.Laws.{lesser-is}
 use Rattle.bounds.proofs.box_of.Statement.{statement}
@@ -42,7 +42,7 @@ module _ (c : tie.In-loop invariant-loop decreases-loop) where
   row_inside : y * w + w ≤ length mask
   row_inside = omega (arith, row_in y start.args.h w c.loop-test.true, start.pre)
 
-  row : Row mask w y (rowPart mask w y)
+  row : Row mask w y (row_part mask w y)
   row = row-part mask start.args.h w y start.pre.1.0 c.loop-test.true
 
 abbrev in-loop : tie.After-first invariant-loop decreases-loop → tie.In-loop invariant-loop decreases-loop
@@ -56,7 +56,7 @@ slice-aggregate-first c =
 
 -- the last column so far lies within the row
 last-here : (c : tie.After-first invariant-loop decreases-loop)
-    → (in-loop c).before.loop.x1 ≤ length (rowPart (mask (in-loop c)) (w (in-loop c)) (y (in-loop c)))
+    → (in-loop c).before.loop.x1 ≤ length (row_part (mask (in-loop c)) (w (in-loop c)) (y (in-loop c)))
 last-here c = omega (arith, (row (in-loop c)).long, right-in (in-loop c).before.loop.invariant.1)
 
 -- after both searches
@@ -68,12 +68,12 @@ module _ (c : tie.After-last invariant-loop decreases-loop) where
   loop = here.before
 
   abbrev pixel : ℕ → Bool
-  pixel = onAt (mask here) (w here) (y here)
+  pixel = on_at (mask here) (w here) (y here)
 
-  left : c.before.before.first.result ≡ firstBelow loop.loop.x0 pixel
+  left : c.before.before.first.result ≡ first_below loop.loop.x0 pixel
   left = c.before.before.first.ensures ∙ row_first (row here) _ (left_in loop.loop.inv.1)
 
-  right : c.last.result ≡ lastBelow (w here - loop.loop.x1) (λ (i : ℕ). pixel (loop.loop.x1 + i))
+  right : c.last.result ≡ last_below (w here - loop.loop.x1) (λ (i : ℕ). pixel (loop.loop.x1 + i))
   right = c.last.ensures ∙ row_last (row here) _ _ (right-in loop.loop.inv.1) refl
 
   right-here : loop.loop.x1 + c.last.result ≤ w here
@@ -84,7 +84,7 @@ module _ (c : tie.After-last invariant-loop decreases-loop) where
 end-requires : tie.Need-end-requires invariant-loop decreases-loop
 end-requires c κs =
     let s = c.before.before.before.before.before in
-    let most = last-most (rowHas s.args.mask.now s.args.w) s.args.h in
+    let most = last-most (row_has s.args.mask.now s.args.w) s.args.h in
     (omega (arith, c.before.last_row.ensures, s.requires.0.tall), s.requires.1.1)
 
 end-requires-2 : tie.Need-end-requires-2 invariant-loop decreases-loop
@@ -94,7 +94,7 @@ end-requires-2 c κs =
     (omega (arith, right-in loop.loop.invariant.1, s.requires.0.wide), s.requires.1.1)
 
 returns : tie.Need-returns invariant-loop decreases-loop
-unfolding boxOf
+unfolding box_of
 returns c =
     let loop = c.before.before.before.before.before.before in
     let a = loop.before.before.args in

@@ -8,7 +8,7 @@ use lib.ListN.{length}
 use borrow.Author.Rules.{rules}
 use borrow.Author.Count.{below_none, below_more}
 use borrow.Author.Tests.{not-true}
-use Rattle.plane.specs.Mask.{isOn}
+use Rattle.plane.specs.Mask.{is_on}
 use Rattle.plane.proofs.Search.{none_found}
 use Rattle.plane.proofs.Bounds.{first-is, first-none}
 use Rattle.bounds.proofs.Rows.{byte-on, byte-off}
@@ -16,7 +16,7 @@ use Rattle.bounds.proofs.first.Statement.{statement}
 use Rattle.bounds.proofs.first.Tie as tie
 
 abbrev invariant-loop : tie.invariant-loop
-invariant-loop line i₀ i = (i ≤ length line) × ((k : ℕ) → k < i → isOn line k ≡ false)
+invariant-loop line i₀ i = (i ≤ length line) × ((k : ℕ) → k < i → is_on line k ≡ false)
 
 abbrev decreases-loop : tie.decreases-loop
 decreases-loop line i₀ i = length line - i

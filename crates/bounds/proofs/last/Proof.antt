@@ -6,8 +6,8 @@ use native.Mathlib.Omega.{arith}
 use lib.ListN.{length}
 use borrow.Author.Rules.{rules}
 use borrow.Author.Tests.{not-true}
-use Rattle.plane.specs.Search.{lastBelow}
-use Rattle.plane.specs.Mask.{isOn}
+use Rattle.plane.specs.Search.{last_below}
+use Rattle.plane.specs.Mask.{is_on}
 use Rattle.plane.proofs.Search.{none_found}
 use Rattle.plane.proofs.Bounds.{last_none}
 use Rattle.bounds.proofs.Rows.{byte-on, byte-off, last_step}
@@ -15,7 +15,7 @@ use Rattle.bounds.proofs.last.Statement.{statement}
 use Rattle.bounds.proofs.last.Tie as tie
 
 abbrev invariant-loop : tie.invariant-loop
-invariant-loop line i₀ i = (i ≤ length line) × (lastBelow (length line) (isOn line) ≡ lastBelow i (isOn line))
+invariant-loop line i₀ i = (i ≤ length line) × (last_below (length line) (is_on line) ≡ last_below i (is_on line))
 
 abbrev decreases-loop : tie.decreases-loop
 decreases-loop line i₀ i = i
@@ -34,7 +34,7 @@ loop-again c =
     (omega arith, l.invariant.1 ∙ last_step _ l.i (l.i - 1) _ (omega arith) (sym (byte-off _ _ c.if2.false)))
 
 returns-3 : tie.Need-returns-3 invariant-loop decreases-loop
-unfolding lastBelow
+unfolding last_below
 returns-3 c = let e : c.before.loop.i ≡ 0 = omega arith in sym (c.before.loop.invariant.1 ∙ rw e)
 
 pub last-spec : {M : Type 1} → statement M

@@ -6,15 +6,15 @@ use Prim.Native.Nat.{ℕ, ◌+◌, ◌*◌, ◌-◌, ◌≤◌}
 use native.Mathlib.Omega.{arith}
 use lib.ListN.{length}
 use borrow.Author.Rules.{rules}
-use Rattle.plane.specs.Search.{lastBelow}
-use Rattle.plane.specs.Box.{rowHas}
+use Rattle.plane.specs.Search.{last_below}
+use Rattle.plane.specs.Box.{row_has}
 use Rattle.plane.proofs.Plane.{row_in}
 use Rattle.bounds.proofs.Rows.{last_step, row-part, row-some}
 use Rattle.bounds.proofs.last_row.Statement.{statement}
 use Rattle.bounds.proofs.last_row.Tie as tie
 
 abbrev invariant-loop : tie.invariant-loop
-invariant-loop mask h w y₀ y = (y ≤ h) × (lastBelow h (rowHas mask w) ≡ lastBelow y (rowHas mask w))
+invariant-loop mask h w y₀ y = (y ≤ h) × (last_below h (row_has mask w) ≡ last_below y (row_has mask w))
 
 abbrev decreases-loop : tie.decreases-loop
 decreases-loop mask h w y₀ y = y
@@ -38,16 +38,16 @@ module _ (c : tie.After-any invariant-loop decreases-loop) where
   h = loop.before.before.args.h
 
   abbrev has : ℕ → Bool
-  has = rowHas loop.before.before.args.mask.now loop.before.before.args.w
+  has = row_has loop.before.before.args.mask.now loop.before.before.args.w
 
   here : c.any.result ≡ has (y - 1)
   here = c.any.ensures ∙ row-some (row-part _ _ _ (y - 1) loop.before.before.pre (omega arith))
 
-  last-here : {t : Bool} → c.any.result ≡ t → lastBelow h has ≡ cond t (y - 1) (lastBelow (y - 1) has)
+  last-here : {t : Bool} → c.any.result ≡ t → last_below h has ≡ cond t (y - 1) (last_below (y - 1) has)
   last-here e = loop.loop.inv.1 ∙ last_step has y (y - 1) _ (omega arith) (sym e ∙ here)
 
 returns-2 : tie.Need-returns-2 invariant-loop decreases-loop
-unfolding lastBelow
+unfolding last_below
 returns-2 c = let e : c.before.loop.y ≡ 0 = omega arith in sym (c.before.loop.invariant.1 ∙ rw e)
 
 pub last-row-spec : {M : Type 1} → statement M

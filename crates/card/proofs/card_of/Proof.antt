@@ -5,25 +5,25 @@ use mathlib.Core.Bool.{true}
 use native.Mathlib.Omega.{arith}
 use borrow.Author.Rules.{rules}
 use borrow.Author.Tests.{ne_eqb, eq-eqb, not-true, not-false}
-use Rattle.card.specs.Card.{isColourText, textColour, cardOf}
+use Rattle.card.specs.Card.{is_colour_text, text_colour, card_of}
 use Rattle.card.proofs.card_of.Statement.{statement}
 use Rattle.card.proofs.card_of.Tie as tie
 
 returns : tie.Need-returns
-unfolding cardOf isColourText
+unfolding card_of is_colour_text
 returns c = rw (ne_eqb _ _ c.if1.true)
 
 returns-2 : tie.Need-returns-2
-unfolding cardOf isColourText
+unfolding card_of is_colour_text
 returns-2 c = rw (eq-eqb _ _ c.before.before.if1.false, sym c.before.all-hex.ensures ∙ not-true _ c.if2.true)
 
 -- the text is six digits
-named : (c : tie.Else2) → isColourText c.before.before.before.before.args.text.now ≡ true
-unfolding isColourText
+named : (c : tie.Else2) → is_colour_text c.before.before.before.before.args.text.now ≡ true
+unfolding is_colour_text
 named c = rw (eq-eqb _ _ c.before.before.if1.false, sym c.before.all-hex.ensures ∙ not-false _ c.if2.false)
 
 returns-3 : tie.Need-returns-3
-unfolding cardOf textColour
+unfolding card_of text_colour
 returns-3 c =
     rw (
       named c.before.before.before,

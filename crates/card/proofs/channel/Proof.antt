@@ -4,7 +4,7 @@ use mathlib.Core.Path.{◌∙◌}
 use Prim.Native.Nat.{◌+◌, ◌*◌, ◌≤◌}
 use native.Mathlib.Omega.{arith}
 use borrow.Author.Rules.{rules}
-use Rattle.card.specs.Card.{textChannel}
+use Rattle.card.specs.Card.{text_channel}
 use Rattle.card.proofs.Texts.{six-long, digit}
 use Rattle.card.proofs.channel.Statement.{statement}
 use Rattle.card.proofs.channel.Tie as tie
@@ -24,7 +24,7 @@ module _ (c : tie.After-hex2) where
   low = omega (arith, c.hex2.ensures, digit start.args.text.now start.pre.0 (2 * start.args.c + 1) (omega arith))
 
 returns : tie.Need-returns
-unfolding textChannel
+unfolding text_channel
 returns c = c.weight.ensures ∙ rw (c.before.before.before.hex.ensures, c.before.hex2.ensures)
 
 pub channel-spec : {M : Type 1} → statement M

@@ -1,16 +1,16 @@
 -- `colour::abs` meets its contract.
 -- Assumes nothing.
 use lib.Ieee.{of_bits}
-use Rattle.colour.specs.Number.{absOf}
+use Rattle.colour.specs.Number.{abs_of}
 use Rattle.colour.proofs.abs.Statement.{statement}
 use Rattle.colour.proofs.abs.Tie as tie
 
 returns : tie.Need-returns
-unfolding absOf of_bits
+unfolding abs_of of_bits
 returns c = simp c.if1.true
 
 returns-2 : tie.Need-returns-2
-unfolding absOf of_bits
+unfolding abs_of of_bits
 returns-2 c = simp c.if1.false
 
 pub abs-spec : {M : Type 1} → statement M

@@ -11,38 +11,38 @@ use lib.ListN.{length, get_or, drop, drop_of_length-le}
 use lib.Seq.{drop-cons}
 use lib.Ieee.{Float, nan}
 use borrow.Author.Rules.{rules}
-use Rattle.colour.specs.Colour.{colourOk, coloursOk}
+use Rattle.colour.specs.Colour.{colour_ok, colours_ok}
 use Rattle.colour.proofs.block_ok.Statement.{statement}
 use Rattle.colour.proofs.block_ok.Tie as tie
 
 abbrev invariant-loop : tie.invariant-loop
 invariant-loop colours ok₀ i₀ i-end ok i =
-    (i-end ≡ length colours) × (i ≤ length colours) × (coloursOk colours ≡ ok && coloursOk (drop i colours))
+    (i-end ≡ length colours) × (i ≤ length colours) × (colours_ok colours ≡ ok && colours_ok (drop i colours))
 
 abbrev decreases-loop : tie.decreases-loop
 decreases-loop colours ok₀ i₀ i-end ok i = length colours - i
 
 -- the rest begins with the colour at i
-rest : (l : List Float) (i : ℕ) → i < length l → coloursOk (drop i l) ≡ colourOk (get_or l i nan) && coloursOk (drop (i + 1) l)
-unfolding coloursOk
+rest : (l : List Float) (i : ℕ) → i < length l → colours_ok (drop i l) ≡ colour_ok (get_or l i nan) && colours_ok (drop (i + 1) l)
+unfolding colours_ok
 rest l i h = rw (add-one i, drop-cons l i nan h)
 
 loop-again : tie.Need-loop-preserved invariant-loop decreases-loop
 loop-again c =
     let l = c.before.before.before.loop in
     let v = c.before.before.before.before.before.args.colours.now in
-    let known : c.colour-ok.result ≡ colourOk (get_or v l.i nan) = c.colour-ok.ensures in (
+    let known : c.colour-ok.result ≡ colour_ok (get_or v l.i nan) = c.colour-ok.ensures in (
       refl,
       omega arith,
       rw known (l.invariant.2 ∙ ap (λ (b : Bool). l.ok && b) (rest v l.i (omega arith)) ∙ sym (and_assoc l.ok _ _)),
     )
 
 returns : tie.Need-returns invariant-loop decreases-loop
-unfolding coloursOk
+unfolding colours_ok
 returns c =
     let l = c.before.loop in
     let v = c.before.before.before.args.colours.now in
-    sym (l.invariant.2 ∙ ap (λ (r : List Float). l.ok && coloursOk r) (drop_of_length-le v {i = l.i} (omega arith)) ∙ and-true l.ok)
+    sym (l.invariant.2 ∙ ap (λ (r : List Float). l.ok && colours_ok r) (drop_of_length-le v {i = l.i} (omega arith)) ∙ and-true l.ok)
 
 pub block-ok-spec : {M : Type 1} → statement M
 block-ok-spec =

@@ -2,12 +2,12 @@
 -- Assumes nothing.
 use mathlib.Core.Path.{refl}
 use lib.Ieee.{of_bits}
-use Rattle.colour.specs.Colour.{colourOk}
+use Rattle.colour.specs.Colour.{colour_ok}
 use Rattle.colour.proofs.colour_ok.Statement.{statement}
 use Rattle.colour.proofs.colour_ok.Tie as tie
 
 returns : tie.Need-returns
-unfolding colourOk of_bits
+unfolding colour_ok of_bits
 returns c = refl
 
 pub colour-ok-spec : {M : Type 1} → statement M

@@ -9,11 +9,11 @@ use lib.Signed.{lt_z, non_neg}
 use lib.Dec.{T, ltb→lt}
 use mir.Syntax.{w64}
 use mir.Facts.{to_z-of_z, Fits-nat_abs}
-use Rattle.colour.specs.Settings.{atLeastZero}
+use Rattle.colour.specs.Settings.{at_least_zero}
 use Rattle.colour.proofs.count_of.Statement.{statement}
 use Rattle.colour.proofs.count_of.Tie as tie
 
-negative : (z : ℤ) → lt_z z (pos 0) ≡ true → 0 ≡ atLeastZero z
+negative : (z : ℤ) → lt_z z (pos 0) ≡ true → 0 ≡ at_least_zero z
 negative (pos n) e = absurd (not-suc-le-zero (ltb→lt n 0 (subst T (sym e) tt)))
 negative (negsuc n) e = refl
 
@@ -21,7 +21,7 @@ other : (z : ℤ) → lt_z z (pos 0) ≡ false → T (non_neg z)
 other (pos n) e = tt
 other (negsuc n) e = subst T e tt
 
-count : (z : ℤ) → T (non_neg z) → nat_abs z ≡ atLeastZero z
+count : (z : ℤ) → T (non_neg z) → nat_abs z ≡ at_least_zero z
 count (pos n) t = refl
 count (negsuc n) t = absurd t
 

@@ -1,12 +1,12 @@
 -- `colour::difference` meets its contract.
 -- Assumes nothing.
-use Rattle.colour.specs.Colour.{differenceOf}
+use Rattle.colour.specs.Colour.{difference_of}
 use borrow.Author.Rules.{rules}
 use Rattle.colour.proofs.difference.Statement.{statement}
 use Rattle.colour.proofs.difference.Tie as tie
 
 returns : tie.Need-returns
-unfolding differenceOf
+unfolding difference_of
 returns c = cc
 
 pub difference-spec : {M : Type 1} → statement M

@@ -2,12 +2,12 @@
 -- Assumes nothing.
 use mathlib.Core.Path.{refl}
 use lib.Ieee.{of_bits}
-use Rattle.colour.specs.Join.{joinsOf}
+use Rattle.colour.specs.Join.{joins_of}
 use Rattle.colour.proofs.joins.Statement.{statement}
 use Rattle.colour.proofs.joins.Tie as tie
 
 returns : tie.Need-returns
-unfolding joinsOf of_bits
+unfolding joins_of of_bits
 returns c = refl
 
 pub joins-spec : {M : Type 1} → statement M

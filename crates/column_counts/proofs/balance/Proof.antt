@@ -3,15 +3,15 @@
 use Rattle.std.proofs.Common.{◌≡◌, ℕ, ◌+◌, ◌-◌, ◌≤◌, length, get_or, ap, ◌∙◌, ⊎_elim, le_refl, arith}
 use Rattle.plane.specs.Plane.{table}
 use Rattle.plane.proofs.InPlace.{Changed, changed-none, changed-more, changed-end}
-use Rattle.counts.specs.steps.Parts.{fullByte, rest_of}
-use Rattle.column_counts.specs.steps.Columns.{balancedLow, balancedRest}
+use Rattle.counts.specs.steps.Parts.{full_byte, rest_of}
+use Rattle.column_counts.specs.steps.Columns.{balanced_low, balanced_rest}
 use Rattle.column_counts.proofs.balance.Statement.{statement}
 use Rattle.column_counts.proofs.balance.Tie as tie
 
 abbrev invariant-loop : tie.invariant-loop
 invariant-loop low₀ rest₀ x₀ low rest x =
     (x ≤ length low₀)
-    × Changed 0 (λ (i : ℕ). fullByte (get_or low₀ i 0 + get_or rest₀ i 0)) low₀ low x
+    × Changed 0 (λ (i : ℕ). full_byte (get_or low₀ i 0 + get_or rest₀ i 0)) low₀ low x
     × Changed 0 (λ (i : ℕ). rest_of (get_or low₀ i 0 + get_or rest₀ i 0)) rest₀ rest x
 
 abbrev decreases-loop : tie.decreases-loop
@@ -38,7 +38,7 @@ loop-again c =
     let rest = l.invariant.2.back l.x (le_refl l.x) in
     let o = c.before.before.before.before.before.before in
     let n = get_or o.args.low.now l.x 0 + get_or o.args.rest.now l.x 0 in
-    let made : c.before.if1.b ≡ fullByte n =
+    let made : c.before.if1.b ≡ full_byte n =
     ⊎_elim (λ w. omega (arith, w.1)) (λ w. omega (arith, w.1)) c.before.if1.branch in (
       omega arith,
       changed-more 0 _ _ l.low l.x _ l.invariant.1 (omega arith) made,
@@ -46,7 +46,7 @@ loop-again c =
     )
 
 returns : tie.Need-returns invariant-loop decreases-loop
-unfolding balancedLow balancedRest
+unfolding balanced_low balanced_rest
 returns c =
     let l = c.before.loop in
     let size = c.before.before.requires.size in (

@@ -2,10 +2,10 @@
 -- Assumes nothing.
 use Rattle.std.proofs.Common.{◌≡◌, ℕ, ◌+◌, ◌-◌, ◌*◌, ◌<◌, ◌≤◌, List, length, get_or, take, drop, ap, ◌∙◌, arith, rules, lt-ltb}
 use Rattle.plane.proofs.Plane.{area-most}
-use Rattle.plane.specs.Mask.{isOn}
+use Rattle.plane.specs.Mask.{is_on}
 use Rattle.counts.specs.Running.{enters, leaves}
-use Rattle.counts.specs.steps.Parts.{movedLine}
-use Rattle.column_counts.specs.steps.Columns.{onDown}
+use Rattle.counts.specs.steps.Parts.{moved_line}
+use Rattle.column_counts.specs.steps.Columns.{on_down}
 use Rattle.column_counts.proofs.Strips.{strip-in, strip-pixel, moved_length, moved_at}
 use Rattle.column_counts.proofs.follow.Statement.{statement}
 use Rattle.column_counts.proofs.follow.Tie as tie
@@ -31,7 +31,7 @@ returns c =
     let a = e.before.before.before.before.before.args in
     let low = a.low.now in
     let part : ℕ → List ℕ = λ (j : ℕ). (let s = j * a.w + a.c in take (s + length low - s) (drop s a.plane.now)) in
-    let pixel : (j x : ℕ) → x < length low → isOn (part j) x ≡ onDown a.plane.now a.w (a.c + x) j =
+    let pixel : (j x : ℕ) → x < length low → is_on (part j) x ≡ on_down a.plane.now a.w (a.c + x) j =
     λ j x. strip-pixel a.plane.now (length low) j a.w a.c x in
     record {
       each =
@@ -39,7 +39,7 @@ returns c =
           let q : a.y - (a.k + 1) ≡ a.y - a.k - 1 = omega arith in
           let enter = part (a.y + a.k) in
           ap (λ (u : List ℕ). get_or u x 0) call.ensures.0
-          ∙ moved_at (part (a.y - a.k - 1)) 255 (movedLine enter 1 low) x (omega (arith, moved_length enter 1 low))
+          ∙ moved_at (part (a.y - a.k - 1)) 255 (moved_line enter 1 low) x (omega (arith, moved_length enter 1 low))
           ∙ rw (
             moved_at enter 1 low x l,
             pixel (a.y + a.k) x l,

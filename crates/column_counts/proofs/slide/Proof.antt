@@ -3,7 +3,7 @@
 use Rattle.std.proofs.Common.{ℕ, ◌+◌, Bool, sym, ◌∙◌, arith, rules}
 use Rattle.counts.specs.Running.{enters, leaves, running}
 use Rattle.counts.proofs.Counting.{leaves-held, running-most, running-count}
-use Rattle.column_counts.specs.steps.Columns.{onDown}
+use Rattle.column_counts.specs.steps.Columns.{on_down}
 use Rattle.column_counts.proofs.Strips.{counted-later, counted-as, counted-small, counted_step}
 use Rattle.column_counts.proofs.slide.Statement.{statement}
 use Rattle.column_counts.proofs.slide.Tie as tie
@@ -13,7 +13,7 @@ balance-after-requires c κs =
     let o = c.before.before.before.before.before.before in
     let a = o.args in
     counted-small o.requires.counted
-    (λ x g. omega (arith, running-most a.h a.k (onDown a.plane.now a.w (a.c + x)) a.y (omega arith), o.requires.following.strip.tall))
+    (λ x g. omega (arith, running-most a.h a.k (on_down a.plane.now a.w (a.c + x)) a.y (omega arith), o.requires.following.strip.tall))
 
 follow-requires : tie.Need-follow-requires
 follow-requires c κs =
@@ -28,7 +28,7 @@ returns c =
     let b = c.before.before.before.before.before.before.before.before.before.before.before.balance-after in
     let o = c.before.before.before.before.before.before.before.before.before.before.before.before.before.before.before.before.before.before in
     let a = o.args in
-    let on : ℕ → ℕ → Bool = λ (x : ℕ). onDown a.plane.now a.w (a.c + x) in
+    let on : ℕ → ℕ → Bool = λ (x : ℕ). on_down a.plane.now a.w (a.c + x) in
     let long = f.auto.1.1.1.1.1.1.0 in
     let stepped =
     counted_step (b.ensures.kept _ o.requires.counted) (λ (x : ℕ). enters a.h a.k (on x) a.y) (λ (x : ℕ). leaves a.k (on x) a.y)

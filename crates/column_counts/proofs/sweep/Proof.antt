@@ -2,13 +2,13 @@
 -- first y rows are written.
 -- Assumes nothing.
 use Rattle.std.proofs.Common.{◌≡◌, ℕ, ◌+◌, ◌-◌, ◌*◌, ◌≤◌, List, length, get_or, sym, ap, ◌∙◌, add-one, arith, length-drop, length-take, rules}
-use Rattle.plane.specs.Search.{countBelow}
-use Rattle.plane.specs.Mask.{isOn, mask_of}
+use Rattle.plane.specs.Search.{count_below}
+use Rattle.plane.specs.Mask.{is_on, mask_of}
 use Rattle.plane.proofs.Plane.{area-most}
 use Rattle.plane.proofs.Mask.{mask-length}
 use Rattle.counts.specs.Running.{running}
 use Rattle.counts.proofs.Counting.{lesser-is, running-count}
-use Rattle.column_counts.specs.steps.Columns.{onDown, Counted, Swept}
+use Rattle.column_counts.specs.steps.Columns.{on_down, Counted, Swept}
 use Rattle.column_counts.proofs.Strips.{strip-in, counted-as, column-tested, row-swept}
 use Rattle.column_counts.proofs.sweep.Statement.{statement}
 use Rattle.column_counts.proofs.sweep.Tie as tie
@@ -17,7 +17,7 @@ abbrev invariant-loop : tie.invariant-loop
 invariant-loop plane h w k c low₀ rest₀ out₀ n first t₀ y₀ low rest out t y =
     (y ≤ h)
     × (length low ≡ n)
-    × Counted (λ (x : ℕ). running h k (onDown plane w (c + x)) y) t low rest
+    × Counted (λ (x : ℕ). running h k (on_down plane w (c + x)) y) t low rest
     × Swept plane h w k c (c + n) y out
 
 abbrev decreases-loop : tie.decreases-loop
@@ -53,7 +53,7 @@ loop-holds c =
       omega arith,
       r.enter-rows.auto.1.1.1.1.1.0,
       counted-as r.enter-rows.ensures.counted
-          (λ x g. ap (λ (m : ℕ). countBelow m (onDown a.plane.now a.w (a.c + x))) first),
+          (λ x g. ap (λ (m : ℕ). count_below m (on_down a.plane.now a.w (a.c + x))) first),
       record { size = o.requires.written.size; before = o.requires.written.before; done = λ y x l m. absurd (omega arith) },
     )
 
@@ -83,13 +83,13 @@ loop-again c =
     let low = call.new.1.1.1.1.1.1.1.0 in
     let row = call.new.1.1.1.1.1.1.1.1.1.0 in
     let slid : length low ≡ length a.low.now = call.auto.1.1.1.1.1.1.1.0 ∙ l.loop.invariant.1 in
-    let made : row ≡ mask_of (length low) (isOn low) = call.ensures.tested in
-    let long = ap length made ∙ mask-length (length low) (isOn low) ∙ slid in (
+    let made : row ≡ mask_of (length low) (is_on low) = call.ensures.tested in
+    let long = ap length made ∙ mask-length (length low) (is_on low) ∙ slid in (
       omega (arith, turn.loop-test.true),
       slid,
       counted-as call.ensures.counted
           (λ x g.
-          let on = onDown a.plane.now a.w (a.c + x) in
+          let on = on_down a.plane.now a.w (a.c + x) in
           sym (ap (running a.h a.k on) (add-one y) ∙ running-count a.h a.k on y turn.loop-test.true)),
       row-swept l.loop.invariant.3 o.pre.strip.inside turn.loop-test.true row long
           (λ x g.

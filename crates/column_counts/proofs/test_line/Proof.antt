@@ -2,19 +2,19 @@
 -- Assumes nothing.
 use Rattle.std.proofs.Common.{ℕ, ◌-◌, ◌≤◌, length, arith, rules}
 use Rattle.plane.specs.Plane.{on, bit}
-use Rattle.plane.specs.Mask.{isOn, mask_of}
+use Rattle.plane.specs.Mask.{is_on, mask_of}
 use Rattle.counts.proofs.Begun.{Begun, begun-none, begun_more, begun-end}
 use Rattle.column_counts.proofs.test_line.Statement.{statement}
 use Rattle.column_counts.proofs.test_line.Tie as tie
 
 abbrev invariant-loop : tie.invariant-loop
-invariant-loop low out₀ x₀ out x = (x ≤ length low) × Begun (λ (i : ℕ). bit (isOn low i)) (length low) out x
+invariant-loop low out₀ x₀ out x = (x ≤ length low) × Begun (λ (i : ℕ). bit (is_on low i)) (length low) out x
 
 abbrev decreases-loop : tie.decreases-loop
 decreases-loop low out₀ x₀ out x = length low - x
 
 loop-again : tie.Need-loop-preserved invariant-loop decreases-loop
-unfolding isOn on
+unfolding is_on on
 loop-again c = (omega arith, begun_more c.before.before.before.loop.invariant.1 (omega arith) c.byte.ensures)
 
 returns : tie.Need-returns invariant-loop decreases-loop

@@ -2,11 +2,11 @@
 -- Assumes nothing.
 use Rattle.std.specs.Prelude.{◌≡◌, ℕ, ◌+◌, ◌-◌, ◌%◌, ◌<◌, ◌≤◌, Bool, cond, List, length, slice_index}
 use Rattle.plane.specs.Plane.{table}
-use Rattle.plane.specs.Mask.{isOn}
+use Rattle.plane.specs.Mask.{is_on}
 
 -- the byte and the rest of a count n where they are balanced: as much of it as is at most 128, and what is above that
-abbrev pub fullByte : ℕ → ℕ
-fullByte n = n - (n - 128)
+abbrev pub full_byte : ℕ → ℕ
+full_byte n = n - (n - 128)
 
 abbrev pub rest_of : ℕ → ℕ
 rest_of n = n - 128
@@ -26,5 +26,5 @@ abbrev pub step_of : Bool → Bool → ℕ
 step_of e l = changed (changed 0 e 1) l 255
 
 -- a line of bytes, each of which is changed where the pixel beside it is on
-unfoldable pub movedLine : List ℕ → ℕ → List ℕ → List ℕ
-movedLine line change counts = table (λ (x : ℕ). changed (slice_index counts x) (isOn line x) change) 0 (length counts)
+unfoldable pub moved_line : List ℕ → ℕ → List ℕ → List ℕ
+moved_line line change counts = table (λ (x : ℕ). changed (slice_index counts x) (is_on line x) change) 0 (length counts)

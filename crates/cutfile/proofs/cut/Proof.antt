@@ -5,7 +5,7 @@ use Prim.Native.Nat.{◌≤◌}
 use lib.ListN.{length}
 use borrow.Author.Rules.{rules}
 use Rattle.text.proofs.Written.{wrote_as}
-use Rattle.cutfile.specs.steps.Room.{pictureText, answerText, answerLength}
+use Rattle.cutfile.specs.steps.Room.{picture_text, answer_text, answer_length}
 use Rattle.cutfile.proofs.Pictures.{text-is, text-fits}
 use Rattle.cutfile.proofs.cut.Statement.{statement}
 use Rattle.cutfile.proofs.cut.Tie as tie
@@ -18,13 +18,13 @@ module _ (c : tie.After-subject) where
   abbrev start : tie.Start
   start = set.before.before.before.before.before.before.before.before.before.before
 
-  fits : answerLength start.args.h start.args.w c.subject.result ≤ length start.args.out.now
+  fits : answer_length start.args.h start.args.w c.subject.result ≤ length start.args.out.now
   fits =
       text-fits _ _ start.args.h start.args.w set.settings-of.result _ _ _ _
       start.pre.0 start.pre.1 set.settings-of.ensures c.subject.ensures
 
-  said : answerText c.subject.new.1.1.1.1.1.1.1.1.1.0 start.args.h start.args.w c.subject.result
-      ≡ pictureText start.args.colours.now start.args.alpha.now start.args.h start.args.w
+  said : answer_text c.subject.new.1.1.1.1.1.1.1.1.1.0 start.args.h start.args.w c.subject.result
+      ≡ picture_text start.args.colours.now start.args.alpha.now start.args.h start.args.w
   said =
       text-is _ _ start.args.h start.args.w set.settings-of.result _ _ _ _
       start.pre.0 start.pre.1 set.settings-of.ensures c.subject.ensures

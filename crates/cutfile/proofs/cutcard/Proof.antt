@@ -3,7 +3,7 @@
 use mathlib.Core.Path.{sym, ap, ◌∙◌}
 use borrow.Author.Tests.{lt-leb}
 use Rattle.pam_header.specs.declared.Header.{Header}
-use Rattle.cutfile.specs.Cutcard.{mostText, textUnder}
+use Rattle.cutfile.specs.Cutcard.{most_text, text_under}
 use Rattle.cutfile.proofs.Texts.{card-declined, card-picture, file-small, whole}
 use native.Mathlib.Omega.{arith}
 use Rattle.pbm.proofs.Lengths.{refusal-short}
@@ -13,7 +13,7 @@ use Rattle.cutfile.proofs.cutcard.Tie as tie
 
 returns : tie.Need-returns
 returns c =
-    record { answer = rw (lt-leb mostText _ c.if1.true); out-is = rw (lt-leb mostText _ c.if1.true) }
+    record { answer = rw (lt-leb most_text _ c.if1.true); out-is = rw (lt-leb most_text _ c.if1.true) }
 
 write-refusal-requires : tie.Need-write-refusal-requires
 write-refusal-requires c κs =
@@ -32,7 +32,7 @@ returns-2 c =
     let input = read.before.before.before.before.args.input.now in
     let card =
     card-declined read.read-header.result input asked.file-refusal.result asked.file-refusal.ensures declined.if2.true in
-    whole _ _ _ _ _ (omega (arith, read.before.if1.false)) (card ∙ ap (λ (h : Header). textUnder h input) read.read-header.ensures)
+    whole _ _ _ _ _ (omega (arith, read.before.if1.false)) (card ∙ ap (λ (h : Header). text_under h input) read.read-header.ensures)
     c.before.before.write-refusal.ensures
 
 write-picture-requires : tie.Need-write-picture-requires
@@ -49,7 +49,7 @@ returns-3 c =
     let read = asked.before in
     let input = read.before.before.before.before.args.input.now in
     let card = card-picture read.read-header.result input (sym asked.file-refusal.ensures ∙ accepted.if2.false) in
-    whole _ _ _ _ _ (omega (arith, read.before.if1.false)) (card ∙ ap (λ (h : Header). textUnder h input) read.read-header.ensures)
+    whole _ _ _ _ _ (omega (arith, read.before.if1.false)) (card ∙ ap (λ (h : Header). text_under h input) read.read-header.ensures)
     c.before.before.write-picture.ensures
 
 pub cutcard-spec : {M : Type 1} → statement M

@@ -5,7 +5,7 @@ use Prim.Native.Nat.{◌≤◌}
 use native.Mathlib.Omega.{arith}
 use lib.ListN.{length, take}
 use lib.Seq.{length-take-le}
-use Rattle.cutfile.specs.Cutcard.{cardText, mostText}
+use Rattle.cutfile.specs.Cutcard.{card_text, most_text}
 use Rattle.cutfile.proofs.Texts.{text-short}
 use borrow.Author.Rules.{rules}
 use Rattle.cutfile.proofs.run.Statement.{statement}
@@ -15,9 +15,9 @@ use Rattle.cutfile.proofs.run.Tie as tie
 most : (c : tie.After-cutcard) → c.cutcard.result ≤ length c.cutcard.new.1.0
 most c =
     let f = c.before.before.before.before.read-full in
-    let text = cardText (take f.result f.new.1.0) in
+    let text = card_text (take f.result f.new.1.0) in
     let e : c.cutcard.result ≡ length text = c.cutcard.ensures.answer in
-    let k : length c.cutcard.new.1.0 ≡ mostText = c.cutcard.auto.1.0 in
+    let k : length c.cutcard.new.1.0 ≡ most_text = c.cutcard.auto.1.0 in
     omega (arith, text-short (take f.result f.new.1.0))
 
 pub run_spec : {M : Type 1} → statement M

@@ -3,7 +3,7 @@
 use mathlib.Core.Path.{sym, ap}
 use borrow.Author.Rules.{rules}
 use Rattle.text.proofs.Written.{wrote_as}
-use Rattle.cutfile.specs.steps.Room.{answerText}
+use Rattle.cutfile.specs.steps.Room.{answer_text}
 use Rattle.cutfile.proofs.write_answer.Statement.{statement}
 use Rattle.cutfile.proofs.write_answer.Tie as tie
 
@@ -21,13 +21,13 @@ returns : tie.Need-returns
 returns c =
     let known = c.before.before.before.before.before in
     let a = known.before.before.before.before.args in
-    wrote_as (sym (ap (answerText a.mask.now a.h a.w) known.answer.given.1)) c.before.before.write-mask.ensures
+    wrote_as (sym (ap (answer_text a.mask.now a.h a.w) known.answer.given.1)) c.before.before.write-mask.ensures
 
 returns-2 : tie.Need-returns-2
 returns-2 c =
     let known = c.before.before.before.before.before in
     let a = known.before.before.before.before.args in
-    wrote_as (sym (ap (answerText a.mask.now a.h a.w) known.answer2.given.1)) c.before.before.write-refusal.ensures
+    wrote_as (sym (ap (answer_text a.mask.now a.h a.w) known.answer2.given.1)) c.before.before.write-refusal.ensures
 
 pub write-answer-spec : {M : Type 1} → statement M
 write-answer-spec =

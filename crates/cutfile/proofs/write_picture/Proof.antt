@@ -4,7 +4,7 @@ use Prim.Native.Nat.{◌*◌, ◌≤◌}
 use native.Mathlib.Omega.{arith}
 use mir.Facts.{Fits-le, Fits-lit}
 use Rattle.pam_header.specs.declared.Header.{Header}
-use Rattle.pam.specs.Picture.{mostPixels}
+use Rattle.pam.specs.Picture.{most_pixels}
 use Rattle.cutfile.proofs.Pictures.{room_most}
 use Rattle.pam_header.proofs.Sizes.{Small, header-small}
 use Rattle.pam.proofs.Files.{FileOk, file-ok, SidesOk, sides-of}
@@ -24,7 +24,7 @@ module _ (c : tie.Start) where
   passed : FileOk header c.args.input.now
   passed = file-ok header c.args.input.now c.requires.1
 
-  few : header.height * header.width ≤ mostPixels
+  few : header.height * header.width ≤ most_pixels
   few = passed.few
 
   sides : SidesOk header.height header.width

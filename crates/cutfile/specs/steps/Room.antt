@@ -1,38 +1,38 @@
 -- What the inner functions need and ensure.
 -- Assumes nothing.
 use Rattle.std.specs.Prelude.{ℕ, ◌+◌, ◌*◌, ◌≤◌, ◌≡◌, cond, List, [], ◌∷◌, eqb, length, Float}
-use Rattle.plane.specs.Refusal.{refusalOf, room_for}
-use Rattle.pam.specs.Picture.{mostPixels}
+use Rattle.plane.specs.Refusal.{refusal_of, room_for}
+use Rattle.pam.specs.Picture.{most_pixels}
 use Rattle.outline.specs.declared.Outcome.{Outcome}
 use Rattle.outline.specs.declared.Outcome.TheVariants as outcome
-use Rattle.pbm.specs.Text.{cropLines, sizeLine, maskText, refusalText}
-use Rattle.cutfile.specs.Cutcard.{alphaTest, cutText, mostText}
+use Rattle.pbm.specs.Text.{crop_lines, size_line, mask_text, refusal_text}
+use Rattle.cutfile.specs.Cutcard.{alpha_test, cut_text, most_text}
 
 -- the number of a picture, which is declined for its alpha alone
-unfoldable pub alphaRefusal : List ℕ → ℕ
-alphaRefusal alpha = refusalOf (alphaTest alpha ∷ [])
+unfoldable pub alpha_refusal : List ℕ → ℕ
+alpha_refusal alpha = refusal_of (alpha_test alpha ∷ [])
 
 -- the text of a picture, accepted or declined by its alpha
-unfoldable pub pictureText : List Float → List ℕ → ℕ → ℕ → List ℕ
-pictureText colours alpha h w =
-    cond (eqb (alphaRefusal alpha) 0) (cutText colours alpha h w) (refusalText (alphaRefusal alpha))
+unfoldable pub picture_text : List Float → List ℕ → ℕ → ℕ → List ℕ
+picture_text colours alpha h w =
+    cond (eqb (alpha_refusal alpha) 0) (cut_text colours alpha h w) (refusal_text (alpha_refusal alpha))
 
 -- the text of an answer of the cut, with the mask that it left, and how long it may be
-abbrev pub answerText : List ℕ → ℕ → ℕ → Outcome → List ℕ
-answerText mask h w (outcome.Done keyed box) = maskText mask h w box keyed
-answerText mask h w (outcome.Refused n) = refusalText n
+abbrev pub answer_text : List ℕ → ℕ → ℕ → Outcome → List ℕ
+answer_text mask h w (outcome.Done keyed box) = mask_text mask h w box keyed
+answer_text mask h w (outcome.Refused n) = refusal_text n
 
-abbrev pub answerLength : ℕ → ℕ → Outcome → ℕ
-answerLength h w (outcome.Done keyed box) = length (cropLines box keyed) + length (sizeLine h w) + 2 * (h * w)
-answerLength h w (outcome.Refused n) = length (refusalText n)
+abbrev pub answer_length : ℕ → ℕ → Outcome → ℕ
+answer_length h w (outcome.Done keyed box) = length (crop_lines box keyed) + length (size_line h w) + 2 * (h * w)
+answer_length h w (outcome.Refused n) = length (refusal_text n)
 
 -- a picture that is small enough, and buffers for it, by their lengths
 pub record Room (h w colours alpha nearest shallow deep marks mask weights out : ℕ) : Type 0 where
   pub some-rows : 1 ≤ h
   pub some-columns : 1 ≤ w
-  pub tall : h ≤ mostPixels
-  pub wide : w ≤ mostPixels
-  pub few : h * w ≤ mostPixels
+  pub tall : h ≤ most_pixels
+  pub wide : w ≤ most_pixels
+  pub few : h * w ≤ most_pixels
   pub colours-long : colours ≡ 3 * (h * w)
   pub alpha-long : alpha ≡ h * w
   pub nearest-long : room_for h w ≤ nearest
@@ -41,4 +41,4 @@ pub record Room (h w colours alpha nearest shallow deep marks mask weights out :
   pub marks-long : room_for h w ≤ marks
   pub mask-long : mask ≡ h * w
   pub weights-long : weights ≡ h * w
-  pub out-long : mostText ≤ out
+  pub out-long : most_text ≤ out

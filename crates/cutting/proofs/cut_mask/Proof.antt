@@ -8,7 +8,7 @@ use mir.Syntax.{w64}
 use mir.Val.{to_z, of_z}
 use mir.Facts.{to_z-of_z}
 use borrow.Author.Rules.{rules}
-use Rattle.outline.specs.Cut.{alphaMask, isSought}
+use Rattle.outline.specs.Cut.{alpha_mask, is_sought}
 use Rattle.cutting.proofs.Keyed.{sought-is, sought-flag, sought-mask, unsought-flag, unsought-mask}
 use Rattle.cutting.proofs.cut_mask.Statement.{statement}
 use Rattle.cutting.proofs.cut_mask.Tie as tie
@@ -24,14 +24,14 @@ module _ (c : tie.After-some-off) where
   at-reach = c.before.before.before.before
 
   -- the mask after the threshold
-  reached : at-reach.reach.last.1.1.0 ≡ (let a = at-start.args in alphaMask a.alpha.now (a.h * a.w) a.s)
-  unfolding alphaMask
+  reached : at-reach.reach.last.1.1.0 ≡ (let a = at-start.args in alpha_mask a.alpha.now (a.h * a.w) a.s)
+  unfolding alpha_mask
   reached =
       let z = at-start.args.s.alpha_threshold in
       let t : to_z w64 (of_z w64 z) ≡ z = to_z-of_z {w = w64} {z = z} (record { sfits = at-reach.before.struct_told.given.0.1 }) in
       at-reach.reach.ensures ∙ rw (at-start.pre.1.0, t)
 
-  sought : let a = at-start.args in (a.s.key_bg && not c.some-off.result) ≡ isSought a.alpha.now (a.h * a.w) a.s
+  sought : let a = at-start.args in (a.s.key_bg && not c.some-off.result) ≡ is_sought a.alpha.now (a.h * a.w) a.s
   sought =
       let long = at-reach.reach.kept.1.1.0 ∙ at-start.pre.0.mask-long in
       sought-is _ _ at-start.args.s _ c.some-off.result c.some-off.ensures long reached

@@ -6,13 +6,13 @@ use Prim.Native.Nat.{ℕ, ◌*◌}
 use native.Mathlib.Omega.{arith}
 use lib.ListN.{length}
 use borrow.Author.Rules.{rules}
-use Rattle.plane.specs.Mask.{isOn, mask_of}
-use Rattle.plane.specs.steps.Complement.{complementOf}
+use Rattle.plane.specs.Mask.{is_on, mask_of}
+use Rattle.plane.specs.steps.Complement.{complement_of}
 use Rattle.plane.proofs.Refusal.{three-lines}
-use Rattle.outline.specs.Ground.{groundOf}
-use Rattle.outline.specs.Growth.{growthOf}
+use Rattle.outline.specs.Ground.{ground_of}
+use Rattle.outline.specs.Growth.{growth_of}
 use Rattle.outline.proofs.GrowthLaws.{growth-length}
-use Rattle.cutting.specs.steps.Key.{keyedPlane}
+use Rattle.cutting.specs.steps.Key.{keyed_plane}
 use Rattle.cutting.proofs.Keyed.{not_found, was-found, found-plane, absent-plane, zeros-turned}
 use Rattle.cutting.proofs.key.Statement.{statement}
 use Rattle.cutting.proofs.key.Tie as tie
@@ -29,7 +29,7 @@ ground-from-requires c κs =
     )
 
 returns : tie.Need-returns
-unfolding keyedPlane
+unfolding keyed_plane
 returns c =
     let kept = c.before.before.before.before in
     let asked = kept.before.before.before.before.before in
@@ -53,7 +53,7 @@ grow-requires c κs =
     }
 
 returns-2 : tie.Need-returns-2
-unfolding keyedPlane complementOf
+unfolding keyed_plane complement_of
 returns-2 c =
     let at-grow = c.before.before.before.before.before.before.before.before.before.before.before.before.before.before in
     let found = at-grow.before.before.before.before.before.before.before in
@@ -61,12 +61,12 @@ returns-2 c =
     let a = asked.before.before.before.before.before.before.before.before.before.args in
     let call = asked.ground-from in
     let yes = was-found _ _ _ _ _ _ (sym call.ensures.0 ∙ found.answer.given.1) in
-    let ground = groundOf a.colours.now a.h a.w a.given a.tolerance in
+    let ground = ground_of a.colours.now a.h a.w a.given a.tolerance in
     let plane : call.new.1.1.1.1.1.1.0 ≡ ground = call.ensures.1 ∙ found-plane _ _ _ _ _ yes.0 in
-    let g = growthOf a.colours.now a.given a.h a.w a.passes ground in
+    let g = growth_of a.colours.now a.given a.h a.w a.passes ground in
     let e : at-grow.grow.new.1.1.1.1.1.1.1.1.1.0 ≡ g = at-grow.grow.ensures ∙ rw (yes.1, plane) in
     let long : length g ≡ a.h * a.w = growth-length _ _ _ _ _ ground in
-    rw yes.0 (refl, c.before.before.complement2.ensures ∙ rw e (ap (λ (n : ℕ). mask_of n (λ (i : ℕ). not (isOn g i))) long))
+    rw yes.0 (refl, c.before.before.complement2.ensures ∙ rw e (ap (λ (n : ℕ). mask_of n (λ (i : ℕ). not (is_on g i))) long))
 
 pub key_spec : {M : Type 1} → statement M
 key_spec =

@@ -2,25 +2,25 @@
 -- Assumes nothing.
 use Rattle.std.specs.Prelude.{ℕ, ◌*◌, ◌≤◌, ◌≡◌, true, not, cond, List, length, Float}
 use Rattle.plane.specs.steps.Sides.{Sides}
-use Rattle.plane.specs.Mask.{isOn, mask_of}
+use Rattle.plane.specs.Mask.{is_on, mask_of}
 use Rattle.plane.specs.Refusal.{room_for}
 use Rattle.colour.specs.declared.Rgb.{Rgb}
-use Rattle.colour.specs.Colour.{coloursOk, rgbOk}
-use Rattle.outline.specs.Ground.{groundOf, isFound}
-use Rattle.outline.specs.Growth.{growthOf}
+use Rattle.colour.specs.Colour.{colours_ok, rgb_ok}
+use Rattle.outline.specs.Ground.{ground_of, is_found}
+use Rattle.outline.specs.Growth.{growth_of}
 
 -- a full mask with the grown ground taken out where it is found
-unfoldable pub keyedPlane : List Float → ℕ → ℕ → Rgb → Float → ℕ → List ℕ
-keyedPlane colours h w reference tolerance passes =
-    cond (isFound colours h w reference tolerance)
-    (mask_of (h * w) (λ (i : ℕ). not (isOn (growthOf colours reference h w passes (groundOf colours h w reference tolerance)) i)))
+unfoldable pub keyed_plane : List Float → ℕ → ℕ → Rgb → Float → ℕ → List ℕ
+keyed_plane colours h w reference tolerance passes =
+    cond (is_found colours h w reference tolerance)
+    (mask_of (h * w) (λ (i : ℕ). not (is_on (growth_of colours reference h w passes (ground_of colours h w reference tolerance)) i)))
     (mask_of (h * w) (λ (i : ℕ). true))
 
 -- a picture of accepted sides and colours, and buffers for it
 pub record KeyRoom (colours : List Float) (h w : ℕ) (nearest shallow deep marks mask : List ℕ) : Type 0 where
   pub sides : Sides h w
   pub colours-long : length colours ≡ 3 * (h * w)
-  pub range : coloursOk colours ≡ true
+  pub range : colours_ok colours ≡ true
   pub mask-long : length mask ≡ h * w
   pub nearest-long : room_for h w ≤ length nearest
   pub shallow-long : room_for h w ≤ length shallow
@@ -29,4 +29,4 @@ pub record KeyRoom (colours : List Float) (h w : ℕ) (nearest shallow deep mark
 
 -- a reference colour whose channels are from 0 to 1
 pub record Reference (reference : Rgb) : Type 0 where
-  pub range : rgbOk reference ≡ true
+  pub range : rgb_ok reference ≡ true

@@ -1,14 +1,14 @@
 -- `flood::border_pixel` meets its contract.
 -- Assumes nothing.
 use Rattle.std.proofs.Common.{◌≡◌, ℕ, ◌+◌, ◌-◌, ◌*◌, ◌<◌, get_or, sym, arith, rules}
-use Rattle.outline.specs.Border.{borderList}
+use Rattle.outline.specs.Border.{border_list}
 use Rattle.flood.proofs.Border.{border-length, border-small, first-row, last_row, first-column, last-column}
 use Rattle.flood.proofs.border_pixel.Statement.{statement}
 use Rattle.flood.proofs.border_pixel.Tie as tie
 
 -- the pixel asked for
 abbrev pixel : tie.Start → ℕ
-pixel o = get_or (borderList o.args.h o.args.w) o.args.k 0
+pixel o = get_or (border_list o.args.h o.args.w) o.args.k 0
 
 small : (o : tie.Start) → pixel o < 4294967296
 small o = border-small o.args.k o.requires.0 o.requires.1

@@ -1,7 +1,7 @@
 -- `flood::reach` meets its contract.
 -- Assumes nothing.
 use Rattle.std.proofs.Common.{◌≡◌, ℕ, ◌+◌, ◌-◌, List, length, refl, ap, ◌∙◌, arith, rules}
-use Rattle.flood.specs.steps.Flood.{State, state, spreadTop, waiting, Spreads, Closed}
+use Rattle.flood.specs.steps.Flood.{State, state, spread_top, waiting, Spreads, Closed}
 use Rattle.flood.proofs.Room.{total, spread-total}
 use Rattle.flood.proofs.Reached.{Going, first-going, spread-ready, spread-going, ground-marked}
 use Rattle.flood.proofs.reach.Statement.{statement}
@@ -61,7 +61,7 @@ loop-less : tie.Need-loop-smaller invariant-loop decreases-loop
 unfolding total
 loop-less c =
     let b : tie.After-spread invariant-loop decreases-loop = c.before.before.before.before in
-    let e : state-2 b ≡ spreadTop (start (seeds (loop b))).args.w (state-1 (loop b)) = b.spread.ensures in
+    let e : state-2 b ≡ spread_top (start (seeds (loop b))).args.w (state-1 (loop b)) = b.spread.ensures in
     omega (arith, ap total e, spread-total (ready b.before.before.before))
 
 loop-again : tie.Need-loop-preserved invariant-loop decreases-loop

@@ -1,16 +1,16 @@
 -- `flood::seed_border` meets its contract. The loop's invariant: what is left of the border list is still to be visited.
 -- Assumes nothing.
 use Rattle.std.proofs.Common.{◌≡◌, ℕ, ◌+◌, ◌-◌, ◌<◌, ◌≤◌, true, List, length, get_or, drop, sym, refl, ◌∙◌, add-one, arith, drop_of_length-le, drop-cons, rules}
-use Rattle.outline.specs.Border.{borderList}
-use Rattle.flood.specs.steps.Flood.{State, state, visitIf, seeded}
+use Rattle.outline.specs.Border.{border_list}
+use Rattle.flood.specs.steps.Flood.{State, state, visit_if, seeded}
 use Rattle.flood.proofs.Border.{border-in}
 use Rattle.flood.proofs.Room.{Kept, first-room, if_kept, if-same}
 use Rattle.flood.proofs.seed_border.Statement.{statement}
 use Rattle.flood.proofs.seed_border.Tie as tie
 
 -- a pixel of a list is visited, and the rest is left
-rest : (l : List ℕ) (k : ℕ) (s t : State) → k < length l → t ≡ visitIf true (get_or l k 0) s → seeded (drop k l) s ≡ seeded (drop (k + 1) l) t
-unfolding seeded visitIf
+rest : (l : List ℕ) (k : ℕ) (s t : State) → k < length l → t ≡ visit_if true (get_or l k 0) s → seeded (drop k l) s ≡ seeded (drop (k + 1) l) t
+unfolding seeded visit_if
 rest l k s t h e = rw (drop-cons l k 0 h, add-one k, e)
 
 -- and nothing in the end
@@ -20,8 +20,8 @@ none_left l k s h = rw (drop_of_length-le l {i = k} h)
 
 abbrev invariant-loop : tie.invariant-loop
 invariant-loop h w stack₀ out₀ top₀ k₀ k-end stack out top k =
-    (k-end ≡ length (borderList h w)) × (k ≤ k-end) × (length stack ≡ length stack₀) × Kept (length out₀) (state top stack out)
-    × (seeded (borderList h w) (state 0 stack₀ out₀) ≡ seeded (drop k (borderList h w)) (state top stack out))
+    (k-end ≡ length (border_list h w)) × (k ≤ k-end) × (length stack ≡ length stack₀) × Kept (length out₀) (state top stack out)
+    × (seeded (border_list h w) (state 0 stack₀ out₀) ≡ seeded (drop k (border_list h w)) (state top stack out))
 
 abbrev decreases-loop : tie.decreases-loop
 decreases-loop h w stack₀ out₀ top₀ k₀ k-end stack out top k = k-end - k
@@ -57,12 +57,12 @@ module _ (c : tie.After-visit invariant-loop decreases-loop) where
   loop = at-pixel.before.before
 
   abbrev border : List ℕ
-  border = borderList (start loop).args.h (start loop).args.w
+  border = border_list (start loop).args.h (start loop).args.w
 
   abbrev after : State
   after = state c.visit.result c.visit.new.1.1.1.0 c.visit.new.1.1.1.1.0
 
-  after_is : after ≡ visitIf true (get_or border loop.loop.k 0) (state loop.loop.top loop.loop.stack loop.loop.out)
+  after_is : after ≡ visit_if true (get_or border loop.loop.k 0) (state loop.loop.top loop.loop.stack loop.loop.out)
   after_is = c.visit.ensures ∙ if-same _ true (λ t. at-pixel.border-pixel.ensures)
 
   kept : Kept (length (start loop).args.out.now) after
@@ -78,7 +78,7 @@ returns : tie.Need-returns invariant-loop decreases-loop
 returns c =
     let a = (start c.before).args in
     let i = c.before.loop.invariant in
-    sym (i.4 ∙ none_left (borderList a.h a.w) c.before.loop.k _ (omega (arith, i.0)))
+    sym (i.4 ∙ none_left (border_list a.h a.w) c.before.loop.k _ (omega (arith, i.0)))
 
 pub seed-border-spec : {M : Type 1} → statement M
 seed-border-spec =

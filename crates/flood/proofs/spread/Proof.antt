@@ -2,7 +2,7 @@
 -- Assumes nothing.
 use Rattle.std.proofs.Common.{◌≡◌, ℕ, ◌+◌, ◌-◌, ◌%◌, true, ltb, leb, length, get_or, ap, ◌∙◌, mod-lt, arith, rules, ltb-true, leb-true}
 use native.Mathlib.Nat.{mod-le}
-use Rattle.flood.specs.steps.Flood.{State, state, visitIf, spreadFrom}
+use Rattle.flood.specs.steps.Flood.{State, state, visit_if, spread_from}
 use Rattle.flood.proofs.Room.{Kept, unwrapped, kept-first, if_kept, if-same, above_in, below_in, left_in, right-in}
 use Rattle.flood.proofs.spread.Statement.{statement}
 use Rattle.flood.proofs.spread.Tie as tie
@@ -43,7 +43,7 @@ module _ (c : tie.After-visit) where
   abbrev state-1 : State
   state-1 = state c.visit.result c.visit.new.1.1.1.0 c.visit.new.1.1.1.1.0
 
-  is-1 : state-1 ≡ visitIf (leb (w zero) (p zero)) (p zero - w zero) (state-0 (start zero))
+  is-1 : state-1 ≡ visit_if (leb (w zero) (p zero)) (p zero - w zero) (state-0 (start zero))
   is-1 = c.visit.ensures ∙ if-same _ _ (above zero)
 
   kept-1 : Kept (length (start zero).args.out.now) state-1
@@ -67,7 +67,7 @@ module _ (c : tie.After-visit2) where
   state-2 = state c.visit2.result c.visit2.new.1.1.1.0 c.visit2.new.1.1.1.1.0
 
   is-2 : let o = start-2 c.before in
-      state-2 ≡ visitIf (ltb (pixel o + o.args.w) (length o.args.out.now)) (pixel o + o.args.w) (state-1 (one c.before))
+      state-2 ≡ visit_if (ltb (pixel o + o.args.w) (length o.args.out.now)) (pixel o + o.args.w) (state-1 (one c.before))
   is-2 = c.visit2.ensures
 
   kept-2 : Kept (length (start-2 c.before).args.out.now) state-2
@@ -97,7 +97,7 @@ module _ (c : tie.After-visit3) where
   state-3 = state c.visit3.result c.visit3.new.1.1.1.0 c.visit3.new.1.1.1.1.0
 
   is-3 : let o = start-3 c.before in
-      state-3 ≡ visitIf (ltb 0 (pixel o % o.args.w)) (pixel o - 1) (state-2 (two c.before))
+      state-3 ≡ visit_if (ltb 0 (pixel o % o.args.w)) (pixel o - 1) (state-2 (two c.before))
   is-3 = c.visit3.ensures ∙ if-same _ _ (left c.before)
 
   kept-3 : Kept (length (start-3 c.before).args.out.now) state-3
@@ -113,14 +113,14 @@ visit-requires-4 c κs =
     ((λ t. omega (arith, right-in (start-3 (three c).before).pre t, k.long)), k.room)
 
 returns : tie.Need-returns
-unfolding spreadFrom
+unfolding spread_from
 returns c =
     let four : tie.After-visit4 = c.before.before.before.before in
     let c3 = three four.before in
     let c2 = two c3.before in
     let o = start-3 c3.before in
-    ◌∙◌ {b = visitIf (ltb (pixel o % o.args.w) (o.args.w - 1)) (pixel o + 1) (state-3 c3)} four.visit4.ensures
-    (ap (visitIf _ _) (is-3 c3 ∙ ap (visitIf _ _) (is-2 c2 ∙ ap (visitIf _ _) (is-1 (one c2.before)))))
+    ◌∙◌ {b = visit_if (ltb (pixel o % o.args.w) (o.args.w - 1)) (pixel o + 1) (state-3 c3)} four.visit4.ensures
+    (ap (visit_if _ _) (is-3 c3 ∙ ap (visit_if _ _) (is-2 c2 ∙ ap (visit_if _ _) (is-1 (one c2.before)))))
 
 pub spread-spec : {M : Type 1} → statement M
 spread-spec =

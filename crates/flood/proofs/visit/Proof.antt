@@ -2,7 +2,7 @@
 -- Assumes nothing.
 use Rattle.std.proofs.Common.{◌≡◌, ◌<◌, true, length, get_or, arith, rules, eq-eqb, ne_eqb}
 use borrow.Author.Tests.{not-true, not-false}
-use Rattle.flood.specs.steps.Flood.{state, pushed, visited, visitIf}
+use Rattle.flood.specs.steps.Flood.{state, pushed, visited, visit_if}
 use Rattle.flood.proofs.Room.{room_for}
 use Rattle.flood.proofs.visit.Statement.{statement}
 use Rattle.flood.proofs.visit.Tie as tie
@@ -16,11 +16,11 @@ module _ (c : tie.Else1) where
   inside = c.before.requires.0 there
 
 returns : tie.Need-returns
-unfolding visitIf
+unfolding visit_if
 returns c = rw (not-true c.before.args.has c.if1.true)
 
 returns-2 : tie.Need-returns-2
-unfolding visitIf visited
+unfolding visit_if visited
 returns-2 c =
     let a = c.before.before.before.args in
     rw (there c.before.before, ne_eqb (get_or a.out.now a.q 0) 1 c.if2.true)
@@ -32,7 +32,7 @@ slice-write-stack c =
     room_for (state a.top a.stack.now a.out.now) a.q o.requires.1 (inside c.before.before) c.if2.false
 
 returns-3 : tie.Need-returns-3
-unfolding visitIf visited pushed
+unfolding visit_if visited pushed
 returns-3 c =
     let a = c.before.before.before.args in
     rw (there c.before.before, eq-eqb (get_or a.out.now a.q 0) 1 c.if2.false)

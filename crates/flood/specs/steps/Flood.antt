@@ -3,8 +3,8 @@
 -- Assumes nothing.
 use Rattle.std.specs.Prelude.{◌≡◌, ℕ, ◌+◌, ◌-◌, ◌*◌, ◌%◌, ◌<◌, ◌≤◌, Bool, cond, List, [], ◌∷◌, length, ◌==◌, nat_eq, nat_le, nat_lt, slice_index, slice_set}
 use Rattle.plane.specs.Plane.{bit, table}
-use Rattle.plane.specs.steps.Sides.{longestSide, Sides}
-use Rattle.plane.specs.Search.{countBelow}
+use Rattle.plane.specs.steps.Sides.{longest_side, Sides}
+use Rattle.plane.specs.Search.{count_below}
 
 -- the height of the stack, the stack, and the plane
 pub record State : Type 0 where
@@ -24,8 +24,8 @@ unfoldable pub visited : ℕ → State → State
 visited q s = cond (slice_index s.plane q == 1) (pushed q s) s
 
 -- the same, if the plane has such a pixel
-unfoldable pub visitIf : Bool → ℕ → State → State
-visitIf has q s = cond has (visited q s) s
+unfoldable pub visit_if : Bool → ℕ → State → State
+visit_if has q s = cond has (visited q s) s
 
 -- the pixels of a list are visited, one after the other
 unfoldable pub seeded : List ℕ → State → State
@@ -33,21 +33,21 @@ seeded [] s = s
 seeded (q ∷ l) s = seeded l (visited q s)
 
 -- the pixels above, below, to the left and to the right of p are visited, in a plane of `area` pixels with w columns
-unfoldable pub spreadFrom : ℕ → ℕ → ℕ → State → State
-spreadFrom w area p s =
-    visitIf (nat_lt (p % w) (w - 1)) (p + 1)
-    (visitIf (nat_lt 0 (p % w)) (p - 1) (visitIf (nat_lt (p + w) area) (p + w) (visitIf (nat_le w p) (p - w) s)))
+unfoldable pub spread_from : ℕ → ℕ → ℕ → State → State
+spread_from w area p s =
+    visit_if (nat_lt (p % w) (w - 1)) (p + 1)
+    (visit_if (nat_lt 0 (p % w)) (p - 1) (visit_if (nat_lt (p + w) area) (p + w) (visit_if (nat_le w p) (p - w) s)))
 
 -- the pixel on top of the stack, and the state without it
-abbrev pub onTop : State → ℕ
-onTop s = slice_index s.stack (s.top - 1)
+abbrev pub on_top : State → ℕ
+on_top s = slice_index s.stack (s.top - 1)
 
 abbrev pub popped : State → State
 popped s = state (s.top - 1) s.stack s.plane
 
 -- it is taken off, and its neighbours are visited
-abbrev pub spreadTop : ℕ → State → State
-spreadTop w s = spreadFrom w (length s.plane) (onTop s) (popped s)
+abbrev pub spread_top : ℕ → State → State
+spread_top w s = spread_from w (length s.plane) (on_top s) (popped s)
 
 -- the pixels that are 2, as a mask
 unfoldable pub marked : List ℕ → List ℕ
@@ -55,11 +55,11 @@ marked plane = table (λ (i : ℕ). bit (slice_index plane i == 2)) 0 (length pl
 
 -- how many close pixels no step came to
 unfoldable pub waiting : List ℕ → ℕ
-waiting plane = countBelow (length plane) (λ (k : ℕ). nat_eq (slice_index plane k) 1)
+waiting plane = count_below (length plane) (λ (k : ℕ). nat_eq (slice_index plane k) 1)
 
 -- each of them has room on the stack beside those that are there
 pub record Room (s : State) : Type 0 where
-  pub small : length s.plane ≤ longestSide * longestSide
+  pub small : length s.plane ≤ longest_side * longest_side
   pub tall : length s.plane ≤ length s.stack
   pub fits : s.top + waiting s.plane ≤ length s.plane
 
@@ -68,9 +68,9 @@ pub record Spreads (w : ℕ) (s : State) : Type 0 where
   pub room : Room s
   pub some : 0 < s.top
   pub wide : 0 < w
-  pub narrow : w ≤ longestSide
-  pub inside : onTop s < length s.plane
-  pub row : onTop s % w < w - 1 → onTop s + 1 < length s.plane
+  pub narrow : w ≤ longest_side
+  pub inside : on_top s < length s.plane
+  pub row : on_top s % w < w - 1 → on_top s + 1 < length s.plane
 
 -- a plane of 0 and 1
 pub record Closed (plane : List ℕ) (h w : ℕ) : Type 0 where

@@ -6,7 +6,7 @@ use native.Mathlib.Omega.{arith}
 use lib.ListN.{length}
 use borrow.Author.Rules.{rules}
 use borrow.Author.Tests.{eq-eqb, ne_eqb}
-use Rattle.geometry.specs.Crop.{cropPart}
+use Rattle.geometry.specs.Crop.{crop_part}
 use Rattle.plane.specs.Refusal.{after}
 use Rattle.geometry.proofs.Accepted.{InPlane, in-plane}
 use Rattle.geometry.proofs.crop_row.Statement.{statement}
@@ -22,11 +22,11 @@ gap : (k a b : ℕ) → k + a - (k + b) ≡ a - b
 gap k a b = omega arith
 
 returns : tie.Need-returns
-unfolding cropPart after
+unfolding crop_part after
 returns c = rw (← c.before.before.crop-row-refusal.ensures, ne_eqb _ _ c.before.if1.true)
 
 returns-2 : tie.Need-returns-2
-unfolding cropPart after
+unfolding crop_part after
 returns-2 c =
     let asked = c.before.before in
     let a = asked.before.before.args in

@@ -1,16 +1,16 @@
 -- How fill reads the plane of indices.
 -- Assumes nothing.
 use Rattle.std.specs.Prelude.{◌≡◌, Bool, cond, List, ℕ, ◌+◌, ◌*◌, ◌-◌, ◌≤◌, ◌<◌, length, get_or}
-use Rattle.plane.specs.Plane.{planeOf}
+use Rattle.plane.specs.Plane.{plane_of}
 use Rattle.plane.specs.steps.Sides.{Sides}
 
 -- the pixel that pixel i takes its colour from: the one whose index stands there, or the first of the last row where nothing is on
-unfoldable pub sourceAt : List ℕ → Bool → ℕ → ℕ → ℕ → ℕ
-sourceAt indices some h w i = cond some (get_or indices i 0) ((h - 1) * w)
+unfoldable pub source_at : List ℕ → Bool → ℕ → ℕ → ℕ → ℕ
+source_at indices some h w i = cond some (get_or indices i 0) ((h - 1) * w)
 
 -- channel c of pixel i is that of this pixel
-unfoldable pub coloursFrom : List ℕ → ℕ → ℕ → List ℕ → Bool → List ℕ
-coloursFrom colours h w indices some = planeOf (h * w) 3 (λ (i c : ℕ). get_or colours (3 * sourceAt indices some h w i + c) 0)
+unfoldable pub colours_from : List ℕ → ℕ → ℕ → List ℕ → Bool → List ℕ
+colours_from colours h w indices some = plane_of (h * w) 3 (λ (i c : ℕ). get_or colours (3 * source_at indices some h w i + c) 0)
 
 -- indices of pixels of the picture, and colours for it
 pub record Reads (colours : List ℕ) (h w : ℕ) (indices out : List ℕ) : Type 0 where

@@ -12,10 +12,10 @@ use Rattle.plane.specs.Plane.{bit}
 use Rattle.plane.specs.Mask.{mask_of}
 use Rattle.plane.proofs.InPlace.{Changed, changed-none, changed-more, changed-end}
 use Rattle.colour.specs.declared.Rgb.{Rgb}
-use Rattle.colour.specs.Colour.{closeTo, rgbOk}
+use Rattle.colour.specs.Colour.{close_to, rgb_ok}
 use Rattle.colour.proofs.Range.{colours-at, rgb-from}
-use Rattle.outline.specs.Border.{channelAt, colourAt}
-use Rattle.outline.specs.Ground.{isClose}
+use Rattle.outline.specs.Border.{channel_at, colour_at}
+use Rattle.outline.specs.Ground.{is_close}
 use Rattle.ground.specs.steps.Picture.{Closes}
 use Rattle.ground.proofs.close_plane.Statement.{statement}
 use Rattle.ground.proofs.close_plane.Tie as tie
@@ -25,13 +25,13 @@ abbrev pixel : List Float → ℕ → Rgb
 pixel colours i = record { r = get_or colours (3 * i) nan; g = get_or colours (3 * i + 1) nan; b = get_or colours (3 * i + 2) nan }
 
 -- is that of pixel i
-pixel-is : (colours : List Float) (i : ℕ) → pixel colours i ≡ colourAt colours i
-unfolding colourAt channelAt
+pixel-is : (colours : List Float) (i : ℕ) → pixel colours i ≡ colour_at colours i
+unfolding colour_at channel_at
 pixel-is colours i = let e : 3 * i + 0 ≡ 3 * i = omega arith in rw e
 
 -- and in range
 pixel-ok : (colours : List Float) (reference : Rgb) (out : List ℕ) (i : ℕ) → Closes colours reference out → i < length out
-    → rgbOk (pixel colours i) ≡ true
+    → rgb_ok (pixel colours i) ≡ true
 pixel-ok colours reference out i g l =
     rgb-from (pixel colours i)
     (colours-at colours g.range (3 * i) (omega (arith, g.input)))
@@ -40,12 +40,12 @@ pixel-ok colours reference out i g l =
 
 -- what is written for pixel i
 abbrev mark : List Float → Rgb → Float → ℕ → ℕ
-mark colours reference tolerance i = bit (isClose colours reference tolerance i)
+mark colours reference tolerance i = bit (is_close colours reference tolerance i)
 
 mark-is : (colours : List Float) (reference : Rgb) (tolerance : Float) (i : ℕ)
-    → bit (closeTo tolerance reference (pixel colours i)) ≡ mark colours reference tolerance i
-unfolding isClose
-mark-is colours reference tolerance i = ap (λ (p : Rgb). bit (closeTo tolerance reference p)) (pixel-is colours i)
+    → bit (close_to tolerance reference (pixel colours i)) ≡ mark colours reference tolerance i
+unfolding is_close
+mark-is colours reference tolerance i = ap (λ (p : Rgb). bit (close_to tolerance reference p)) (pixel-is colours i)
 
 abbrev invariant-loop : tie.invariant-loop
 invariant-loop colours reference tolerance out₀ i₀ i-end out i =

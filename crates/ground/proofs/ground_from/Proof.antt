@@ -8,10 +8,10 @@ use lib.Dec.{leb}
 use lib.ListN.{length}
 use borrow.Author.Rules.{rules}
 use borrow.Author.Tests.{not-true, not-false}
-use Rattle.plane.specs.Mask.{someOff}
+use Rattle.plane.specs.Mask.{some_off}
 use Rattle.plane.proofs.Plane.{area-most}
-use Rattle.outline.specs.Border.{borderList}
-use Rattle.outline.specs.Ground.{closePlane, countOn}
+use Rattle.outline.specs.Border.{border_list}
+use Rattle.outline.specs.Ground.{close_plane, count_on}
 use Rattle.ground.proofs.Answers.{close-is, close-closed, absent-few, absent-full, found}
 use Rattle.ground.proofs.ground_from.Statement.{statement}
 use Rattle.ground.proofs.ground_from.Tie as tie
@@ -39,7 +39,7 @@ close-long : (c : tie.After-close-plane) → let a = (start c).args in length (c
 close-long c = c.close-plane.auto.1.1.1.0 ∙ (start c).requires.0.output
 
 close-pixels : (c : tie.After-close-plane) → let a = (start c).args in
-    close c ≡ closePlane a.colours.now a.h a.w a.reference a.tolerance
+    close c ≡ close_plane a.colours.now a.h a.w a.reference a.tolerance
 close-pixels c =
     let o = start c in
     let a = o.args in
@@ -50,10 +50,10 @@ ground-long c = c.flood.auto.1.1.1.0 ∙ close-long (closed (counted c))
 
 -- what the two tests say
 counted_is : (c : tie.After-mostly) → let a = (start (closed c)).args in
-    c.mostly.result ≡ leb (9 * length (borderList a.h a.w)) (10 * countOn (close (closed c)) (borderList a.h a.w))
+    c.mostly.result ≡ leb (9 * length (border_list a.h a.w)) (10 * count_on (close (closed c)) (border_list a.h a.w))
 counted_is c = c.mostly.ensures
 
-off-is : (c : tie.After-some-off) → c.some-off.result ≡ someOff (ground (flooded c)) (length (ground (flooded c)))
+off-is : (c : tie.After-some-off) → c.some-off.result ≡ some_off (ground (flooded c)) (length (ground (flooded c)))
 off-is c = c.some-off.ensures
 
 close-plane-requires : tie.Need-close-plane-requires

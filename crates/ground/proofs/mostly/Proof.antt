@@ -12,9 +12,9 @@ use lib.ListN.{length, get_or, drop, drop_of_length-le}
 use lib.Seq.{drop-cons}
 use borrow.Author.Rules.{rules}
 use Rattle.plane.specs.Plane.{on, bit}
-use Rattle.plane.specs.Mask.{isOn}
-use Rattle.outline.specs.Border.{borderList}
-use Rattle.outline.specs.Ground.{countOn}
+use Rattle.plane.specs.Mask.{is_on}
+use Rattle.outline.specs.Border.{border_list}
+use Rattle.outline.specs.Ground.{count_on}
 use Rattle.flood.proofs.Border.{border-length, border-in}
 use Rattle.ground.proofs.Answers.{bit-most}
 use Rattle.ground.proofs.mostly.Statement.{statement}
@@ -22,18 +22,18 @@ use Rattle.ground.proofs.mostly.Tie as tie
 
 -- the rest of a list begins with its pixel k, and is nothing in the end
 rest : (mask l : List ℕ) (k : ℕ) → k < length l
-    → countOn mask (drop k l) ≡ bit (not (eqb (get_or mask (get_or l k 0) 0) 0)) + countOn mask (drop (k + 1) l)
-unfolding countOn isOn on bit
+    → count_on mask (drop k l) ≡ bit (not (eqb (get_or mask (get_or l k 0) 0) 0)) + count_on mask (drop (k + 1) l)
+unfolding count_on is_on on bit
 rest mask l k h = rw (drop-cons l k 0 h, add-one k)
 
-none_left : (mask l : List ℕ) (k : ℕ) → length l ≤ k → countOn mask (drop k l) ≡ 0
-unfolding countOn
+none_left : (mask l : List ℕ) (k : ℕ) → length l ≤ k → count_on mask (drop k l) ≡ 0
+unfolding count_on
 none_left mask l k h = rw (drop_of_length-le l {i = k} h)
 
 abbrev invariant-loop : tie.invariant-loop
 invariant-loop mask h w total count₀ k₀ count k =
-    (total ≡ length (borderList h w)) × (k ≤ total) × (count ≤ k)
-    × (countOn mask (borderList h w) ≡ count + countOn mask (drop k (borderList h w)))
+    (total ≡ length (border_list h w)) × (k ≤ total) × (count ≤ k)
+    × (count_on mask (border_list h w) ≡ count + count_on mask (drop k (border_list h w)))
 
 abbrev decreases-loop : tie.decreases-loop
 decreases-loop mask h w total count₀ k₀ count k = total - k
@@ -63,18 +63,18 @@ loop-again c =
     let l = p.before.before.loop in
     let a = (start p.before.before).args in
     let on : ℕ → ℕ = λ i. bit (not (eqb (get_or a.mask.now i 0) 0)) in
-    let more = rest a.mask.now (borderList a.h a.w) l.k (omega (arith, l.invariant.0)) in
-    let added : c.byte.result ≡ on (get_or (borderList a.h a.w) l.k 0) = c.byte.ensures ∙ ap on p.border-pixel.ensures in
-    let small = bit-most (not (eqb (get_or a.mask.now (get_or (borderList a.h a.w) l.k 0) 0) 0)) in
+    let more = rest a.mask.now (border_list a.h a.w) l.k (omega (arith, l.invariant.0)) in
+    let added : c.byte.result ≡ on (get_or (border_list a.h a.w) l.k 0) = c.byte.ensures ∙ ap on p.border-pixel.ensures in
+    let small = bit-most (not (eqb (get_or a.mask.now (get_or (border_list a.h a.w) l.k 0) 0) 0)) in
     (l.invariant.0, omega arith, omega arith, omega (arith, l.invariant.3))
 
 returns : tie.Need-returns invariant-loop decreases-loop
 returns c =
     let l = c.before.loop in
     let a = (start c.before).args in
-    let z = none_left a.mask.now (borderList a.h a.w) l.k (omega (arith, l.invariant.0)) in
-    let e : l.count ≡ countOn a.mask.now (borderList a.h a.w) = omega (arith, l.invariant.3) in
-    ap (λ (i : ℕ). leb (9 * i) (10 * l.count)) l.invariant.0 ∙ ap (λ (i : ℕ). leb (9 * length (borderList a.h a.w)) (10 * i)) e
+    let z = none_left a.mask.now (border_list a.h a.w) l.k (omega (arith, l.invariant.0)) in
+    let e : l.count ≡ count_on a.mask.now (border_list a.h a.w) = omega (arith, l.invariant.3) in
+    ap (λ (i : ℕ). leb (9 * i) (10 * l.count)) l.invariant.0 ∙ ap (λ (i : ℕ). leb (9 * length (border_list a.h a.w)) (10 * i)) e
 
 pub mostly-spec : {M : Type 1} → statement M
 mostly-spec =

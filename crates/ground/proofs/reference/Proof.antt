@@ -8,7 +8,7 @@ use lib.Ieee.{Float}
 use borrow.Author.Rules.{rules}
 use Rattle.colour.specs.declared.Rgb.{Rgb}
 use Rattle.colour.proofs.Range.{rgb-from}
-use Rattle.outline.specs.Border.{referenceChannel, referenceOf}
+use Rattle.outline.specs.Border.{reference_channel, reference_of}
 use Rattle.ground.specs.steps.Picture.{Picture}
 use Rattle.ground.proofs.Values.{same-picture}
 use Rattle.ground.proofs.reference.Statement.{statement}
@@ -16,9 +16,9 @@ use Rattle.ground.proofs.reference.Tie as tie
 
 -- a colour of the three channels' references is the reference
 reference-is : (colours : List Float) (h w : ℕ) (r g b : Float)
-    → r ≡ referenceChannel colours h w 0 → g ≡ referenceChannel colours h w 1 → b ≡ referenceChannel colours h w 2
-    → ◌≡◌ {A = Rgb} (record { r = r; g = g; b = b }) (referenceOf colours h w)
-unfolding referenceOf
+    → r ≡ reference_channel colours h w 0 → g ≡ reference_channel colours h w 1 → b ≡ reference_channel colours h w 2
+    → ◌≡◌ {A = Rgb} (record { r = r; g = g; b = b }) (reference_of colours h w)
+unfolding reference_of
 reference-is colours h w r g b p q s = rw (p, q, s)
 
 -- the places after each channel, and the picture with the work buffer there

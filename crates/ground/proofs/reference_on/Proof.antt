@@ -12,16 +12,16 @@ use borrow.Author.Rules.{rules}
 use Rattle.card.specs.contracts.Card as card-type
 use Rattle.card.specs.declared.Card.{Card}
 use Rattle.card.specs.declared.Card.TheVariants as card
-use Rattle.outline.specs.Border.{referenceOf, referenceOn}
+use Rattle.outline.specs.Border.{reference_of, reference_on}
 use Rattle.ground.proofs.reference_on.Statement.{statement}
 use Rattle.ground.proofs.reference_on.Tie as tie
 
 -- a card without a colour has the border's reference
 not-given : (on : Card) (colours : List Float) (h w : ℕ) → OneOf (0 ∷ 2 ∷ []) (tag_of card-type.the_type on)
-    → referenceOn on colours h w ≡ referenceOf colours h w
+    → reference_on on colours h w ≡ reference_of colours h w
 not-given card.Border colours h w o = refl
 not-given (card.Given colour) colours h w o =
-    ⊎_elim {C = colour ≡ referenceOf colours h w} (λ z. absurd (omega arith)) (λ z. absurd (omega arith)) o
+    ⊎_elim {C = colour ≡ reference_of colours h w} (λ z. absurd (omega arith)) (λ z. absurd (omega arith)) o
 not-given card.Unreadable colours h w o = refl
 
 returns : tie.Need-returns

@@ -2,12 +2,12 @@
 -- Assumes nothing.
 use native.Mathlib.Nat.{add-zero}
 use borrow.Author.Rules.{rules}
-use Rattle.outline.specs.Border.{channelAt, colourAt}
+use Rattle.outline.specs.Border.{channel_at, colour_at}
 use Rattle.growth.proofs.colour_at.Statement.{statement}
 use Rattle.growth.proofs.colour_at.Tie as tie
 
 returns : tie.Need-returns
-unfolding colourAt channelAt
+unfolding colour_at channel_at
 returns c = simp add-zero
 
 pub colour-at-spec : {M : Type 1} → statement M

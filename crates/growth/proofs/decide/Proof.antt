@@ -7,9 +7,9 @@ use native.Mathlib.Omega.{arith}
 use lib.ListN.{length, take}
 use borrow.Author.Rules.{rules}
 use borrow.Author.Tests.{not-true}
-use Rattle.plane.specs.Search.{someBelow}
-use Rattle.plane.specs.Mask.{isOn}
-use Rattle.nearest.specs.steps.Indices.{indicesPlane}
+use Rattle.plane.specs.Search.{some_below}
+use Rattle.plane.specs.Mask.{is_on}
+use Rattle.nearest.specs.steps.Indices.{indices_plane}
 use Rattle.window.proofs.Indices.{indices-length, indices-inside}
 use Rattle.growth.proofs.Marks.{decided-last, decided-all}
 use Rattle.growth.proofs.decide.Statement.{statement}
@@ -32,7 +32,7 @@ abbrev first : tie.After-search → tie.Start
 first c = start (at-any (at-made c))
 
 -- whether there is a deep pixel
-known : (c : tie.After-any) → c.any.result ≡ someBelow ((start c).args.h * (start c).args.w) (isOn (start c).args.deep.now)
+known : (c : tie.After-any) → c.any.result ≡ some_below ((start c).args.h * (start c).args.w) (is_on (start c).args.deep.now)
 known c = rw (← (start c).requires.deep_long) c.any.ensures
 
 -- the plane of the nearest pixels lies within its buffer
@@ -90,7 +90,7 @@ module _ (c : tie.After-nearest-indices) where
   abbrev plane : List ℕ
   plane = take (length a.args.marks.now - 0) c.nearest-indices.new.1.1.1.0
 
-  indices : plane ≡ indicesPlane a.args.shallow.now a.args.h a.args.w
+  indices : plane ≡ indices_plane a.args.shallow.now a.args.h a.args.w
   indices =
       let n : length a.args.marks.now - 0 ≡ a.args.h * a.args.w = omega (arith, a.pre.marks-long) in
       rw n c.nearest-indices.ensures

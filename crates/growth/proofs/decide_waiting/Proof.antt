@@ -6,13 +6,13 @@ use native.Mathlib.Omega.{arith}
 use lib.ListN.{length, get_or}
 use borrow.Author.Rules.{rules}
 use Rattle.plane.proofs.InPlace.{Changed, changed-none, changed-more, changed-end}
-use Rattle.growth.specs.steps.Marks.{lastMark}
+use Rattle.growth.specs.steps.Marks.{last_mark}
 use Rattle.growth.proofs.decide_waiting.Statement.{statement}
 use Rattle.growth.proofs.decide_waiting.Tie as tie
 
 abbrev invariant-loop : tie.invariant-loop
 invariant-loop colours reference nearest marks₀ i₀ marks i =
-    (i ≤ length marks₀) × Changed 0 (lastMark colours reference nearest marks₀) marks₀ marks i
+    (i ≤ length marks₀) × Changed 0 (last_mark colours reference nearest marks₀) marks₀ marks i
 
 abbrev decreases-loop : tie.decreases-loop
 decreases-loop colours reference nearest marks₀ i₀ marks i = length marks₀ - i
@@ -26,14 +26,14 @@ last-mark-requires c κs =
     (omega (arith, p.inside l.i (omega arith), p.colours-long), omega (arith, p.colours-long))
 
 loop-again : tie.Need-loop-preserved invariant-loop decreases-loop
-unfolding lastMark
+unfolding last_mark
 loop-again c =
     let at-loop = c.before.before.before.before in
     let l = at-loop.loop in
     let a = at-loop.before.before.before.before.args in
     let size = l.invariant.1.size in
     let same : get_or l.marks l.i 0 ≡ get_or a.marks.now l.i 0 = l.invariant.1.back l.i (omega arith) in
-    let e : c.last-mark.result ≡ lastMark a.colours.now a.reference a.nearest.now a.marks.now l.i =
+    let e : c.last-mark.result ≡ last_mark a.colours.now a.reference a.nearest.now a.marks.now l.i =
     rw (← same) c.last-mark.ensures in
     (omega arith, changed-more 0 _ _ l.marks l.i c.last-mark.result l.invariant.1 (omega arith) e)
 

@@ -6,8 +6,8 @@ use Prim.Native.Nat.{ℕ, ◌*◌}
 use native.Mathlib.Omega.{arith}
 use borrow.Author.Rules.{rules}
 use Rattle.plane.specs.Mask.{mask_of}
-use Rattle.plane.specs.steps.Complement.{complementOf}
-use Rattle.outline.specs.Growth.{isShallow}
+use Rattle.plane.specs.steps.Complement.{complement_of}
+use Rattle.outline.specs.Growth.{is_shallow}
 use Rattle.growth.proofs.Laying.{deep-laid, shallow-laid, edge-laid}
 use Rattle.growth.proofs.lay.Statement.{statement}
 use Rattle.growth.proofs.lay.Tie as tie
@@ -44,15 +44,15 @@ returns c =
     let p = (start made).requires in
     let wide = p.0.some-columns in
     let shallow : List ℕ = (at-shallow made).complement2.new.0 in
-    let shallow-made : shallow ≡ mask_of (a.h * a.w) (isShallow a.back.now a.h a.w) =
+    let shallow-made : shallow ≡ mask_of (a.h * a.w) (is_shallow a.back.now a.h a.w) =
     (at-shallow made).complement2.ensures
-    ∙ ap complementOf (at-near made).dilate2.ensures.0
+    ∙ ap complement_of (at-near made).dilate2.ensures.0
     ∙ shallow-laid a.back.now a.h a.w wide in
     record {
       shallow-is = shallow-made;
       deep_is =
           (at-deep made).complement.ensures
-          ∙ ap complementOf (at-reached made).dilate.ensures.0
+          ∙ ap complement_of (at-reached made).dilate.ensures.0
           ∙ deep-laid a.back.now a.h a.w wide;
       marks-are =
           c.before.before.edges.ensures

@@ -6,7 +6,7 @@ use Prim.Native.Nat.{ℕ}
 use native.Mathlib.Omega.{arith}
 use lib.ListN.{length}
 use borrow.Author.Rules.{rules}
-use Rattle.outline.specs.Growth.{growthOf}
+use Rattle.outline.specs.Growth.{growth_of}
 use Rattle.growth.specs.steps.Marks.{Planes}
 use Rattle.growth.proofs.Passes.{rest-less, growth-step, growth-done}
 use Rattle.growth.proofs.run.Statement.{statement}
@@ -15,7 +15,7 @@ use Rattle.growth.proofs.run.Tie as tie
 abbrev invariant-loop : tie.invariant-loop
 invariant-loop colours h w reference passes nearest₀ shallow₀ deep₀ marks₀ back₀ left₀ nearest shallow deep marks back left =
     Planes h w nearest shallow deep marks back
-    × (growthOf colours reference h w passes back₀ ≡ growthOf colours reference h w left back)
+    × (growth_of colours reference h w passes back₀ ≡ growth_of colours reference h w left back)
     × (length nearest ≡ length nearest₀)
 
 abbrev decreases-loop : tie.decreases-loop

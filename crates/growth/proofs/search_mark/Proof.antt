@@ -7,7 +7,7 @@ use native.Mathlib.Omega.{arith}
 use borrow.Author.Rules.{rules}
 use borrow.Author.Tests.{eq-eqb, ne_eqb, lt-ltb, le-ltb, not-true}
 use Rattle.plane.specs.Plane.{on, bit}
-use Rattle.growth.specs.steps.Marks.{nearMark}
+use Rattle.growth.specs.steps.Marks.{near_mark}
 use Rattle.growth.proofs.Marks.{near-empty}
 use Rattle.growth.proofs.search_mark.Statement.{statement}
 use Rattle.growth.proofs.search_mark.Tie as tie
@@ -19,7 +19,7 @@ returns c = rw (eq-eqb _ _ c.if1.true)
 
 -- no deep pixel at all
 returns-2 : tie.Need-returns-2
-unfolding on nearMark
+unfolding on near_mark
 returns-2 c =
     let o = c.before.before.before.before.before in
     let a = o.args in
@@ -29,7 +29,7 @@ returns-2 c =
 
 -- a deep pixel that is near enough
 returns-3 : tie.Need-returns-3
-unfolding on nearMark
+unfolding on near_mark
 returns-3 c =
     let found = c.before.before.before in
     let o = found.before.before.before.before.before.before in
@@ -39,7 +39,7 @@ returns-3 c =
 
 -- none that is
 returns-4 : tie.Need-returns-4
-unfolding on nearMark
+unfolding on near_mark
 returns-4 c =
     let found = c.before in
     let o = found.before.before.before.before.before.before in

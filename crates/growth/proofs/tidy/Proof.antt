@@ -6,19 +6,19 @@ use native.Mathlib.Omega.{arith}
 use lib.ListN.{length}
 use borrow.Author.Rules.{rules}
 use Rattle.plane.specs.Plane.{on, bit}
-use Rattle.plane.specs.Mask.{isOn, mask_of}
+use Rattle.plane.specs.Mask.{is_on, mask_of}
 use Rattle.plane.proofs.InPlace.{Changed, changed-none, changed-more, changed-end}
 use Rattle.growth.proofs.tidy.Statement.{statement}
 use Rattle.growth.proofs.tidy.Tie as tie
 
 abbrev invariant-loop : tie.invariant-loop
-invariant-loop back₀ i₀ back i = (i ≤ length back₀) × Changed 0 (λ (k : ℕ). bit (isOn back₀ k)) back₀ back i
+invariant-loop back₀ i₀ back i = (i ≤ length back₀) × Changed 0 (λ (k : ℕ). bit (is_on back₀ k)) back₀ back i
 
 abbrev decreases-loop : tie.decreases-loop
 decreases-loop back₀ i₀ back i = length back₀ - i
 
 loop-again : tie.Need-loop-preserved invariant-loop decreases-loop
-unfolding isOn on
+unfolding is_on on
 loop-again c =
     let l = c.before.before.before.loop in
     let e = c.byte.ensures ∙ ap (λ (b : ℕ). bit (on b)) (l.invariant.1.back l.i (omega arith)) in

@@ -4,44 +4,44 @@
 use Rattle.std.specs.Prelude.{ℕ, ◌+◌, ◌*◌, ◌≤◌, ◌<◌, ◌/◌, ◌%◌, ◌≡◌, Bool, cond, not, ◌&&◌, List, eqb, ltb, Float, length, get_or}
 use Rattle.plane.specs.Plane.{bit, table}
 use Rattle.plane.specs.steps.Sides.{Sides}
-use Rattle.plane.specs.Search.{someBelow}
-use Rattle.plane.specs.Mask.{isOn, mask_of}
+use Rattle.plane.specs.Search.{some_below}
+use Rattle.plane.specs.Mask.{is_on, mask_of}
 use Rattle.colour.specs.declared.Rgb.{Rgb}
-use Rattle.colour.specs.Colour.{differenceOf}
-use Rattle.colour.specs.Join.{joinsOf}
-use Rattle.outline.specs.Border.{colourAt}
-use Rattle.outline.specs.Growth.{isEdge, isShallow, isDeep, bodyFrom}
-use Rattle.window.specs.steps.Window.{nearPixel, Made}
+use Rattle.colour.specs.Colour.{difference_of}
+use Rattle.colour.specs.Join.{joins_of}
+use Rattle.outline.specs.Border.{colour_at}
+use Rattle.outline.specs.Growth.{is_edge, is_shallow, is_deep, body_from}
+use Rattle.window.specs.steps.Window.{near_pixel, Made}
 
 -- whether pixel i joins if its body colour is that of pixel b
-unfoldable pub joinsWith : List Float → Rgb → ℕ → ℕ → Bool
-joinsWith colours reference b i = joinsOf (differenceOf (colourAt colours b) reference) (differenceOf (colourAt colours i) reference)
+unfoldable pub joins_with : List Float → Rgb → ℕ → ℕ → Bool
+joins_with colours reference b i = joins_of (difference_of (colour_at colours b) reference) (difference_of (colour_at colours i) reference)
 
 -- the mark of a pixel that waits
 abbrev pub waits : ℕ
 waits = 2
 
 -- whether a pixel is neither background nor shallow, where there is a shallow pixel at all
-unfoldable pub edgeTest : Bool → List ℕ → List ℕ → ℕ → Bool
-edgeTest some back shallow i = some && not (isOn back i) && not (isOn shallow i)
+unfoldable pub edge_test : Bool → List ℕ → List ℕ → ℕ → Bool
+edge_test some back shallow i = some && not (is_on back i) && not (is_on shallow i)
 
 -- the first mark: the edge pixels, if there is a shallow pixel
-unfoldable pub edgeMark : List ℕ → ℕ → ℕ → ℕ → ℕ
-edgeMark back h w i = bit (someBelow (h * w) (isShallow back h w) && isEdge back h w i)
+unfoldable pub edge_mark : List ℕ → ℕ → ℕ → ℕ → ℕ
+edge_mark back h w i = bit (some_below (h * w) (is_shallow back h w) && is_edge back h w i)
 
 -- the mark after the search of the window: decided where a deep pixel is near enough
-unfoldable pub nearMark : List Float → Rgb → List ℕ → ℕ → ℕ → ℕ → ℕ
-nearMark colours reference deep h w i =
-    cond (ltb (nearPixel deep h w (i / w) (i % w)) (h * w)) (bit (joinsWith colours reference (nearPixel deep h w (i / w) (i % w)) i)) waits
+unfoldable pub near_mark : List Float → Rgb → List ℕ → ℕ → ℕ → ℕ → ℕ
+near_mark colours reference deep h w i =
+    cond (ltb (near_pixel deep h w (i / w) (i % w)) (h * w)) (bit (joins_with colours reference (near_pixel deep h w (i / w) (i % w)) i)) waits
 
 -- the same where only the marked pixels are searched
-unfoldable pub searchMark : List Float → Rgb → List ℕ → ℕ → ℕ → List ℕ → ℕ → ℕ
-searchMark colours reference deep h w marks i = cond (isOn marks i) (nearMark colours reference deep h w i) 0
+unfoldable pub search_mark : List Float → Rgb → List ℕ → ℕ → ℕ → List ℕ → ℕ → ℕ
+search_mark colours reference deep h w marks i = cond (is_on marks i) (near_mark colours reference deep h w i) 0
 
 -- the last mark: a pixel that waits is decided by its nearest shallow pixel
-unfoldable pub lastMark : List Float → Rgb → List ℕ → List ℕ → ℕ → ℕ
-lastMark colours reference nearest marks i =
-    cond (eqb (get_or marks i 0) waits) (bit (joinsWith colours reference (get_or nearest i 0) i)) (get_or marks i 0)
+unfoldable pub last_mark : List Float → Rgb → List ℕ → List ℕ → ℕ → ℕ
+last_mark colours reference nearest marks i =
+    cond (eqb (get_or marks i 0) waits) (bit (joins_with colours reference (get_or nearest i 0) i)) (get_or marks i 0)
 
 -- a picture with its sides
 pub record Picture (colours : List Float) (h w : ℕ) : Type 0 where
@@ -53,7 +53,7 @@ pub record Searches (colours : List Float) (h w : ℕ) (deep nearest : List ℕ)
   pub picture : Picture colours h w
   pub deep_long : length deep ≡ h * w
   pub nearest-made : Made deep nearest made h w
-  pub known : some ≡ someBelow (h * w) (isOn deep)
+  pub known : some ≡ some_below (h * w) (is_on deep)
 
 -- for each pixel the index of a pixel
 pub record Indexed (colours : List Float) (nearest marks : List ℕ) : Type 0 where
@@ -62,9 +62,9 @@ pub record Indexed (colours : List Float) (nearest marks : List ℕ) : Type 0 wh
   pub inside : (i : ℕ) → i < length marks → get_or nearest i 0 < length marks
 
 -- the mark after both: the marked pixels that join
-unfoldable pub decidedMark : List Float → Rgb → List ℕ → List ℕ → ℕ → ℕ → List ℕ → ℕ → ℕ
-decidedMark colours reference deep shallow h w marks i =
-    cond (isOn marks i) (bit (joinsWith colours reference (bodyFrom deep shallow h w i) i)) 0
+unfoldable pub decided_mark : List Float → Rgb → List ℕ → List ℕ → ℕ → ℕ → List ℕ → ℕ → ℕ
+decided_mark colours reference deep shallow h w marks i =
+    cond (is_on marks i) (bit (joins_with colours reference (body_from deep shallow h w i) i)) 0
 
 -- what the decision is given: a picture, its shallow plane and its deep plane, and room to work in
 pub record Decides (colours : List Float) (h w : ℕ) (shallow deep nearest marks : List ℕ) : Type 0 where
@@ -84,9 +84,9 @@ pub record Planes (h w : ℕ) (nearest shallow deep marks back : List ℕ) : Typ
 
 -- the shallow plane, the deep plane and the edge marks of a background
 pub record Laid (back : List ℕ) (h w : ℕ) (shallow deep marks : List ℕ) : Type 0 where
-  pub shallow-is : shallow ≡ mask_of (h * w) (isShallow back h w)
-  pub deep_is : deep ≡ mask_of (h * w) (isDeep back h w)
-  pub marks-are : marks ≡ table (edgeMark back h w) 0 (h * w)
+  pub shallow-is : shallow ≡ mask_of (h * w) (is_shallow back h w)
+  pub deep_is : deep ≡ mask_of (h * w) (is_deep back h w)
+  pub marks-are : marks ≡ table (edge_mark back h w) 0 (h * w)
 
 -- what growth is given
 pub record Room (colours : List Float) (h w : ℕ) (nearest shallow deep marks back : List ℕ) : Type 0 where

@@ -5,8 +5,8 @@ use Prim.Native.Nat.{◌*◌}
 use lib.ListN.{length}
 use borrow.Author.Rules.{rules}
 use Rattle.colour.proofs.Range.{is}
-use Rattle.outline.specs.Calls.{Buffers, refusalIn, HeldIn}
-use Rattle.outline.specs.Cut.{weightsOf}
+use Rattle.outline.specs.Calls.{Buffers, refusal_in, HeldIn}
+use Rattle.outline.specs.Cut.{weights_of}
 use Rattle.outline.proofs.CutLaws.{Taken, taken}
 use Rattle.keying.proofs.Accepted.{cut-by-contents, cut-refused, cut-made}
 use Rattle.keying.proofs.cut_on.Statement.{statement}
@@ -41,7 +41,7 @@ module _ (c : tie.After-cut-contents) where
 
   -- the number that the contents get is the call's
   number : let a = start.args in
-      c.cut-contents.result ≡ refusalIn a.colours.now a.alpha.now a.h a.w a.card a.s lent
+      c.cut-contents.result ≡ refusal_in a.colours.now a.alpha.now a.h a.w a.card a.s lent
   number =
       let a = start.args in
       c.cut-contents.ensures
@@ -113,7 +113,7 @@ returns-2 c =
     let call = m.cut-mask.ensures in
     let z = sym (number n) ∙ (else1 m).if1.left in
     cut-made a.colours.now a.alpha.now a.h a.w a.card a.s (lent n) _ _ _ z call.0 call.1
-    (w.weights.ensures ∙ ap (weightsOf _ _) (weights-long m)) c.crop-of.ensures (held n)
+    (w.weights.ensures ∙ ap (weights_of _ _) (weights-long m)) c.crop-of.ensures (held n)
 
 pub cut-on-spec : {M : Type 1} → statement M
 cut-on-spec =

@@ -3,7 +3,7 @@
 use mathlib.Core.Path.{◌≡◌, sym, ◌∙◌}
 use borrow.Author.Rules.{rules}
 use Rattle.plane.proofs.Refusal.{written}
-use Rattle.keying.specs.Calls.{groundRefusalIn}
+use Rattle.keying.specs.Calls.{ground_refusal_in}
 use Rattle.keying.proofs.Accepted.{ground-ok, ground-by-picture, ground-refused}
 use Rattle.keying.proofs.ground_on.Statement.{statement}
 use Rattle.keying.proofs.ground_on.Tie as tie
@@ -14,7 +14,7 @@ module _ (c : tie.After-picture-refusal) where
   start = c.before.before.before.before
 
   number : let a = start.args in
-      c.picture-refusal.result ≡ groundRefusalIn a.colours.now a.h a.w a.card a.tolerance a.work.now a.out.now
+      c.picture-refusal.result ≡ ground_refusal_in a.colours.now a.h a.w a.card a.tolerance a.work.now a.out.now
   number =
       let a = start.args in
       c.picture-refusal.ensures

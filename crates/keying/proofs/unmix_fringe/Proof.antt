@@ -7,8 +7,8 @@ use mir.Val.{to_z, of_z}
 use mir.Facts.{to_z-of_z}
 use native.Mathlib.Omega.{arith}
 use Rattle.plane.proofs.Refusal.{three-lines}
-use Rattle.colour.specs.Settings.{atLeastZero}
-use Rattle.keying.specs.Calls.{GrowthBuffers, growthRefusalIn}
+use Rattle.colour.specs.Settings.{at_least_zero}
+use Rattle.keying.specs.Calls.{GrowthBuffers, growth_refusal_in}
 use Rattle.keying.proofs.Accepted.{GrowthOk, growth-ok, growth-refused, growth-made}
 use Rattle.keying.proofs.unmix_fringe.Statement.{statement}
 use Rattle.keying.proofs.unmix_fringe.Tie as tie
@@ -29,7 +29,7 @@ module _ (c : tie.After-growth-refusal) where
       }
 
   accepted : c.growth-refusal.result ≡ 0
-      → let a = start.args in growthRefusalIn a.colours.now a.background.now a.h a.w a.reference lent ≡ 0
+      → let a = start.args in growth_refusal_in a.colours.now a.background.now a.h a.w a.reference lent ≡ 0
   accepted z = sym c.growth-refusal.ensures ∙ z
 
   room : c.growth-refusal.result ≡ 0 → let a = start.args in GrowthOk a.colours.now a.background.now a.h a.w lent
@@ -70,7 +70,7 @@ returns-2 c =
     let a = (start e.before).args in
     let t : to_z w64 (of_z w64 a.p) ≡ a.p = to_z-of_z {w = w64} {z = a.p} (start e.before).fits.p in
     growth-made a.colours.now a.background.now a.h a.w a.reference a.p (lent e.before) _ _ _
-    (accepted e.before e.if1.false) (counted.count_of.ensures ∙ ap atLeastZero t) copied.copy.ensures grown.grow.ensures
+    (accepted e.before e.if1.false) (counted.count_of.ensures ∙ ap at_least_zero t) copied.copy.ensures grown.grow.ensures
 
 pub unmix-fringe-spec : {M : Type 1} → statement M
 unmix-fringe-spec =

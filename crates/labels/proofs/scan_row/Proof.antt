@@ -5,7 +5,7 @@ use Prim.Native.Nat.{◌+◌, ◌*◌, ◌-◌, ◌≤◌, ◌<◌}
 use native.Mathlib.Omega.{arith}
 use lib.ListN.{length, length-set}
 use Rattle.plane.proofs.Plane.{row_in, pixel-in}
-use Rattle.labels.specs.steps.Trees.{left_at, diagAt, larger, Scanned, Given}
+use Rattle.labels.specs.steps.Trees.{left_at, diag_at, larger, Scanned, Given}
 use Rattle.labels.proofs.Scanning.{placeable, row_next}
 use Rattle.labels.proofs.scan_row.Statement.{statement}
 use Rattle.labels.proofs.scan_row.Tie as tie
@@ -17,7 +17,7 @@ invariant-loop mask h w y found parents₀ labels₀ start m₀ left₀ diag₀ 
     × Given mask parents labels h w
     × Scanned mask labels parents h w (start + x) m
     × (left ≡ left_at labels (start + x) x)
-    × (diag ≡ diagAt labels w (start + x) x)
+    × (diag ≡ diag_at labels w (start + x) x)
     × (length parents ≡ length parents₀)
 
 abbrev decreases-loop : tie.decreases-loop
@@ -44,7 +44,7 @@ mul-start c =
     omega (arith, row_in o.args.y o.args.h o.args.w o.requires.row, o.requires.given.few)
 
 loop-holds : tie.Need-loop-init invariant-loop decreases-loop
-unfolding left_at diagAt
+unfolding left_at diag_at
 loop-holds c =
     let o = c.before.before.before in
     let e : o.args.y * o.args.w + 0 ≡ o.args.y * o.args.w = omega arith in

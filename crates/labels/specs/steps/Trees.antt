@@ -2,10 +2,10 @@
 -- Assumes nothing.
 use Rattle.std.specs.Prelude.{◌≡◌, Bool, true, false, cond, ◌&&◌, ◌⊎◌, List, ℕ, ◌+◌, ◌*◌, ◌-◌, ◌≤◌, ◌<◌, eqb, ltb, length, get_or, set}
 use Rattle.plane.specs.steps.Sides.{Sides}
-use Rattle.plane.specs.Search.{countBelow}
-use Rattle.plane.specs.Mask.{isOn}
-use Rattle.plane.specs.Box.{lesserOf}
-use Rattle.labels.specs.Labels.{beside, Joined, renamed, isFirst}
+use Rattle.plane.specs.Search.{count_below}
+use Rattle.plane.specs.Mask.{is_on}
+use Rattle.plane.specs.Box.{lesser_of}
+use Rattle.labels.specs.Labels.{beside, Joined, renamed, is_first}
 
 -- what a call of `label` is given: planes of h * w pixels, and work space of one number more; labels are stored in 32 bits
 pub record Given (mask parents labels : List ℕ) (h w : ℕ) : Type 0 where
@@ -49,7 +49,7 @@ pub record Joinable (parents : List ℕ) (m a b : ℕ) : Type 0 where
 -- the trees of labels a and b are one, and r is its root
 pub record Linked (old new : List ℕ) (m a b r : ℕ) : Type 0 where
   pub trees : (rep : ℕ → ℕ) → Forest old m rep → Forest new m (λ (l : ℕ). renamed (rep a) (rep b) (rep l))
-  pub root : (rep : ℕ → ℕ) → Forest old m rep → r ≡ lesserOf (rep a) (rep b)
+  pub root : (rep : ℕ → ℕ) → Forest old m rep → r ≡ lesser_of (rep a) (rep b)
 
 -- ---- the first pass over the pixels
 
@@ -71,16 +71,16 @@ pub data Placed (v left up diag m : ℕ) (old new : List ℕ) (r : ℕ) : Type 0
   from-both : (v ≡ 0 → ⊥) → 0 < left → 0 < up → Linked old new m left up r → Placed v left up diag m old new r
 
 -- the label of the pixel above pixel i, 0 for none
-unfoldable pub upAt : List ℕ → ℕ → ℕ → ℕ
-upAt labels w i = cond (ltb i w) 0 (get_or labels (i - w) 0)
+unfoldable pub up_at : List ℕ → ℕ → ℕ → ℕ
+up_at labels w i = cond (ltb i w) 0 (get_or labels (i - w) 0)
 
 -- of the pixel to the left of pixel i, which is in column x
 unfoldable pub left_at : List ℕ → ℕ → ℕ → ℕ
 left_at labels i x = cond (eqb x 0) 0 (get_or labels (i - 1) 0)
 
 -- of the pixel above that one
-unfoldable pub diagAt : List ℕ → ℕ → ℕ → ℕ → ℕ
-diagAt labels w i x = cond (eqb x 0) 0 (upAt labels w (i - 1))
+unfoldable pub diag_at : List ℕ → ℕ → ℕ → ℕ → ℕ
+diag_at labels w i x = cond (eqb x 0) 0 (up_at labels w (i - 1))
 
 -- the greater of two labels
 unfoldable pub larger : ℕ → ℕ → ℕ
@@ -93,15 +93,15 @@ pub record Scanned (mask labels parents : List ℕ) (h w t m : ℕ) : Type 0 whe
   pub seed : ℕ → ℕ
   pub forest : Forest parents m rep
   pub few : m ≤ t
-  pub off : (k : ℕ) → k < t → isOn mask k ≡ false → get_or labels k 0 ≡ 0
-  pub on : (k : ℕ) → k < t → isOn mask k ≡ true → (0 < get_or labels k 0) × (get_or labels k 0 ≤ m)
-  pub joined : (k : ℕ) → k < t → isOn mask k ≡ true → Joined mask w (seed (rep (get_or labels k 0))) k
-  pub alike : (j k : ℕ) → j < t → k < t → isOn mask j ≡ true → isOn mask k ≡ true → beside w j k ≡ true
+  pub off : (k : ℕ) → k < t → is_on mask k ≡ false → get_or labels k 0 ≡ 0
+  pub on : (k : ℕ) → k < t → is_on mask k ≡ true → (0 < get_or labels k 0) × (get_or labels k 0 ≤ m)
+  pub joined : (k : ℕ) → k < t → is_on mask k ≡ true → Joined mask w (seed (rep (get_or labels k 0))) k
+  pub alike : (j k : ℕ) → j < t → k < t → is_on mask j ≡ true → is_on mask k ≡ true → beside w j k ≡ true
       → rep (get_or labels j 0) ≡ rep (get_or labels k 0)
   pub rises : (a b : ℕ) → 0 < a → a < b → b ≤ m → seed a < seed b
   pub inside : (l : ℕ) → 0 < l → l ≤ m → seed l < t
-  pub own : (l : ℕ) → 0 < l → l ≤ m → (isOn mask (seed l) ≡ true) × (get_or labels (seed l) 0 ≡ l)
-  pub starts : (k : ℕ) → k < t → isFirst mask h w k ≡ true → seed (get_or labels k 0) ≡ k
+  pub own : (l : ℕ) → 0 < l → l ≤ m → (is_on mask (seed l) ≡ true) × (get_or labels (seed l) 0 ≡ l)
+  pub starts : (k : ℕ) → k < t → is_first mask h w k ≡ true → seed (get_or labels k 0) ≡ k
 
 -- what `scan_row` is given: the rows above row y are scanned
 pub record RowsDone (mask labels parents : List ℕ) (h w y m : ℕ) : Type 0 where
@@ -112,8 +112,8 @@ pub record RowsDone (mask labels parents : List ℕ) (h w y m : ℕ) : Type 0 wh
 -- ---- the numbers of the trees
 
 -- whether label l is a root
-unfoldable pub isRoot : List ℕ → ℕ → Bool
-isRoot parents l = ltb 0 l && eqb (get_or parents l 0) l
+unfoldable pub is_root : List ℕ → ℕ → Bool
+is_root parents l = ltb 0 l && eqb (get_or parents l 0) l
 
 -- what `number` is given: label k has a parent that is not above it
 pub record Numberable (parents : List ℕ) (k n : ℕ) : Type 0 where
@@ -124,8 +124,8 @@ pub record Numberable (parents : List ℕ) (k n : ℕ) : Type 0 where
 -- the roots below label k are n, and the labels below k have the numbers of their roots, counted from 1
 pub record Numbered (old new : List ℕ) (m k n : ℕ) : Type 0 where
   pub long : length new ≡ length old
-  pub count : n ≡ countBelow k (isRoot old)
+  pub count : n ≡ count_below k (is_root old)
   pub zero : get_or new 0 0 ≡ 0
   pub done : (rep : ℕ → ℕ) → Forest old m rep → (l : ℕ) → 0 < l → l < k
-      → get_or new l 0 ≡ 1 + countBelow (rep l) (isRoot old)
+      → get_or new l 0 ≡ 1 + count_below (rep l) (is_root old)
   pub rest : (l : ℕ) → k ≤ l → get_or new l 0 ≡ get_or old l 0

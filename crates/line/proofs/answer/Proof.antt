@@ -9,7 +9,7 @@ use native.Mathlib.Numerals.{add-one}
 use native.Mathlib.Omega.{arith}
 use Rattle.plane.proofs.Search.{which}
 use Rattle.line.specs.steps.Part.{Written}
-use Rattle.line.specs.steps.Envelope.{siteAt, start_at, Segments, InSegment}
+use Rattle.line.specs.steps.Envelope.{site_at, start_at, Segments, InSegment}
 use borrow.Author.Rules.{rules}
 use Rattle.line.proofs.answer.Statement.{statement}
 use Rattle.line.proofs.answer.Tie as tie
@@ -67,10 +67,10 @@ module _ {old work : List ℕ} {out stack n count base q end : ℕ} (p : Segment
       let s = starts in
       l.before (out + top) (omega arith)
 
-  site-kept : get_or work (stack + top) 0 ≡ siteAt old stack top
+  site-kept : get_or work (stack + top) 0 ≡ site_at old stack top
   site-kept = l.behind (stack + top) (omega (arith, p.out_first))
 
-  module _ {from v : ℕ} {new : List ℕ} (from_is : from ≡ start_at old out top) (site-is : v ≡ base + siteAt old stack top)
+  module _ {from v : ℕ} {new : List ℕ} (from_is : from ≡ start_at old out top) (site-is : v ≡ base + site_at old stack top)
       (size : length new ≡ length work) (w : Written 0 (λ (_ : ℕ). v) (out + from) (end - from) work new) where
     in_top : (x : ℕ) → from ≤ x → x < end → InSegment old out stack count base x (get_or new (out + x) 0)
     in_top x a b =
@@ -132,7 +132,7 @@ module _ (c : tie.After-wide2 invariant-loop decreases-loop) where
     pub so_far : Answered work loop.loop.work out stack (start at-start).args.n (start at-start).args.count
         (start at-start).args.base loop.loop.q loop.loop.end
     pub from : at-start.wide.result ≡ start_at work out (loop.loop.q - 1)
-    pub site : c.wide2.result ≡ siteAt work stack (loop.loop.q - 1)
+    pub site : c.wide2.result ≡ site_at work stack (loop.loop.q - 1)
     pub behind : at-start.wide.result < loop.loop.end
     pub inside : c.wide2.result < (start at-start).args.n
 
@@ -143,7 +143,7 @@ module _ (c : tie.After-wide2 invariant-loop decreases-loop) where
       let t = at-start.before.before.loop-test.taken in
       let few = l.few in
       let from : at-start.wide.result ≡ start_at work out (loop.loop.q - 1) = at-start.wide.ensures ∙ start-kept p l t in
-      let site : c.wide2.result ≡ siteAt work stack (loop.loop.q - 1) = c.wide2.ensures ∙ site-kept p l t in
+      let site : c.wide2.result ≡ site_at work stack (loop.loop.q - 1) = c.wide2.ensures ∙ site-kept p l t in
       record {
         segments = p;
         so_far = l;

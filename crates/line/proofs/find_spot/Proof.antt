@@ -7,7 +7,7 @@ use Prim.Native.Nat.{ℕ, ◌+◌, ◌-◌, ◌*◌, ◌/◌, ◌≤◌, ◌<◌
 use native.Mathlib.Nat.{mul-le-mul}
 use native.Mathlib.Omega.{arith}
 use Rattle.plane.proofs.Search.{which}
-use Rattle.line.specs.steps.Envelope.{siteAt, start_at, heightAt, overAt, Stays, Tops}
+use Rattle.line.specs.steps.Envelope.{site_at, start_at, height_at, over_at, Stays, Tops}
 use Rattle.line.proofs.Squares.{square-fits}
 use borrow.Author.Rules.{rules}
 use Rattle.line.proofs.find_spot.Statement.{statement}
@@ -58,7 +58,7 @@ module _ (c : tie.After-wide2 invariant-loop decreases-loop) where
   -- its site lies to the left of u, and how large the numbers are
   pub record Top : Type 0 where
     pub tops : Tops work out costs stack (start at-site).args.count u
-    pub is : site ≡ siteAt work stack top
+    pub is : site ≡ site_at work stack top
     pub from : c.wide2.result ≡ start_at work out top
     pub left : site < u
     pub low : far ≤ 8589934592
@@ -67,7 +67,7 @@ module _ (c : tie.After-wide2 invariant-loop decreases-loop) where
   facts : Top
   facts =
       let p = (start at-site).pre in
-      let is : site ≡ siteAt work stack top = at-site.wide.ensures in
+      let is : site ≡ site_at work stack top = at-site.wide.ensures in
       let from : c.wide2.result ≡ start_at work out top = c.wide2.ensures in
       let t = at-site.before.before.loop-test.taken in
       let few = (at-loop at-site).loop.inv.0 in
@@ -93,23 +93,23 @@ module _ (c : tie.After-high2 invariant-loop decreases-loop) where
 
   pub record Heights : Type 0 where
     pub here : Top at_top
-    pub high : most ≡ heightAt (work at_top) (costs at_top) (u at_top)
-    pub low : c.high2.result ≡ heightAt (work at_top) (costs at_top) (site at_top)
+    pub high : most ≡ height_at (work at_top) (costs at_top) (u at_top)
+    pub low : c.high2.result ≡ height_at (work at_top) (costs at_top) (site at_top)
 
   heights : Heights
   heights = record { here = facts at_top; high = (at-loop (at-site at_top)).before.high.ensures; low = c.high2.ensures }
 
   -- the two sides of the test are those of Stays
   tested : (c.high2.result + far at_top
-      ≡ heightAt (work at_top) (costs at_top) (siteAt (work at_top) (stack at_top) (top at_top))
-      + start_at (work at_top) (out at_top) (top at_top) * (2 * (u at_top - siteAt (work at_top) (stack at_top) (top at_top))))
+      ≡ height_at (work at_top) (costs at_top) (site_at (work at_top) (stack at_top) (top at_top))
+      + start_at (work at_top) (out at_top) (top at_top) * (2 * (u at_top - site_at (work at_top) (stack at_top) (top at_top))))
   tested =
       let f = heights in
-      let high = heightAt (work at_top) (costs at_top) in
+      let high = height_at (work at_top) (costs at_top) in
       ap (λ (m : ℕ). m + far at_top) f.low
       ∙ ap (λ (m : ℕ). high m + at_top.wide2.result * (2 * (u at_top - m))) f.here.is
-      ∙ ap (λ (m : ℕ). high (siteAt (work at_top) (stack at_top) (top at_top))
-      + m * (2 * (u at_top - siteAt (work at_top) (stack at_top) (top at_top)))) f.here.from
+      ∙ ap (λ (m : ℕ). high (site_at (work at_top) (stack at_top) (top at_top))
+      + m * (2 * (u at_top - site_at (work at_top) (stack at_top) (top at_top)))) f.here.from
 
 add-if1 : tie.Need-overflow-add-if1 invariant-loop decreases-loop
 add-if1 c =
@@ -129,11 +129,11 @@ returns c =
     let b = at_top t.before in
     let l = (at-loop (at-site b)).loop in
     let f = heights t.before in
-    let i = siteAt (work b) (stack b) (top b) in
+    let i = site_at (work b) (stack b) (top b) in
     let z = tested t.before in
     let stays : Stays (work b) (out b) (costs b) (stack b) (u b) (top b) = omega (arith, z, f.high, t.if1.true) in
-    let over : c.takeover.result ≡ overAt (work b) (costs b) i (u b) =
-    same-takeover (u b) c.takeover.ensures f.high (f.low ∙ ap (heightAt (work b) (costs b)) f.here.is) f.here.is in
+    let over : c.takeover.result ≡ over_at (work b) (costs b) i (u b) =
+    same-takeover (u b) c.takeover.ensures f.high (f.low ∙ ap (height_at (work b) (costs b)) f.here.is) f.here.is in
     record {
       dropped = record {
         fewer = omega arith;
@@ -142,7 +142,7 @@ returns c =
       };
       alone = λ e. absurd (omega arith);
       over = λ p e.
-          subst (λ (k : ℕ). c.takeover.result ≡ overAt (work b) (costs b) (siteAt (work b) (stack b) k) (u b)) (omega arith) over;
+          subst (λ (k : ℕ). c.takeover.result ≡ over_at (work b) (costs b) (site_at (work b) (stack b) k) (u b)) (omega arith) over;
     }
 
 loop-again : tie.Need-loop-preserved invariant-loop decreases-loop

@@ -6,7 +6,7 @@ use Prim.Native.Nat.{ℕ, ◌+◌, ◌-◌, ◌≤◌, ◌<◌}
 use lib.ListN.{get_or}
 use native.Mathlib.Omega.{arith}
 use Rattle.plane.proofs.Search.{which}
-use Rattle.line.specs.steps.Line.{mostCost}
+use Rattle.line.specs.steps.Line.{most_cost}
 use Rattle.line.specs.steps.Envelope.{Skips}
 use Rattle.line.proofs.next_site.Statement.{statement}
 use Rattle.line.proofs.next_site.Tie as tie
@@ -28,7 +28,7 @@ loop-again c =
       none = λ j f g.
           ⊎_elim
           (λ (h : j < l.k). l.invariant.none j f h)
-          (λ (h : l.k ≤ j). subst (λ (i : ℕ). mostCost < get_or a.work.now (a.costs + i) 0) (omega arith) c.if1.false)
+          (λ (h : l.k ≤ j). subst (λ (i : ℕ). most_cost < get_or a.work.now (a.costs + i) 0) (omega arith) c.if1.false)
           (which j l.k);
     }
 

@@ -2,7 +2,7 @@
 -- Assumes nothing.
 use Rattle.std.specs.Prelude.{ℕ, ◌≤◌, ◌<◌, ◌≡◌, List, length, get_or}
 use Rattle.std.proofs.Math.Option.{Option, none, some}
-use Rattle.line.specs.steps.Line.{mostCost}
+use Rattle.line.specs.steps.Line.{most_cost}
 
 -- a column's answer as a place of the grid
 unfoldable pub attach : {P : Type 0} → ℕ → Option P → Option (ℕ × P)
@@ -16,5 +16,5 @@ chosen g (some i) = attach i (g i)
 
 -- the numbers of a line's costs are those of f: none is a number above the largest cost
 pub record Encodes (costs : List ℕ) (f : ℕ → Option ℕ) : Type 0 where
-  pub some-cost : (i a : ℕ) → i < length costs → f i ≡ some a → (get_or costs i 0 ≡ a) × (a ≤ mostCost)
-  pub no-cost : (i : ℕ) → i < length costs → f i ≡ none → mostCost < get_or costs i 0
+  pub some-cost : (i a : ℕ) → i < length costs → f i ≡ some a → (get_or costs i 0 ≡ a) × (a ≤ most_cost)
+  pub no-cost : (i : ℕ) → i < length costs → f i ≡ none → most_cost < get_or costs i 0

@@ -6,9 +6,9 @@ use Rattle.line.specs.Walk.{lower}
 use Rattle.line.specs.Grid.{value_of}
 
 -- the walk: places 0, 1 and so on in order; a place takes the lead only where its number is strictly less
-unfoldable pub firstLeast : (ℕ → Option ℕ) → ℕ → Option ℕ
-firstLeast f zero = none
-firstLeast f (suc n) = let b = firstLeast f n in cond (lower (f n) (value_of f b)) (some n) b
+unfoldable pub first_least : (ℕ → Option ℕ) → ℕ → Option ℕ
+first_least f zero = none
+first_least f (suc n) = let b = first_least f n in cond (lower (f n) (value_of f b)) (some n) b
 
 -- i is the first of the first n places that hold the least number, v
 pub record First (f : ℕ → Option ℕ) (n i v : ℕ) : Type 0 where

@@ -3,18 +3,18 @@
 -- Assumes nothing.
 use Rattle.std.specs.Prelude.{ℕ, ◌+◌, ◌-◌, ◌≤◌, ◌<◌, ◌≡◌, List, ◌⊎◌, length, get_or}
 use Rattle.std.proofs.Math.Option.{Option, none, some}
-use Rattle.line.specs.steps.Line.{noPlace, best, place_of, line_of}
+use Rattle.line.specs.steps.Line.{no_place, best, place_of, line_of}
 use Rattle.line.specs.steps.Part.{part}
 use Rattle.line.specs.steps.Envelope.{Beside}
 
 -- the place of an answer for a part of the line that starts at a
-unfoldable pub placeFrom : ℕ → Option ℕ → ℕ
-placeFrom a none = noPlace
-placeFrom a (some i) = a + i
+unfoldable pub place_from : ℕ → Option ℕ → ℕ
+place_from a none = no_place
+place_from a (some i) = a + i
 
 -- the line pass over a part of the line that starts at base
 pub record Ran (old new : List ℕ) (out costs stack n base : ℕ) : Type 0 where
-  pub answers : (x : ℕ) → x < n → get_or new (out + x) 0 ≡ placeFrom base (best (part old costs n) x)
+  pub answers : (x : ℕ) → x < n → get_or new (out + x) 0 ≡ place_from base (best (part old costs n) x)
   pub beside : Beside old new out stack n
 
 -- e ends a run that holds x: it is the end of the line, or the place before it has cost 0

@@ -12,7 +12,7 @@ use lib.Seq.{drop-cons}
 use lib.Ieee.{Float, nan, le}
 use mir.Val.{bool_byte}
 use borrow.Author.Rules.{rules}
-use Rattle.median.specs.steps.Values.{float_at, floatsOf}
+use Rattle.median.specs.steps.Values.{float_at, floats_of}
 use Rattle.median.specs.steps.Select.{at_most}
 use Rattle.median.proofs.Values.{floats-length, floats_at}
 use Rattle.median.proofs.at_most.Statement.{statement}
@@ -20,16 +20,16 @@ use Rattle.median.proofs.at_most.Tie as tie
 
 abbrev invariant-loop : tie.invariant-loop
 invariant-loop values t n₀ i₀ i-end n i =
-    (i-end ≡ length values / 2) × (i ≤ length values / 2) × (n ≤ i) × (at_most t (floatsOf values) ≡ n + at_most t (drop i (floatsOf values)))
+    (i-end ≡ length values / 2) × (i ≤ length values / 2) × (n ≤ i) × (at_most t (floats_of values) ≡ n + at_most t (drop i (floats_of values)))
 
 abbrev decreases-loop : tie.decreases-loop
 decreases-loop values t n₀ i₀ i-end n i = length values / 2 - i
 
 -- the rest begins with value i
-rest : (t : Float) (v : List ℕ) (i : ℕ) → i < length (floatsOf v)
-    → at_most t (drop i (floatsOf v)) ≡ cond (le (float_at v i) t) 1 0 + at_most t (drop (i + 1) (floatsOf v))
+rest : (t : Float) (v : List ℕ) (i : ℕ) → i < length (floats_of v)
+    → at_most t (drop i (floats_of v)) ≡ cond (le (float_at v i) t) 1 0 + at_most t (drop (i + 1) (floats_of v))
 unfolding at_most
-rest t v i h = rw (add-one i, drop-cons (floatsOf v) i nan h, floats_at v i h)
+rest t v i h = rw (add-one i, drop-cons (floats_of v) i nan h, floats_at v i h)
 
 -- a test as a number
 byte : (b : Bool) → bool_byte b ≡ cond b 1 0
@@ -41,7 +41,7 @@ byte_le true = omega arith
 byte_le false = omega arith
 
 -- value i is there
-inside : (c : tie.In-loop invariant-loop decreases-loop) → c.before.loop.i < length (floatsOf c.before.before.before.args.values.now)
+inside : (c : tie.In-loop invariant-loop decreases-loop) → c.before.loop.i < length (floats_of c.before.before.before.args.values.now)
 inside c = omega (arith, floats-length c.before.before.before.args.values.now)
 
 value-requires : tie.Need-value-requires invariant-loop decreases-loop
@@ -60,7 +60,7 @@ loop-again c =
     let a = c.before.before.before.before.args in
     let v = a.values.now in
     let b = le c.value.result a.t in
-    let more : at_most a.t (drop l.i (floatsOf v)) ≡ bool_byte b + at_most a.t (drop (l.i + 1) (floatsOf v)) =
+    let more : at_most a.t (drop l.i (floats_of v)) ≡ bool_byte b + at_most a.t (drop (l.i + 1) (floats_of v)) =
     rest a.t v l.i (inside c.before) ∙ rw (byte b, c.value.ensures) in (
       refl,
       omega arith,
@@ -76,7 +76,7 @@ returns c =
     let v = a.values.now in
     sym (
     l.invariant.3
-    ∙ ap (λ (r : List Float). l.n + at_most a.t r) (drop_of_length-le (floatsOf v) {i = l.i} (omega (arith, floats-length v)))
+    ∙ ap (λ (r : List Float). l.n + at_most a.t r) (drop_of_length-le (floats_of v) {i = l.i} (omega (arith, floats-length v)))
     ∙ add-zero l.n)
 
 pub at-most-spec : {M : Type 1} → statement M

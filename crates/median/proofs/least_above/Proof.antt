@@ -8,33 +8,33 @@ use lib.ListN.{length, drop, drop_of_length-le}
 use lib.Seq.{drop-cons}
 use lib.Ieee.{Float, nan, of_bits}
 use borrow.Author.Rules.{rules}
-use Rattle.median.specs.steps.Values.{float_at, floatsOf}
-use Rattle.median.specs.steps.Select.{nearer, leastAbove}
+use Rattle.median.specs.steps.Values.{float_at, floats_of}
+use Rattle.median.specs.steps.Select.{nearer, least_above}
 use Rattle.median.proofs.Values.{floats-length, floats_at}
 use Rattle.median.proofs.least_above.Statement.{statement}
 use Rattle.median.proofs.least_above.Tie as tie
 
 abbrev invariant-loop : tie.invariant-loop
-invariant-loop values t least₀ i₀ least i = (i ≤ length values / 2) × (least ≡ leastAbove t (drop i (floatsOf values)))
+invariant-loop values t least₀ i₀ least i = (i ≤ length values / 2) × (least ≡ least_above t (drop i (floats_of values)))
 
 abbrev decreases-loop : tie.decreases-loop
 decreases-loop values t least₀ i₀ least i = i
 
 -- the values from i on begin with value i
-front : (t : Float) (v : List ℕ) (i : ℕ) → i < length (floatsOf v)
-    → leastAbove t (drop i (floatsOf v)) ≡ nearer t (float_at v i) (leastAbove t (drop (suc i) (floatsOf v)))
-unfolding leastAbove
-front t v i h = rw (drop-cons (floatsOf v) i nan h, floats_at v i h)
+front : (t : Float) (v : List ℕ) (i : ℕ) → i < length (floats_of v)
+    → least_above t (drop i (floats_of v)) ≡ nearer t (float_at v i) (least_above t (drop (suc i) (floats_of v)))
+unfolding least_above
+front t v i h = rw (drop-cons (floats_of v) i nan h, floats_at v i h)
 
 loop-holds : tie.Need-loop-init invariant-loop decreases-loop
-unfolding leastAbove of_bits
+unfolding least_above of_bits
 loop-holds c =
     let v = c.before.args.values.now in
-    let none = drop_of_length-le (floatsOf v) {i = length v / 2} (omega (arith, floats-length v)) in
-    (omega arith, sym (ap (leastAbove c.before.args.t) none))
+    let none = drop_of_length-le (floats_of v) {i = length v / 2} (omega (arith, floats-length v)) in
+    (omega arith, sym (ap (least_above c.before.args.t) none))
 
 -- value i - 1 is there
-inside : (c : tie.In-loop invariant-loop decreases-loop) → c.before.loop.i - 1 < length (floatsOf c.before.before.before.args.values.now)
+inside : (c : tie.In-loop invariant-loop decreases-loop) → c.before.loop.i - 1 < length (floats_of c.before.before.before.args.values.now)
 inside c = omega (arith, floats-length c.before.before.before.args.values.now)
 
 value-requires : tie.Need-value-requires invariant-loop decreases-loop
@@ -53,7 +53,7 @@ loop-again c =
       found
           ∙ rw (read, c.before.before.before.loop.invariant.1)
           (sym (front a.t v (i - 1) (inside c.before.before)
-          ∙ ap (λ (k : ℕ). nearer a.t (float_at v (i - 1)) (leastAbove a.t (drop k (floatsOf v)))) next)),
+          ∙ ap (λ (k : ℕ). nearer a.t (float_at v (i - 1)) (least_above a.t (drop k (floats_of v)))) next)),
     )
 
 returns : tie.Need-returns invariant-loop decreases-loop
@@ -61,7 +61,7 @@ returns c =
     let l = c.before.loop in
     let a = c.before.before.before.args in
     let all : l.i ≡ 0 = omega arith in
-    l.invariant.1 ∙ ap (λ (k : ℕ). leastAbove a.t (drop k (floatsOf a.values.now))) all
+    l.invariant.1 ∙ ap (λ (k : ℕ). least_above a.t (drop k (floats_of a.values.now))) all
 
 pub least-above-spec : {M : Type 1} → statement M
 least-above-spec =

@@ -6,9 +6,9 @@ use Prim.Native.Nat.{ℕ, ◌+◌, ◌-◌, ◌/◌, ◌≤◌}
 use native.Mathlib.Omega.{arith}
 use lib.ListN.{length}
 use borrow.Author.Rules.{rules}
-use Rattle.colour.specs.Number.{plusZero, half_of}
-use Rattle.median.specs.Median.{placed, lowerMiddle, upperMiddle, medianOf}
-use Rattle.median.specs.steps.Values.{floatsOf}
+use Rattle.colour.specs.Number.{plus_zero, half_of}
+use Rattle.median.specs.Median.{placed, lower_middle, upper_middle, median_of}
+use Rattle.median.specs.steps.Values.{floats_of}
 use Rattle.median.proofs.Values.{floats-length, floats-held}
 use Rattle.median.proofs.Places.{placed-good}
 use Rattle.median.proofs.Laws.{signs-gone}
@@ -16,10 +16,10 @@ use Rattle.median.proofs.median.Statement.{statement}
 use Rattle.median.proofs.median.Tie as tie
 
 -- the places of the two middle values
-lower-place : (v : List ℕ) → length v / 4 - 1 ≡ length (floatsOf v) / 2 - 1
+lower-place : (v : List ℕ) → length v / 4 - 1 ≡ length (floats_of v) / 2 - 1
 lower-place v = omega (arith, floats-length v)
 
-upper-place : (v : List ℕ) → 2 ≤ length (floatsOf v) → length v / 4 - 1 + 1 ≡ length (floatsOf v) / 2
+upper-place : (v : List ℕ) → 2 ≤ length (floats_of v) → length v / 4 - 1 + 1 ≡ length (floats_of v) / 2
 upper-place v h = omega (arith, floats-length v)
 
 sub-k : tie.Need-overflow-sub-k
@@ -36,24 +36,24 @@ next-place-requires c κs =
     record { inside = omega (arith, s.requires.some, floats-length s.args.values.now); ok = s.requires.ok; first = c.select.ensures }
 
 returns : tie.Need-returns
-unfolding medianOf lowerMiddle upperMiddle
+unfolding median_of lower_middle upper_middle
 returns c =
     let s = c.before.before.before.before.before in
     let v = s.args.values.now in
-    let l = floatsOf v in
+    let l = floats_of v in
     let some = s.requires.some in
     let x = placed l (length l / 2 - 1) in
     let y = placed l (length l / 2) in
     let good = placed-good l (floats-held v) s.requires.ok in
-    let lower : c.before.before.before.select.result ≡ plusZero x =
-    c.before.before.before.select.ensures ∙ ap (λ (k : ℕ). plusZero (placed l k)) (lower-place v) in
-    let upper : c.before.before.next_place.result ≡ plusZero y =
-    c.before.before.next_place.ensures ∙ ap (λ (k : ℕ). plusZero (placed l k)) (upper-place v some) in
+    let lower : c.before.before.before.select.result ≡ plus_zero x =
+    c.before.before.before.select.ensures ∙ ap (λ (k : ℕ). plus_zero (placed l k)) (lower-place v) in
+    let upper : c.before.before.next_place.result ≡ plus_zero y =
+    c.before.before.next_place.ensures ∙ ap (λ (k : ℕ). plus_zero (placed l k)) (upper-place v some) in
     let lo = c.before.before.before.select.result in
     let hi = c.before.before.next_place.result in
     let halved : c.before.half.result ≡ half_of lo hi = c.before.half.ensures in
     c.plus-zero.ensures
-    ∙ ap plusZero (halved ∙ rw (lower, upper))
+    ∙ ap plus_zero (halved ∙ rw (lower, upper))
     ∙ signs-gone x y (good (length l / 2 - 1) (omega arith)).held (good (length l / 2) (omega arith)).held
 
 pub median-spec : {M : Type 1} → statement M

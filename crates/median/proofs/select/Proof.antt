@@ -12,26 +12,26 @@ use borrow.Author.Tests.{lt-ltb, le-ltb, leb-true, leb-false}
 use Rattle.colour.specs.Number.{Binary64}
 use Rattle.colour.proofs.Zero.{plus-zero-is}
 use Rattle.median.specs.Median.{placed}
-use Rattle.median.specs.steps.Values.{floatsOf}
+use Rattle.median.specs.steps.Values.{floats_of}
 use Rattle.median.proofs.Values.{floats-held}
-use Rattle.median.proofs.Pattern.{key, Good, key_back, bits-number, oneBits}
+use Rattle.median.proofs.Pattern.{key, Good, key_back, bits-number, one_bits}
 use Rattle.median.proofs.Places.{placed-good, placed-bound, bits-rank}
 use Rattle.median.proofs.select.Statement.{statement}
 use Rattle.median.proofs.select.Tie as tie
 
 abbrev invariant-loop : tie.invariant-loop
-invariant-loop values k lo₀ hi₀ lo hi = (lo ≤ key (placed (floatsOf values) k)) × (key (placed (floatsOf values) k) ≤ hi) × (hi ≤ oneBits)
+invariant-loop values k lo₀ hi₀ lo hi = (lo ≤ key (placed (floats_of values) k)) × (key (placed (floats_of values) k) ≤ hi) × (hi ≤ one_bits)
 
 abbrev decreases-loop : tie.decreases-loop
 decreases-loop values k lo₀ hi₀ lo hi = hi - lo
 
-number : (v : ℕ) → v ≤ oneBits → T (not (nan_bits binary64 v))
+number : (v : ℕ) → v ≤ one_bits → T (not (nan_bits binary64 v))
 number v h = rw (bits-number v h) tt
 
 -- the value at place k of the values that the function is given
 module _ (o : tie.Start invariant-loop decreases-loop) where
   abbrev values : List Float
-  values = floatsOf o.args.values.now
+  values = floats_of o.args.values.now
 
   abbrev value : Float
   value = placed values o.args.k

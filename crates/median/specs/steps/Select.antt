@@ -2,8 +2,8 @@
 -- Assumes nothing.
 use Rattle.std.specs.Prelude.{◌≡◌, true, cond, ◌&&◌, List, [], ◌∷◌, ℕ, ◌+◌, ◌≤◌, ◌<◌, length, Float}
 use Rattle.std.specs.Float.Ieee.{lt, le}
-use Rattle.colour.specs.Number.{one64, plusZero}
-use Rattle.colour.specs.Colour.{coloursOk}
+use Rattle.colour.specs.Number.{one64, plus_zero}
+use Rattle.colour.specs.Colour.{colours_ok}
 use Rattle.median.specs.Median.{placed}
 
 -- how many numbers are at or below t
@@ -16,22 +16,22 @@ unfoldable pub nearer : Float → Float → Float → Float
 nearer t x r = cond (lt t x && lt x r) x r
 
 -- the least number above t; 1 where no number lies between
-unfoldable pub leastAbove : Float → List Float → Float
-leastAbove t [] = one64
-leastAbove t (x ∷ l) = nearer t x (leastAbove t l)
+unfoldable pub least_above : Float → List Float → Float
+least_above t [] = one64
+least_above t (x ∷ l) = nearer t x (least_above t l)
 
 -- at least two numbers, each from 0 to 1
 pub record Channel (l : List Float) : Type 0 where
   pub some : 2 ≤ length l
-  pub ok : coloursOk l ≡ true
+  pub ok : colours_ok l ≡ true
 
 -- numbers from 0 to 1, and a place among them
 pub record Place (l : List Float) (k : ℕ) : Type 0 where
   pub inside : k < length l
-  pub ok : coloursOk l ≡ true
+  pub ok : colours_ok l ≡ true
 
 -- numbers from 0 to 1, two places among them, and the number at the first, a zero as +0
 pub record Neighbours (l : List Float) (k : ℕ) (lo : Float) : Type 0 where
   pub inside : k + 1 < length l
-  pub ok : coloursOk l ≡ true
-  pub first : lo ≡ plusZero (placed l k)
+  pub ok : colours_ok l ≡ true
+  pub first : lo ≡ plus_zero (placed l k)

@@ -8,12 +8,12 @@ use native.Mathlib.Omega.{arith}
 use borrow.Author.Rules.{rules}
 use Rattle.plane.specs.Plane.{on}
 use Rattle.line.proofs.Part.{Filling, filling-none, filling-more, filling-end}
-use Rattle.nearest.specs.steps.Stages.{belowIn}
+use Rattle.nearest.specs.steps.Stages.{below_in}
 use Rattle.nearest.proofs.below_line.Statement.{statement}
 use Rattle.nearest.proofs.below_line.Tie as tie
 
 abbrev invariant-loop : tie.invariant-loop
-invariant-loop mask y work₀ row w next x₀ work x = Filling 0 (belowIn mask y work₀ row w) row w work₀ work x
+invariant-loop mask y work₀ row w next x₀ work x = Filling 0 (below_in mask y work₀ row w) row w work₀ work x
 
 abbrev decreases-loop : tie.decreases-loop
 decreases-loop mask y work₀ row w next x₀ work x = w - x

@@ -8,14 +8,14 @@ use borrow.Author.Rules.{rules}
 use mir.Syntax.{w32}
 use mir.Facts.{to_z-of_z}
 use Rattle.line.proofs.Part.{Filling, filling-none, filling-more, filling-end}
-use Rattle.nearest.specs.Nearest.{columnOf}
-use Rattle.nearest.specs.steps.Stages.{from, pixelAt}
+use Rattle.nearest.specs.Nearest.{column_of}
+use Rattle.nearest.specs.steps.Stages.{from, pixel_at}
 use Rattle.nearest.proofs.columns_line.Statement.{statement}
 use Rattle.nearest.proofs.columns_line.Tie as tie
 
 abbrev invariant-loop : tie.invariant-loop
 invariant-loop work places w row cols₀ n x₀ cols x =
-    (near : ℕ → ℕ) → Filling (pos 0) (λ (k : ℕ). columnOf (pixelAt w near (from work places k))) row w cols₀ cols x
+    (near : ℕ → ℕ) → Filling (pos 0) (λ (k : ℕ). column_of (pixel_at w near (from work places k))) row w cols₀ cols x
 
 abbrev decreases-loop : tie.decreases-loop
 decreases-loop work places w row cols₀ n x₀ cols x = w - x

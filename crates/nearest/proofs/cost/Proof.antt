@@ -6,7 +6,7 @@ use native.Mathlib.Omega.{arith}
 use borrow.Author.Tests.{lt-ltb, le-ltb}
 use Rattle.plane.specs.Plane.{apart}
 use Rattle.line.proofs.Squares.{gap-fits}
-use Rattle.nearest.specs.steps.Stages.{squareCost}
+use Rattle.nearest.specs.steps.Stages.{square_cost}
 use borrow.Author.Rules.{rules}
 use Rattle.nearest.proofs.cost.Statement.{statement}
 use Rattle.nearest.proofs.cost.Tie as tie
@@ -24,11 +24,11 @@ mul-result c =
     omega arith
 
 returns : tie.Need-returns
-unfolding squareCost
+unfolding square_cost
 returns c = rw (lt-ltb _ _ c.before.if2.true, measured c.before.before)
 
 returns-2 : tie.Need-returns-2
-unfolding squareCost
+unfolding square_cost
 returns-2 c = rw (le-ltb _ _ c.if2.false)
 
 pub cost-spec : {M : Type 1} → statement M

@@ -5,12 +5,12 @@ use Prim.Native.Nat.{◌+◌, ◌-◌}
 use native.Mathlib.Omega.{arith}
 use borrow.Author.Rules.{rules}
 use Rattle.line.proofs.Part.{Filling, filling-none, filling-more, filling-end}
-use Rattle.nearest.specs.steps.Stages.{squareCost, costIn}
+use Rattle.nearest.specs.steps.Stages.{square_cost, cost_in}
 use Rattle.nearest.proofs.costs_line.Statement.{statement}
 use Rattle.nearest.proofs.costs_line.Tie as tie
 
 abbrev invariant-loop : tie.invariant-loop
-invariant-loop y work₀ near costs w x₀ work x = Filling 0 (costIn y work₀ near) costs w work₀ work x
+invariant-loop y work₀ near costs w x₀ work x = Filling 0 (cost_in y work₀ near) costs w work₀ work x
 
 abbrev decreases-loop : tie.decreases-loop
 decreases-loop y work₀ near costs w x₀ work x = w - x
@@ -21,7 +21,7 @@ loop-again c =
     let l = i.before.loop in
     let o = i.before.before.before in
     let read = l.invariant.written.before (o.args.near + l.x) (omega (arith, o.requires)) in
-    filling-more l.invariant i.loop-test.true o.requires.room (c.cost.ensures ∙ ap (squareCost o.args.y) read)
+    filling-more l.invariant i.loop-test.true o.requires.room (c.cost.ensures ∙ ap (square_cost o.args.y) read)
 
 pub costs-line-spec : {M : Type 1} → statement M
 costs-line-spec =

@@ -8,13 +8,13 @@ use native.Mathlib.Omega.{arith}
 use borrow.Author.Rules.{rules}
 use Rattle.line.specs.steps.Part.{part}
 use Rattle.line.proofs.Part.{Filling, filling-none, filling-more, filling-end}
-use Rattle.nearest.specs.steps.Stages.{elements, from, distance_at, distanceIn}
+use Rattle.nearest.specs.steps.Stages.{elements, from, distance_at, distance_in}
 use Rattle.nearest.proofs.Stages.{part-long, part-distance}
 use Rattle.nearest.proofs.distances_line.Statement.{statement}
 use Rattle.nearest.proofs.distances_line.Tie as tie
 
 abbrev invariant-loop : tie.invariant-loop
-invariant-loop work places costs w y row out₀ end x₀ out x = Filling 0 (distanceIn work places costs w y) row w out₀ out x
+invariant-loop work places costs w y row out₀ end x₀ out x = Filling 0 (distance_in work places costs w y) row w out₀ out x
 
 abbrev decreases-loop : tie.decreases-loop
 decreases-loop work places costs w y row out₀ end x₀ out x = w - x
@@ -37,7 +37,7 @@ module _ (c : tie.After-wide invariant-loop decreases-loop) where
   distance l i = distance_at (length l) (elements l) (start in-loop).args.y x i
 
   read : (let a = (start in-loop).args in
-      (length line ≡ a.w) × (distance line c.wide.result ≡ distanceIn a.work.now a.places a.costs a.w a.y x))
+      (length line ≡ a.w) × (distance line c.wide.result ≡ distance_in a.work.now a.places a.costs a.w a.y x))
   read =
       let a = (start in-loop).args in
       let room = (start in-loop).pre.room in

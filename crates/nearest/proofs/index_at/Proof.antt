@@ -7,7 +7,7 @@ use native.Mathlib.Omega.{arith}
 use borrow.Author.Rules.{rules}
 use borrow.Author.Tests.{lt-ltb, le-ltb}
 use Rattle.plane.specs.Plane.{index_of}
-use Rattle.nearest.specs.steps.Stages.{pixelAt}
+use Rattle.nearest.specs.steps.Stages.{pixel_at}
 use Rattle.nearest.proofs.index_at.Statement.{statement}
 use Rattle.nearest.proofs.index_at.Tie as tie
 
@@ -22,13 +22,13 @@ low c =
     )
 
 returns : tie.Need-returns
-unfolding pixelAt index_of
+unfolding pixel_at index_of
 returns c =
     let a = c.before.before.before.before.args in
     rw (lt-ltb a.i a.w c.before.before.if1.true) (ap (λ (r : ℕ). r * a.w + a.i) c.wide.ensures)
 
 returns-2 : tie.Need-returns-2
-unfolding pixelAt index_of
+unfolding pixel_at index_of
 returns-2 c = rw (le-ltb _ _ c.if1.false)
 
 pub index-at-spec : {M : Type 1} → statement M

@@ -7,16 +7,16 @@ use lib.ListN.{length}
 use native.Mathlib.Omega.{arith}
 use borrow.Author.Rules.{rules}
 use Rattle.plane.specs.Plane.{index_of}
-use Rattle.line.specs.steps.Line.{mostLength}
+use Rattle.line.specs.steps.Line.{most_length}
 use Rattle.line.proofs.Part.{Filling, filling-none, filling-more, filling-end}
 use Rattle.nearest.specs.steps.Room.{PixelRoom}
-use Rattle.nearest.specs.steps.Stages.{from, pixelAt, pixelIn}
+use Rattle.nearest.specs.steps.Stages.{from, pixel_at, pixel_in}
 use Rattle.nearest.proofs.Stages.{pixel-same}
 use Rattle.nearest.proofs.index_line.Statement.{statement}
 use Rattle.nearest.proofs.index_line.Tie as tie
 
 abbrev invariant-loop : tie.invariant-loop
-invariant-loop work₀ row near w x₀ work x = Filling 0 (λ (k : ℕ). index_of w (pixelIn work₀ row near w k)) row w work₀ work x
+invariant-loop work₀ row near w x₀ work x = Filling 0 (λ (k : ℕ). index_of w (pixel_in work₀ row near w k)) row w work₀ work x
 
 abbrev decreases-loop : tie.decreases-loop
 decreases-loop work₀ row near w x₀ work x = w - x
@@ -63,7 +63,7 @@ index-at-requires c κs =
     let r = read b in
     let p = r.room in
     let low = p.chosen (in-loop b).before.loop.x r.inside in
-    let chosen = subst (λ (k : ℕ). k < (start b).args.w → from (old b) (near b) k < mostLength) (sym r.place) low in
+    let chosen = subst (λ (k : ℕ). k < (start b).args.w → from (old b) (near b) k < most_length) (sym r.place) low in
     record { short = p.short; room = omega (arith, p.room, r.size); chosen = λ g. rw (r.on_row b.wide.result g) (chosen g) }
 
 loop-again : tie.Need-loop-preserved invariant-loop decreases-loop
@@ -75,7 +75,7 @@ loop-again c =
     filling-more l.inv r.inside (omega (arith, r.room))
     (c.index_at.ensures
     ∙ ap (index_of w) (pixel-same w (from l.work (near b)) (from (old b) (near b)) b.wide.result (r.on_row b.wide.result))
-    ∙ ap (λ (k : ℕ). index_of w (pixelAt w (from (old b) (near b)) k)) r.place)
+    ∙ ap (λ (k : ℕ). index_of w (pixel_at w (from (old b) (near b)) k)) r.place)
 
 pub index-line-spec : {M : Type 1} → statement M
 index-line-spec =

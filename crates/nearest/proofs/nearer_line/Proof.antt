@@ -5,13 +5,13 @@ use Prim.Native.Nat.{ℕ, ◌+◌, ◌-◌, ◌<◌}
 use lib.ListN.{length, get_or}
 use native.Mathlib.Omega.{arith}
 use Rattle.line.proofs.Part.{Filling, filling-none, filling-more, filling-end}
-use Rattle.nearest.specs.steps.Stages.{nearer, nearerIn}
+use Rattle.nearest.specs.steps.Stages.{nearer, nearer_in}
 use Rattle.nearest.specs.steps.Room.{NearRoom}
 use Rattle.nearest.proofs.nearer_line.Statement.{statement}
 use Rattle.nearest.proofs.nearer_line.Tie as tie
 
 abbrev invariant-loop : tie.invariant-loop
-invariant-loop y work₀ row near w x₀ work x = Filling 0 (nearerIn y work₀ row near) near w work₀ work x
+invariant-loop y work₀ row near w x₀ work x = Filling 0 (nearer_in y work₀ row near) near w work₀ work x
 
 abbrev decreases-loop : tie.decreases-loop
 decreases-loop y work₀ row near w x₀ work x = w - x

@@ -4,7 +4,7 @@ use mathlib.Core.Path.{refl, ◌∙◌}
 use Prim.Native.Nat.{◌-◌}
 use native.Mathlib.Omega.{arith}
 use borrow.Author.Rules.{rules}
-use Rattle.nearest.specs.Nearest.{distance, distancePlane}
+use Rattle.nearest.specs.Nearest.{distance, distance_plane}
 use Rattle.nearest.proofs.Rows.{Rows, rows_none, rows_next, rows_end}
 use Rattle.nearest.proofs.Rows.{Passing, passing-none, Row, row_at, row_room, passing-next, distances, distance-room}
 use Rattle.nearest.proofs.nearest_distances.Statement.{statement}
@@ -53,7 +53,7 @@ loop-again c =
     )
 
 returns : tie.Need-returns invariant-loop decreases-loop
-unfolding distancePlane
+unfolding distance_plane
 returns c =
     let b = c.before in
     rows_end (start b).args.h b.loop.invariant.1 c.loop-test.false (start b).requires.out-long

@@ -5,7 +5,7 @@ use Prim.Native.Nat.{ℕ, ◌-◌}
 use native.Mathlib.Omega.{arith}
 use Rattle.plane.specs.Plane.{index_of}
 use Rattle.nearest.specs.Nearest.{nearest}
-use Rattle.nearest.specs.steps.Indices.{indicesPlane}
+use Rattle.nearest.specs.steps.Indices.{indices_plane}
 use Rattle.nearest.proofs.Rows.{Rows, rows_none, rows-kept, rows_next, rows-front}
 use Rattle.nearest.proofs.Rows.{Passing, passing-none, Row, row_at, row_room, passing-next, pixels, pixel-room}
 use Rattle.nearest.proofs.nearest_indices.Statement.{statement}
@@ -53,7 +53,7 @@ loop-again c =
     )
 
 returns : tie.Need-returns invariant-loop decreases-loop
-unfolding indicesPlane
+unfolding indices_plane
 returns c =
     let b = c.before in
     let size = (at-below b).below.auto.1.1.1.0 in

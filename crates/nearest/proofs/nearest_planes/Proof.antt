@@ -5,7 +5,7 @@ use Prim.Native.Nat.{ℕ, ◌*◌, ◌-◌}
 use lib.IntN.{pos}
 use native.Mathlib.Omega.{arith}
 use borrow.Author.Rules.{rules}
-use Rattle.nearest.specs.Nearest.{nearest, row_of, columnOf, rowsPlane, columnsPlane}
+use Rattle.nearest.specs.Nearest.{nearest, row_of, column_of, rows_plane, columns_plane}
 use Rattle.nearest.specs.steps.Stages.{from}
 use Rattle.nearest.proofs.Rows.{Rows, rows_none, rows_next, rows_end}
 use Rattle.nearest.proofs.Rows.{Passing, passing-none, Row, row_at, row_room, passing-next, pixels, pixel-room}
@@ -16,7 +16,7 @@ abbrev invariant-loop : tie.invariant-loop
 invariant-loop mask h w work₀ rows₀ cols₀ y₀ work rows cols y =
     Passing mask h w work₀ work y
     × Rows (pos 0) (λ (j x : ℕ). row_of (nearest mask h w j x)) w rows₀ rows y
-    × Rows (pos 0) (λ (j x : ℕ). columnOf (nearest mask h w j x)) w cols₀ cols y
+    × Rows (pos 0) (λ (j x : ℕ). column_of (nearest mask h w j x)) w cols₀ cols y
 
 abbrev decreases-loop : tie.decreases-loop
 decreases-loop mask h w work₀ rows₀ cols₀ y₀ work rows cols y = h - y
@@ -83,11 +83,11 @@ loop-again c =
     let near = from s.row-pass.last.1.1.1.1.0 ((start i.before).args.h * (start i.before).args.w) in (
       passing-next (row i) (omega arith) size d refl (λ k q. refl),
       rows_next l.inv.1 v.kept.1.1.1.1.1.0 v.ensures (λ x q. ap row_of (pixels (row i) (omega arith) size d x q)),
-      rows_next l.inv.2 u.auto.1.1.1.1.0 (u.ensures near) (λ x q. ap columnOf (pixels (row i) (omega arith) size d x q)),
+      rows_next l.inv.2 u.auto.1.1.1.1.0 (u.ensures near) (λ x q. ap column_of (pixels (row i) (omega arith) size d x q)),
     )
 
 returns : tie.Need-returns invariant-loop decreases-loop
-unfolding rowsPlane columnsPlane
+unfolding rows_plane columns_plane
 returns c =
     let b = c.before in
     let h = (start b).args.h in

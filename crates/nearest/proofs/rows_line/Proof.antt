@@ -8,17 +8,17 @@ use native.Mathlib.Omega.{arith}
 use borrow.Author.Rules.{rules}
 use mir.Syntax.{w32}
 use mir.Facts.{to_z-of_z}
-use Rattle.line.specs.steps.Line.{mostLength}
+use Rattle.line.specs.steps.Line.{most_length}
 use Rattle.line.proofs.Part.{part_at, Filling, filling-none, filling-more, filling-end}
 use Rattle.nearest.specs.Nearest.{row_of}
-use Rattle.nearest.specs.steps.Stages.{from, pixelAt, pixelIn}
+use Rattle.nearest.specs.steps.Stages.{from, pixel_at, pixel_in}
 use Rattle.nearest.proofs.Stages.{part-long, part-pixel}
 use Rattle.nearest.proofs.rows_line.Statement.{statement}
 use Rattle.nearest.proofs.rows_line.Tie as tie
 
 abbrev invariant-loop : tie.invariant-loop
 invariant-loop work places near w row rows₀ end x₀ rows x =
-    Filling (pos 0) (λ (k : ℕ). row_of (pixelIn work places near w k)) row w rows₀ rows x
+    Filling (pos 0) (λ (k : ℕ). row_of (pixel_in work places near w k)) row w rows₀ rows x
 
 abbrev decreases-loop : tie.decreases-loop
 decreases-loop work places near w row rows₀ end x₀ rows x = w - x
@@ -45,7 +45,7 @@ row-at-requires c κs =
     let p = o.pre.0 in
     let e = part-long (work o) (near o) o.args.w (k o) (omega arith) p.room in
     let low = p.chosen i.before.loop.x i.loop-test.true in
-    let chosen = subst (λ (m : ℕ). m < o.args.w → from (work o) (near o) m < mostLength) (sym b.wide.ensures) low in
+    let chosen = subst (λ (m : ℕ). m < o.args.w → from (work o) (near o) m < most_length) (sym b.wide.ensures) low in
     λ g. rw (part_at (work o) (near o) (k o) b.wide.result 0 (omega arith)) (chosen (omega arith))
 
 loop-again : tie.Need-loop-preserved invariant-loop decreases-loop
@@ -58,7 +58,7 @@ loop-again c =
     (to_z-of_z {w = w32} (record { sfits = c.row_at.type-inv })
     ∙ c.row_at.ensures
     ∙ ap row_of (part-pixel (work o) (near o) w (k o) (omega arith) o.pre.0.room b.wide.result)
-    ∙ ap (λ (m : ℕ). row_of (pixelAt w (from (work o) (near o)) m)) b.wide.ensures)
+    ∙ ap (λ (m : ℕ). row_of (pixel_at w (from (work o) (near o)) m)) b.wide.ensures)
 
 pub rows-line-spec : {M : Type 1} → statement M
 rows-line-spec =

@@ -6,19 +6,19 @@ use Prim.Native.Nat.{ℕ, ◌+◌, ◌-◌, ◌≤◌}
 use native.Mathlib.Omega.{arith}
 use lib.ListN.{length}
 use borrow.Author.Rules.{rules}
-use Rattle.plane.specs.Search.{countBelow}
+use Rattle.plane.specs.Search.{count_below}
 use Rattle.plane.proofs.Search.{count_most}
-use Rattle.plane.specs.Mask.{isOn}
+use Rattle.plane.specs.Mask.{is_on}
 use Rattle.plane.specs.Plane.{on, bit}
 use Rattle.plane.proofs.Mask.{off_byte}
 use Rattle.counts.proofs.Counting.{count-more}
-use Rattle.next_pass.specs.NextPass.{newlyOn}
+use Rattle.next_pass.specs.NextPass.{newly_on}
 use Rattle.next_pass.proofs.Counts.{new}
 use Rattle.next_pass.proofs.block.Statement.{statement}
 use Rattle.next_pass.proofs.block.Tie as tie
 
 abbrev invariant-loop : tie.invariant-loop
-invariant-loop before after n₀ i₀ n i = (i ≤ length before) × (n ≡ countBelow i (new before after))
+invariant-loop before after n₀ i₀ n i = (i ≤ length before) × (n ≡ count_below i (new before after))
 
 abbrev decreases-loop : tie.decreases-loop
 decreases-loop before after n₀ i₀ n i = length before - i
@@ -28,14 +28,14 @@ abbrev counted : tie.At-loop invariant-loop decreases-loop → ℕ → Bool
 counted c = let o = c.before.before.before in new o.args.before.now o.args.after.now
 
 loop-holds : tie.Need-loop-init invariant-loop decreases-loop
-unfolding countBelow
+unfolding count_below
 loop-holds c = (omega arith, refl)
 
 -- the count with the pixel that is looked at
 more : (c : tie.After-byte invariant-loop decreases-loop)
     → let at-loop = c.before.before.before.before in
-    at-loop.loop.n + c.byte.result ≡ countBelow (at-loop.loop.i + 1) (counted at-loop)
-unfolding isOn on
+    at-loop.loop.n + c.byte.result ≡ count_below (at-loop.loop.i + 1) (counted at-loop)
+unfolding is_on on
 more c =
     let at-loop = c.before.before.before.before in
     let l = at-loop.loop in
@@ -49,11 +49,11 @@ add-n c =
     omega (arith, more c, count_most (counted at-loop) (at-loop.loop.i + 1), at-loop.before.before.before.requires.1)
 
 returns : tie.Need-returns invariant-loop decreases-loop
-unfolding newlyOn
+unfolding newly_on
 returns c =
     let l = c.before.loop in
     let e : l.i ≡ length c.before.before.before.before.args.before.now = omega arith in
-    l.invariant.1 ∙ ap (λ (k : ℕ). countBelow k (counted c.before)) e
+    l.invariant.1 ∙ ap (λ (k : ℕ). count_below k (counted c.before)) e
 
 pub block_spec : {M : Type 1} → statement M
 block_spec =

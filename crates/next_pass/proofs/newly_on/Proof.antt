@@ -6,21 +6,21 @@ use Prim.Native.Nat.{ℕ, ◌+◌, ◌-◌, ◌≤◌}
 use native.Mathlib.Omega.{arith}
 use lib.ListN.{length, take, drop}
 use borrow.Author.Rules.{rules}
-use Rattle.plane.specs.Search.{countBelow}
+use Rattle.plane.specs.Search.{count_below}
 use Rattle.counts.proofs.Put.{part_length}
-use Rattle.next_pass.specs.NextPass.{newlyOn}
+use Rattle.next_pass.specs.NextPass.{newly_on}
 use Rattle.next_pass.proofs.Counts.{newly-then, newly-most}
 use Rattle.next_pass.proofs.newly_on.Statement.{statement}
 use Rattle.next_pass.proofs.newly_on.Tie as tie
 
 abbrev invariant-loop : tie.invariant-loop
-invariant-loop before after n₀ i₀ n i = (i ≤ length before) × (n ≡ newlyOn i before after)
+invariant-loop before after n₀ i₀ n i = (i ≤ length before) × (n ≡ newly_on i before after)
 
 abbrev decreases-loop : tie.decreases-loop
 decreases-loop before after n₀ i₀ n i = length before - i
 
 loop-holds : tie.Need-loop-init invariant-loop decreases-loop
-unfolding newlyOn countBelow
+unfolding newly_on count_below
 loop-holds c = (omega arith, refl)
 
 -- the next block
@@ -49,14 +49,14 @@ block-requires c κs =
 more : (c : tie.After-block invariant-loop decreases-loop)
     → let n = c.before.before.before in
     n.before.before.loop.n + c.block.result
-    ≡ newlyOn (i n + n.lesser.result) (start n).args.before.now (start n).args.after.now
+    ≡ newly_on (i n + n.lesser.result) (start n).args.before.now (start n).args.after.now
 more c =
     let n = c.before.before.before in
     let a = (start n).args in
     let e : size n ≡ n.lesser.result = omega arith in
     newly-then a.before.now a.after.now (i n) (size n) _ _ n.before.before.loop.invariant.1
     (part-long n a.before.now refl) c.block.ensures
-    ∙ ap (λ (k : ℕ). newlyOn (i n + k) a.before.now a.after.now) e
+    ∙ ap (λ (k : ℕ). newly_on (i n + k) a.before.now a.after.now) e
 
 add-n : tie.Need-overflow-add-n invariant-loop decreases-loop
 add-n c =
@@ -75,7 +75,7 @@ returns c =
     let l = c.before.loop in
     let a = c.before.before.before.before.args in
     let e : l.i ≡ length a.before.now = omega arith in
-    l.invariant.1 ∙ ap (λ (k : ℕ). newlyOn k a.before.now a.after.now) e
+    l.invariant.1 ∙ ap (λ (k : ℕ). newly_on k a.before.now a.after.now) e
 
 pub newly-on-spec : {M : Type 1} → statement M
 newly-on-spec =

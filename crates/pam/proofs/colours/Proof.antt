@@ -9,17 +9,17 @@ use lib.Ieee.{Float, nan}
 use borrow.Author.Rules.{rules}
 use Rattle.plane.specs.Plane.{table}
 use Rattle.plane.proofs.InPlace.{Changed, changed-none, changed-more, changed-end}
-use Rattle.colour.specs.Colour.{colourOk}
-use Rattle.colour.specs.Weight.{weightOf}
+use Rattle.colour.specs.Colour.{colour_ok}
+use Rattle.colour.specs.Weight.{weight_of}
 use Rattle.colour.proofs.Range.{colours-all}
-use Rattle.pam.specs.Picture.{sampleAt, coloursFrom}
+use Rattle.pam.specs.Picture.{sample_at, colours_from}
 use Rattle.colour.proofs.Bytes.{byte-ok}
 use Rattle.pam.proofs.colours.Statement.{statement}
 use Rattle.pam.proofs.colours.Tie as tie
 
 -- number k of the colours
 abbrev channel : List ℕ → ℕ → ℕ → Float
-channel input body k = weightOf (sampleAt input body (4 * (k / 3) + k % 3))
+channel input body k = weight_of (sample_at input body (4 * (k / 3) + k % 3))
 
 abbrev invariant-loop : tie.invariant-loop
 invariant-loop input body n out₀ k₀ out k = (k ≤ length out₀) × Changed nan (channel input body) out₀ out k
@@ -28,15 +28,15 @@ abbrev decreases-loop : tie.decreases-loop
 decreases-loop input body n out₀ k₀ out k = length out₀ - k
 
 loop-again : tie.Need-loop-preserved invariant-loop decreases-loop
-unfolding sampleAt
+unfolding sample_at
 loop-again c =
     let l = c.before.before.before.loop in
     let done = l.invariant.1 in
-    let right = c.weight.ensures ∙ ap weightOf c.before.byte_at.ensures in
+    let right = c.weight.ensures ∙ ap weight_of c.before.byte_at.ensures in
     (omega arith, changed-more nan _ _ l.out l.k c.weight.result done (omega (arith, done.size)) right)
 
 returns : tie.Need-returns invariant-loop decreases-loop
-unfolding coloursFrom sampleAt
+unfolding colours_from sample_at
 returns c =
     let l = c.before.loop in
     let o = c.before.before.before.before in
@@ -48,7 +48,7 @@ returns c =
       whole ∙ ap (table (channel a.input.now a.body) 0) o.requires.2,
       colours-all l.out
           (λ k g.
-          ap colourOk (done.front k (omega (arith, done.size)))
+          ap colour_ok (done.front k (omega (arith, done.size)))
           ∙ byte-ok (get_or a.input.now (place k) 0) (omega (arith, byte (place k)))),
     )
 

@@ -5,13 +5,13 @@ use mathlib.Core.Bool.{Bool, not, ◌&&◌}
 use lib.Dec.{eqb, leb}
 use lib.ListN.{length, get_or}
 use borrow.Author.Rules.{rules}
-use Rattle.pam_header.specs.Header.{isNumeral}
+use Rattle.pam_header.specs.Header.{is_numeral}
 use Rattle.pam_header.proofs.Numbers.{digits-all}
 use Rattle.pam_header.proofs.is_numeral.Statement.{statement}
 use Rattle.pam_header.proofs.is_numeral.Tie as tie
 
 returns : tie.Need-returns
-unfolding isNumeral
+unfolding is_numeral
 returns c =
     let l = c.before.before.before.args.digits.now in
     rw (c.byte_at.ensures, c.before.digits.ensures)

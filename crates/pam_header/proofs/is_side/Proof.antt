@@ -9,24 +9,24 @@ use lib.ListN.{length, drop, drop_of_length-le, length-drop}
 use lib.Seq.{take_all}
 use borrow.Author.Rules.{rules}
 use Rattle.plane.proofs.Search.{and_no}
-use Rattle.text.specs.Decimal.{allDigits}
-use Rattle.pam_header.specs.Header.{startsAt, isNumeral, isSide}
+use Rattle.text.specs.Decimal.{all_digits}
+use Rattle.pam_header.specs.Header.{starts_at, is_numeral, is_side}
 use Rattle.pam_header.proofs.is_side.Statement.{statement}
 use Rattle.pam_header.proofs.is_side.Tie as tie
 
 -- nothing is no number
-none : isNumeral [] ≡ false
-unfolding isNumeral allDigits
+none : is_numeral [] ≡ false
+unfolding is_numeral all_digits
 none = refl
 
 returns : tie.Need-returns
-unfolding isSide
+unfolding is_side
 returns c =
     let a = c.before.before.before.args in
-    rw (drop_of_length-le a.line.now {i = length a.name.now} (omega arith), none, and_no (startsAt a.line.now 0 a.name.now))
+    rw (drop_of_length-le a.line.now {i = length a.name.now} (omega arith), none, and_no (starts_at a.line.now 0 a.name.now))
 
 returns-2 : tie.Need-returns-2
-unfolding isSide
+unfolding is_side
 returns-2 c =
     let a = c.before.before.before.before.before.before.args in
     let rest = drop (length a.name.now) a.line.now in

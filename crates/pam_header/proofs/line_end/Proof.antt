@@ -4,13 +4,13 @@ use mathlib.Core.Path.{◌≡◌, refl}
 use Prim.Native.Nat.{◌+◌, ◌-◌, ◌≤◌}
 use native.Mathlib.Omega.{arith}
 use lib.ListN.{length, drop}
-use Rattle.pam_header.specs.steps.Reading.{lineLong}
+use Rattle.pam_header.specs.steps.Reading.{line_long}
 use Rattle.pam_header.proofs.Lines.{long-more, long-here, long-past}
 use Rattle.pam_header.proofs.line_end.Statement.{statement}
 use Rattle.pam_header.proofs.line_end.Tie as tie
 
 abbrev invariant-loop : tie.invariant-loop
-invariant-loop text at i₀ i = (at ≤ i) × (i ≤ length text) × (i + lineLong (drop i text) ≡ at + lineLong (drop at text))
+invariant-loop text at i₀ i = (at ≤ i) × (i ≤ length text) × (i + line_long (drop i text) ≡ at + line_long (drop at text))
 
 abbrev decreases-loop : tie.decreases-loop
 decreases-loop text at i₀ i = length text - i

@@ -7,24 +7,24 @@ use native.Mathlib.Omega.{arith}
 use lib.ListN.{length, take}
 use lib.Seq.{take_all, length-take-le}
 use borrow.Author.Rules.{rules}
-use Rattle.pam_header.specs.Header.{lines_of, mostHeader, headerBy, headerOf}
+use Rattle.pam_header.specs.Header.{lines_of, most_header, header_by, header_of}
 use Rattle.pam_header.proofs.read_header.Statement.{statement}
 use Rattle.pam_header.proofs.read_header.Tie as tie
 
 returns : tie.Need-returns
-unfolding headerOf
+unfolding header_of
 returns c =
     let input = c.before.before.before.args.input.now in
-    let all = take_all mostHeader input (omega arith) in
-    c.header-in.ensures ∙ ap (λ (l : List ℕ). headerBy (lines_of l)) (sym all)
+    let all = take_all most_header input (omega arith) in
+    c.header-in.ensures ∙ ap (λ (l : List ℕ). header_by (lines_of l)) (sym all)
 
 returns-2 : tie.Need-returns-2
-unfolding headerOf
+unfolding header_of
 returns-2 c = c.header-in2.ensures
 
 -- the first bytes are as many as a header may have
-long : (c : tie.After-header-in-arg) → length (take mostHeader c.before.before.before.args.input.now) ≡ mostHeader
-long c = length-take-le mostHeader c.before.before.before.args.input.now (omega arith)
+long : (c : tie.After-header-in-arg) → length (take most_header c.before.before.before.args.input.now) ≡ most_header
+long c = length-take-le most_header c.before.before.before.args.input.now (omega arith)
 
 pub read-header-spec : {M : Type 1} → statement M
 read-header-spec =

@@ -7,7 +7,7 @@ use native.Mathlib.Omega.{arith}
 use lib.ListN.{length, take, drop}
 use borrow.Author.Rules.{rules}
 use Rattle.pam_header.specs.Header.{lines_of}
-use Rattle.pam_header.specs.steps.Reading.{Few, noFields, withLine, readFrom}
+use Rattle.pam_header.specs.steps.Reading.{Few, no_fields, with_line, read_from}
 use Rattle.pam_header.proofs.Lines.{few-more, end-most, read_past, read_none, read-end, read_next}
 use Rattle.pam_header.proofs.read_lines.Statement.{statement}
 use Rattle.pam_header.proofs.read_lines.Tie as tie
@@ -16,7 +16,7 @@ abbrev invariant-loop : tie.invariant-loop
 invariant-loop front start at₀ seen₀ t at seen =
     (at ≤ length front)
     × Few seen at
-    × (readFrom seen at (lines_of (drop at front)) ≡ readFrom noFields start (lines_of (drop start front)))
+    × (read_from seen at (lines_of (drop at front)) ≡ read_from no_fields start (lines_of (drop start front)))
 
 abbrev decreases-loop : tie.decreases-loop
 decreases-loop front start at₀ seen₀ t at seen = length front - at
@@ -70,7 +70,7 @@ loop-again c =
     let l = (here e).loop in
     let no = sym t.is-text.ensures ∙ c.before.if2.false in
     let line = take (e.line-end.result - l.at) (drop l.at (text e)) in
-    let one : Few (withLine l.seen line) (l.at + 1) = few-more l.seen line l.at l.inv.1 in (
+    let one : Few (with_line l.seen line) (l.at + 1) = few-more l.seen line l.at l.inv.1 in (
       omega (arith, short t),
       rw c.with-line.ensures (omega (arith, one, later e)),
       rw c.with-line.ensures (read_next (text e) l.seen l.at _ e.line-end.ensures l.inv.0 (short t) no) ∙ l.inv.2,

@@ -4,14 +4,14 @@ use mathlib.Core.Path.{◌≡◌, refl, sym, ◌∙◌}
 use Prim.Native.Nat.{◌-◌, ◌≤◌}
 use native.Mathlib.Omega.{arith}
 use lib.ListN.{length, drop}
-use Rattle.pam_header.specs.Header.{startsAt}
+use Rattle.pam_header.specs.Header.{starts_at}
 use Rattle.pam_header.proofs.Comparing.{starts_more, starts-not, starts-end}
 use borrow.Author.Rules.{rules}
 use Rattle.pam_header.proofs.starts.Statement.{statement}
 use Rattle.pam_header.proofs.starts.Tie as tie
 
 abbrev invariant-loop : tie.invariant-loop
-invariant-loop line text i₀ i = (i ≤ length text) × (startsAt line 0 text ≡ startsAt line i (drop i text))
+invariant-loop line text i₀ i = (i ≤ length text) × (starts_at line 0 text ≡ starts_at line i (drop i text))
 
 abbrev decreases-loop : tie.decreases-loop
 decreases-loop line text i₀ i = length text - i

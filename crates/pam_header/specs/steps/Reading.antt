@@ -3,17 +3,17 @@
 use Rattle.std.specs.Prelude.{ℕ, suc, ◌+◌, ◌*◌, ◌≤◌, Bool, true, cond, ◌&&◌, List, [], ◌∷◌, eqb, length}
 use Rattle.pam_header.specs.declared.Header.{Header}
 use Rattle.pam_header.specs.declared.Fields.{Fields}
-use Rattle.pam_header.specs.Header.{isText, isSide, sideFrom, isOther, declined}
-use Rattle.pam_header.specs.Header.{widthName, heightName, depthText, maxvalText, tupltypeText, endText}
+use Rattle.pam_header.specs.Header.{is_text, is_side, side_from, is_other, declined}
+use Rattle.pam_header.specs.Header.{width_name, height_name, depth_text, maxval_text, tupltype_text, end_text}
 
 -- how many bytes stand before the first newline, or before the end
-unfoldable pub lineLong : List ℕ → ℕ
-lineLong [] = 0
-lineLong (b ∷ text) = cond (eqb b 10) 0 (suc (lineLong text))
+unfoldable pub line_long : List ℕ → ℕ
+line_long [] = 0
+line_long (b ∷ text) = cond (eqb b 10) 0 (suc (line_long text))
 
 -- before the first line
-abbrev pub noFields : Fields
-noFields =
+abbrev pub no_fields : Fields
+no_fields =
     record {
       widths = 0;
       heights = 0;
@@ -30,17 +30,17 @@ abbrev pub more : ℕ → Bool → ℕ
 more n t = n + cond t 1 0
 
 -- after one more line
-unfoldable pub withLine : Fields → List ℕ → Fields
-withLine s line =
+unfoldable pub with_line : Fields → List ℕ → Fields
+with_line s line =
     record {
-      widths = more s.widths (isSide widthName line);
-      heights = more s.heights (isSide heightName line);
-      depths = more s.depths (isText depthText line);
-      maxvals = more s.maxvals (isText maxvalText line);
-      tupltypes = more s.tupltypes (isText tupltypeText line);
-      others = more s.others (isOther line);
-      width = sideFrom widthName s.width line;
-      height = sideFrom heightName s.height line;
+      widths = more s.widths (is_side width_name line);
+      heights = more s.heights (is_side height_name line);
+      depths = more s.depths (is_text depth_text line);
+      maxvals = more s.maxvals (is_text maxval_text line);
+      tupltypes = more s.tupltypes (is_text tupltype_text line);
+      others = more s.others (is_other line);
+      width = side_from width_name s.width line;
+      height = side_from height_name s.height line;
     }
 
 -- the counts are those of at most n lines, six counts a line
@@ -48,8 +48,8 @@ abbrev pub Few : Fields → ℕ → Type 0
 Few s n = s.widths + s.heights + s.depths + s.maxvals + s.tupltypes + s.others ≤ 6 * n
 
 -- whether the lines were as they should be
-unfoldable pub seenOk : Fields → Bool
-seenOk s =
+unfoldable pub seen_ok : Fields → Bool
+seen_ok s =
     eqb s.widths 1
     && eqb s.heights 1
     && eqb s.depths 1
@@ -58,13 +58,13 @@ seenOk s =
     && eqb s.others 0
 
 -- the header whose lines were these, with the pixels at a place
-unfoldable pub headerFrom : Fields → ℕ → Header
-headerFrom s at =
-    cond (seenOk s) (record { ok = true; height = s.height; width = s.width; body = at }) declined
+unfoldable pub header_from : Fields → ℕ → Header
+header_from s at =
+    cond (seen_ok s) (record { ok = true; height = s.height; width = s.width; body = at }) declined
 
 -- the header whose further lines are these, the first of them at a place
-unfoldable pub readFrom : Fields → ℕ → List (List ℕ) → Header
-readFrom s at [] = declined
-readFrom s at (line ∷ lines) =
+unfoldable pub read_from : Fields → ℕ → List (List ℕ) → Header
+read_from s at [] = declined
+read_from s at (line ∷ lines) =
     let next = at + length line + 1 in
-    cond (isText endText line) (headerFrom s next) (readFrom (withLine s line) next lines)
+    cond (is_text end_text line) (header_from s next) (read_from (with_line s line) next lines)

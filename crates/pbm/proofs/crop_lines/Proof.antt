@@ -3,7 +3,7 @@
 use native.Mathlib.Omega.{arith}
 use borrow.Author.Rules.{rules}
 use Rattle.text.proofs.Written.{wrote-more}
-use Rattle.pbm.specs.Text.{cropLines}
+use Rattle.pbm.specs.Text.{crop_lines}
 use Rattle.pbm.proofs.Lengths.{crop-long}
 use Rattle.pbm.proofs.crop_lines.Statement.{statement}
 use Rattle.pbm.proofs.crop_lines.Tie as tie
@@ -22,7 +22,7 @@ abbrev at-word : tie.After-keyed-end-arg → tie.Start
 at-word c = at-columns c.before.before.before.before
 
 returns : tie.Need-returns
-unfolding cropLines
+unfolding crop_lines
 returns c =
     let word = c.before.before in
     let columns = word.before.before.before.before in

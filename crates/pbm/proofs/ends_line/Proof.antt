@@ -1,13 +1,13 @@
 -- `pbm::ends_line` meets its contract.
 -- Assumes nothing.
 use mathlib.Core.Path.{refl}
-use Rattle.pbm.specs.Text.{endsLine}
+use Rattle.pbm.specs.Text.{ends_line}
 use borrow.Author.Rules.{rules}
 use Rattle.pbm.proofs.ends_line.Statement.{statement}
 use Rattle.pbm.proofs.ends_line.Tie as tie
 
 returns : tie.Need-returns
-unfolding endsLine
+unfolding ends_line
 returns c = refl
 
 pub ends-line-spec : {M : Type 1} → statement M

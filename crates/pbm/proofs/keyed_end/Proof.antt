@@ -2,12 +2,12 @@
 -- Assumes nothing.
 use borrow.Author.Rules.{rules}
 use Rattle.text.proofs.Written.{wrote-more, wrote_as}
-use Rattle.pbm.specs.Text.{keyedEnd}
+use Rattle.pbm.specs.Text.{keyed_end}
 use Rattle.pbm.proofs.keyed_end.Statement.{statement}
 use Rattle.pbm.proofs.keyed_end.Tie as tie
 
 returns : tie.Need-returns
-unfolding keyedEnd
+unfolding keyed_end
 returns c =
     let end = c.before.before in
     let flag = end.before.before.before.before in

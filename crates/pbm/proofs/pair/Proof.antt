@@ -3,7 +3,7 @@
 use native.Mathlib.Omega.{arith}
 use borrow.Author.Rules.{rules}
 use Rattle.text.proofs.Written.{wrote-more}
-use Rattle.pbm.specs.Text.{pairText}
+use Rattle.pbm.specs.Text.{pair_text}
 use Rattle.pbm.proofs.Lengths.{pair-long}
 use Rattle.pbm.proofs.pair.Statement.{statement}
 use Rattle.pbm.proofs.pair.Tie as tie
@@ -13,7 +13,7 @@ abbrev at_second : tie.After-write-number-arg2 → tie.Start
 at_second c = c.before.before.before.before.before.before.before.before.before.before
 
 returns : tie.Need-returns
-unfolding pairText
+unfolding pair_text
 returns c =
     let second = c.before.before in
     let between = second.before.before.before.before in

@@ -2,8 +2,8 @@
 -- Assumes nothing.
 use native.Mathlib.Nat.{mod-lt}
 use Rattle.plane.specs.Plane.{on}
-use Rattle.plane.specs.Mask.{isOn}
-use Rattle.pbm.specs.Text.{pixelText}
+use Rattle.plane.specs.Mask.{is_on}
+use Rattle.pbm.specs.Text.{pixel_text}
 use Rattle.text.proofs.Written.{wrote-more, wrote_as}
 use borrow.Author.Rules.{rules}
 use Rattle.pbm.proofs.pixel.Statement.{statement}
@@ -15,7 +15,7 @@ ends-line-requires c κs =
     mod-lt start.args.i start.requires.0
 
 returns : tie.Need-returns
-unfolding pixelText isOn on
+unfolding pixel_text is_on on
 returns c =
     let end = c.before.before in
     let first = end.before.before.before.before.before in

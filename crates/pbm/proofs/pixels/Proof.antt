@@ -4,7 +4,7 @@ use mathlib.Core.Path.{◌≡◌, refl, ap, ◌∙◌}
 use Prim.Native.Nat.{◌-◌, ◌≤◌}
 use lib.ListN.{length}
 use native.Mathlib.Omega.{arith}
-use Rattle.pbm.specs.Text.{pixelsText}
+use Rattle.pbm.specs.Text.{pixels_text}
 use Rattle.text.specs.steps.Writing.{Wrote}
 use Rattle.text.proofs.Written.{wrote_none, wrote-more, wrote_as}
 use Rattle.pbm.proofs.Lengths.{pixels-more, pixels-short}
@@ -12,7 +12,7 @@ use Rattle.pbm.proofs.pixels.Statement.{statement}
 use Rattle.pbm.proofs.pixels.Tie as tie
 
 abbrev invariant-loop : tie.invariant-loop
-invariant-loop out₀ at mask w next₀ i₀ out next i = (i ≤ length mask) × (length out ≡ length out₀) × Wrote (pixelsText mask w i) out₀ out at next
+invariant-loop out₀ at mask w next₀ i₀ out next i = (i ≤ length mask) × (length out ≡ length out₀) × Wrote (pixels_text mask w i) out₀ out at next
 
 abbrev decreases-loop : tie.decreases-loop
 decreases-loop out₀ at mask w next₀ i₀ out next i = length mask - i
@@ -37,7 +37,7 @@ returns c =
     let l = c.before.loop in
     let a = c.before.before.before.before.args in
     let e : l.i ≡ length a.mask.now = omega arith in
-    wrote_as (ap (pixelsText a.mask.now a.w) e) l.invariant.2
+    wrote_as (ap (pixels_text a.mask.now a.w) e) l.invariant.2
 
 pub pixels-spec : {M : Type 1} → statement M
 pixels-spec =
@@ -45,7 +45,7 @@ pixels-spec =
     (tie.spec
     invariant-loop
     decreases-loop
-    (λ c. (omega arith, refl, unfold pixelsText in wrote_none))
+    (λ c. (omega arith, refl, unfold pixels_text in wrote_none))
     pixel-requires
     (λ c. omega arith)
     (λ c. omega arith)

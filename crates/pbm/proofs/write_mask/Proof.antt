@@ -2,12 +2,12 @@
 -- Assumes nothing.
 use borrow.Author.Rules.{rules}
 use Rattle.text.proofs.Written.{wrote-more, wrote_as}
-use Rattle.pbm.specs.Text.{maskText}
+use Rattle.pbm.specs.Text.{mask_text}
 use Rattle.pbm.proofs.write_mask.Statement.{statement}
 use Rattle.pbm.proofs.write_mask.Tie as tie
 
 returns : tie.Need-returns
-unfolding maskText
+unfolding mask_text
 returns c =
     let last = c.before.before in
     let second = last.before.before.before.before in

@@ -3,7 +3,7 @@
 use native.Mathlib.Omega.{arith}
 use borrow.Author.Rules.{rules}
 use Rattle.text.proofs.Written.{wrote-more}
-use Rattle.pbm.specs.Text.{refusalText}
+use Rattle.pbm.specs.Text.{refusal_text}
 use Rattle.pbm.proofs.Lengths.{refusal-long}
 use Rattle.pbm.proofs.write_refusal.Statement.{statement}
 use Rattle.pbm.proofs.write_refusal.Tie as tie
@@ -13,7 +13,7 @@ abbrev at-end : tie.After-put-arg → tie.Start
 at-end c = c.before.before.before.before.before.before.before.before.before.before.before
 
 returns : tie.Need-returns
-unfolding refusalText
+unfolding refusal_text
 returns c =
     let end = c.before.before in
     let number = end.before.before.before.before in

@@ -8,15 +8,15 @@ use lib.Dec.{eqb}
 use lib.ListN.{length}
 use borrow.Author.Rules.{rules}
 use Rattle.plane.specs.Plane.{bit}
-use Rattle.plane.specs.Mask.{isOn, mask_of}
-use Rattle.plane.specs.steps.Complement.{complementOf}
+use Rattle.plane.specs.Mask.{is_on, mask_of}
+use Rattle.plane.specs.steps.Complement.{complement_of}
 use Rattle.plane.proofs.Mask.{off_byte}
 use Rattle.plane.proofs.InPlace.{Changed, changed-none, changed-more, changed-end}
 use Rattle.plane.proofs.complement.Statement.{statement}
 use Rattle.plane.proofs.complement.Tie as tie
 
 abbrev invariant-loop : tie.invariant-loop
-invariant-loop mask₀ i₀ mask i = (i ≤ length mask₀) × Changed 0 (λ (k : ℕ). bit (not (isOn mask₀ k))) mask₀ mask i
+invariant-loop mask₀ i₀ mask i = (i ≤ length mask₀) × Changed 0 (λ (k : ℕ). bit (not (is_on mask₀ k))) mask₀ mask i
 
 abbrev decreases-loop : tie.decreases-loop
 decreases-loop mask₀ i₀ mask i = length mask₀ - i
@@ -51,7 +51,7 @@ same_length : tie.Need-same-length invariant-loop decreases-loop
 same_length c = c.before.loop.invariant.1.size
 
 returns : tie.Need-returns invariant-loop decreases-loop
-unfolding complementOf mask_of
+unfolding complement_of mask_of
 returns c = let l = c.before.loop in changed-end 0 _ _ l.mask l.i l.invariant.1 (omega arith)
 
 pub complement-spec : {M : Type 1} → statement M

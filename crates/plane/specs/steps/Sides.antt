@@ -3,12 +3,12 @@
 use Rattle.std.specs.Prelude.{ℕ, ◌≤◌}
 
 -- the largest side for which the inner functions are proved
-abbrev pub longestSide : ℕ
-longestSide = 65536
+abbrev pub longest_side : ℕ
+longest_side = 65536
 
 -- sides of a plane that is not empty and not larger than that
 pub record Sides (h w : ℕ) : Type 0 where
   pub some-rows : 1 ≤ h
   pub some-columns : 1 ≤ w
-  pub tall : h ≤ longestSide
-  pub wide : w ≤ longestSide
+  pub tall : h ≤ longest_side
+  pub wide : w ≤ longest_side

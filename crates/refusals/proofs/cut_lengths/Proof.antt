@@ -6,36 +6,36 @@ use Prim.Native.Nat.{◌*◌, ◌≤◌}
 use native.Mathlib.Omega.{arith}
 use borrow.Author.Rules.{rules}
 use borrow.Author.Tests.{not-true, not-false}
-use Rattle.plane.specs.Refusal.{refusalOf, sidesOk}
+use Rattle.plane.specs.Refusal.{refusal_of, sides_ok}
 use Rattle.plane.proofs.Refusal.{joined, sides-are, accepted-area}
-use Rattle.outline.specs.Refusal.{cutLengths}
+use Rattle.outline.specs.Refusal.{cut_lengths}
 use Rattle.refusals.proofs.cut_lengths.Statement.{statement}
 use Rattle.refusals.proofs.cut_lengths.Tie as tie
 
 -- the sides are accepted
-ok : (c : tie.Else1) → sidesOk c.before.before.args.h c.before.before.args.w ≡ true
+ok : (c : tie.Else1) → sides_ok c.before.before.args.h c.before.before.args.w ≡ true
 ok c = sym c.before.sides-ok.ensures ∙ not-false _ c.if1.false
 
 small : (c : tie.Else1) → c.before.before.args.h * c.before.before.args.w ≤ 4294967296
 small c = accepted-area _ _ (ok c)
 
 returns : tie.Need-returns
-unfolding cutLengths refusalOf
+unfolding cut_lengths refusal_of
 returns c = rw (sym c.before.sides-ok.ensures ∙ not-true _ c.if1.true)
 
 returns-2 : tie.Need-returns-2
-unfolding cutLengths refusalOf
+unfolding cut_lengths refusal_of
 returns-2 c =
     let sized = c.before.before in
     rw (joined, joined, ← c.before.room.ensures, ok sized.before.before, sized.before.if2.true, sized.if3.true)
     c.work-lengths.ensures
 
 returns-3 : tie.Need-returns-3
-unfolding cutLengths refusalOf
+unfolding cut_lengths refusal_of
 returns-3 c = rw (joined, joined, ok c.before.before, c.before.if2.true, c.if3.false)
 
 returns-4 : tie.Need-returns-4
-unfolding cutLengths refusalOf
+unfolding cut_lengths refusal_of
 returns-4 c = rw (joined, ok c.before, c.if2.false)
 
 pub cut-lengths-spec : {M : Type 1} → statement M

@@ -2,19 +2,19 @@
 -- Assumes nothing.
 use mathlib.Core.Path.{sym, ◌∙◌}
 use borrow.Author.Rules.{rules}
-use Rattle.plane.specs.Refusal.{refusalOf}
+use Rattle.plane.specs.Refusal.{refusal_of}
 use Rattle.plane.proofs.Refusal.{joined, declined-first}
-use Rattle.outline.specs.Refusal.{growthRefusal}
+use Rattle.outline.specs.Refusal.{growth_refusal}
 use Rattle.refusals.proofs.Laws.{growth-first}
 use Rattle.refusals.proofs.growth_refusal.Statement.{statement}
 use Rattle.refusals.proofs.growth_refusal.Tie as tie
 
 returns : tie.Need-returns
-unfolding growthRefusal
+unfolding growth_refusal
 returns c = let n = c.before.growth-lengths in n.ensures ∙ sym (declined-first _ _ (λ q. c.if1.true (n.ensures ∙ q)))
 
 returns-2 : tie.Need-returns-2
-unfolding refusalOf
+unfolding refusal_of
 returns-2 c =
     let judged = c.before.before in
     let lengths = judged.before in
@@ -22,7 +22,7 @@ returns-2 c =
     rw (growth-first _ _ _ _ _ _ _ _ _ _ e, joined, ← judged.colours-ok.ensures.answer, ← c.before.rgb-ok.ensures, c.if2.true)
 
 returns-3 : tie.Need-returns-3
-unfolding refusalOf
+unfolding refusal_of
 returns-3 c =
     let judged = c.before.before in
     let lengths = judged.before in

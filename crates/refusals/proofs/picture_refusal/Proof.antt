@@ -3,17 +3,17 @@
 use mathlib.Core.Path.{sym, ◌∙◌}
 use borrow.Author.Rules.{rules}
 use borrow.Author.Tests.{not-true, not-false}
-use Rattle.plane.specs.Refusal.{refusalOf}
-use Rattle.outline.specs.Refusal.{pictureTests}
+use Rattle.plane.specs.Refusal.{refusal_of}
+use Rattle.outline.specs.Refusal.{picture_tests}
 use Rattle.refusals.proofs.picture_refusal.Statement.{statement}
 use Rattle.refusals.proofs.picture_refusal.Tie as tie
 
 returns : tie.Need-returns
-unfolding refusalOf pictureTests
+unfolding refusal_of picture_tests
 returns c = rw (sym c.before.readable.ensures ∙ not-true _ c.if1.true)
 
 returns-2 : tie.Need-returns-2
-unfolding refusalOf pictureTests
+unfolding refusal_of picture_tests
 returns-2 c =
     let read = c.before.before in
     rw (
@@ -22,7 +22,7 @@ returns-2 c =
     )
 
 returns-3 : tie.Need-returns-3
-unfolding refusalOf pictureTests
+unfolding refusal_of picture_tests
 returns-3 c =
     let range = c.before.before in
     let read = range.before.before in
@@ -33,7 +33,7 @@ returns-3 c =
     )
 
 returns-4 : tie.Need-returns-4
-unfolding refusalOf pictureTests
+unfolding refusal_of picture_tests
 returns-4 c =
     let range = c.before.before in
     let read = range.before.before in

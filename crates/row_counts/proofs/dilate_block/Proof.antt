@@ -4,11 +4,11 @@
 use Rattle.std.proofs.Common.{◌≡◌, ℕ, ◌+◌, ◌-◌, ◌≤◌, false, ltb, List, ◌++◌, length, get_or, take, drop, replicate, sym, refl, ap, ◌∙◌, add-zero, arith, length-append, length-drop, take_at, rules}
 use lib.ListN.{length-replicate, get_or-replicate}
 use borrow.Author.Tests.{not-true}
-use Rattle.plane.specs.Search.{someBelow}
+use Rattle.plane.specs.Search.{some_below}
 use Rattle.plane.specs.Plane.{bit}
-use Rattle.plane.specs.Mask.{isOn, mask_of}
-use Rattle.counts.specs.Running.{windowCount, running}
-use Rattle.row_counts.specs.steps.Rows.{countedPart}
+use Rattle.plane.specs.Mask.{is_on, mask_of}
+use Rattle.counts.specs.Running.{window_count, running}
+use Rattle.row_counts.specs.steps.Rows.{counted_part}
 use Rattle.counts.proofs.Counting.{running-most}
 use Rattle.counts.proofs.Begun.{Begun, begun-none, begun-end}
 use Rattle.counts.proofs.Put.{part_at, part_length, front-part, begun-part}
@@ -19,8 +19,8 @@ use Rattle.row_counts.proofs.dilate_block.Tie as tie
 abbrev invariant-loop : tie.invariant-loop
 invariant-loop row k c n out₀ m steps v₀ x₀ out v x =
     (x ≤ m)
-    × (v ≡ running (length row) k (isOn row) (c + x))
-    × Begun (λ (i : ℕ). bit (ltb 0 (windowCount (length row) k (c + i) (isOn row)))) (length out₀) out x
+    × (v ≡ running (length row) k (is_on row) (c + x))
+    × Begun (λ (i : ℕ). bit (ltb 0 (window_count (length row) k (c + i) (is_on row)))) (length out₀) out x
 
 abbrev decreases-loop : tie.decreases-loop
 decreases-loop row k c n out₀ m steps v₀ x₀ out v x = m - x
@@ -77,9 +77,9 @@ returns c =
     let any = c.before.before.before.before.before.before.any in
     let found = c.before.before.before.before.before.if1.true in
     let whole : take (m - 0) (steps q ++ behind q) ≡ steps q = take_at (steps q) (behind q) (m - 0) (omega (arith, steps-long q)) in
-    let none : someBelow (length (steps q)) (isOn (steps q)) ≡ false =
-    ap (λ (u : List ℕ). someBelow (length u) (isOn u)) (sym whole) ∙ sym any.ensures ∙ not-true any.result found in
-    let start : o.args.n ≡ running (length o.args.row.now) o.args.k (isOn o.args.row.now) (o.args.c + 0) =
+    let none : some_below (length (steps q)) (is_on (steps q)) ≡ false =
+    ap (λ (u : List ℕ). some_below (length u) (is_on u)) (sym whole) ∙ sym any.ensures ∙ not-true any.result found in
+    let start : o.args.n ≡ running (length o.args.row.now) o.args.k (is_on o.args.row.now) (o.args.c + 0) =
     rw add-zero o.pre.value in
     let b = c.before.before.before.before.byte in
     let done = same-part q.row-steps.ensures (steps-inside q) none o.args.n start in
@@ -110,7 +110,7 @@ run-requires c κs =
             arith,
             l.invariant.1,
             (at-start q).requires.wide,
-            running-most (length o.row.now) o.k (isOn o.row.now) (o.c + x)
+            running-most (length o.row.now) o.k (is_on o.row.now) (o.c + x)
                 (omega (arith, (at-start q).requires.inside)),
           );
     }
@@ -139,7 +139,7 @@ loop-again c =
     )
 
 returns-2 : tie.Need-returns-2 invariant-loop decreases-loop
-unfolding countedPart mask_of
+unfolding counted_part mask_of
 returns-2 c =
     let l = c.before.loop in
     let o = c.before.before.before.before.before.before.before.before.before.before.before in

@@ -3,10 +3,10 @@
 -- Assumes nothing.
 use Rattle.std.proofs.Common.{◌≡◌, ℕ, ◌+◌, ◌-◌, ◌<◌, ◌≤◌, List, length, get_or, take, drop, sym, ap, ◌∙◌, arith, rules}
 use Rattle.plane.specs.Plane.{bit}
-use Rattle.plane.specs.Mask.{isOn, mask_of}
+use Rattle.plane.specs.Mask.{is_on, mask_of}
 use Rattle.counts.specs.Running.{running}
-use Rattle.counts.specs.steps.Window.{inWindow}
-use Rattle.row_counts.specs.steps.Rows.{dilatedRow}
+use Rattle.counts.specs.steps.Window.{in_window}
+use Rattle.row_counts.specs.steps.Rows.{dilated_row}
 use Rattle.counts.proofs.Begun.{Begun, begun-none, begun-end}
 use Rattle.counts.proofs.Put.{part_length, begun-part}
 use Rattle.row_counts.proofs.RowLaws.{value-first, part-window, part-counted}
@@ -16,8 +16,8 @@ use Rattle.row_counts.proofs.dilate_line.Tie as tie
 abbrev invariant-loop : tie.invariant-loop
 invariant-loop row k out₀ w first n₀ c₀ out n c =
     (c ≤ length row)
-    × (n ≡ running (length row) k (isOn row) c)
-    × Begun (λ (i : ℕ). bit (inWindow (length row) k i (isOn row))) (length row) out c
+    × (n ≡ running (length row) k (is_on row) c)
+    × Begun (λ (i : ℕ). bit (in_window (length row) k i (is_on row))) (length row) out c
 
 abbrev decreases-loop : tie.decreases-loop
 decreases-loop row k out₀ w first n₀ c₀ out n c = length row - c
@@ -74,7 +74,7 @@ loop-again c =
     let next : l.c + m ≡ l.c + n.lesser2.result = omega (arith, block-long n) in
     let long = ap length call.ensures.1 ∙ part-counted o.row.now o.k l.c m in (
       block_in n,
-      call.ensures.0 ∙ ap (running (length o.row.now) o.k (isOn o.row.now)) next,
+      call.ensures.0 ∙ ap (running (length o.row.now) o.k (is_on o.row.now)) next,
       begun-part (l.c + n.lesser2.result) call.new.1.1.1.1.0 l.invariant.2 (block_in n) (omega (arith, long, next))
           (λ i g.
           ap (λ (u : List ℕ). get_or u i 0) call.ensures.1 ∙ part-window o.row.now o.k l.c m i (omega (arith, long))),
@@ -93,7 +93,7 @@ loop-less c =
     less _ n.before.before.loop.c n.lesser2.result n.before.loop-test.true (block-some n)
 
 returns : tie.Need-returns invariant-loop decreases-loop
-unfolding dilatedRow mask_of
+unfolding dilated_row mask_of
 returns c = begun-end c.before.loop.invariant.2 (omega arith)
 
 pub dilate-line-spec : {M : Type 1} → statement M

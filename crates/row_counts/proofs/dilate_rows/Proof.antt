@@ -2,10 +2,10 @@
 -- Assumes nothing.
 use Rattle.std.proofs.Common.{◌≡◌, ℕ, ◌+◌, ◌-◌, ◌*◌, ◌≤◌, List, ◌++◌, length, drop, sym, refl, ap, ◌∙◌, zero-mul, arith}
 use borrow.Rule.Slice.PartMut.{same_len_mid}
-use Rattle.plane.specs.Plane.{bit, onAt, table, rowsUpto, planeOf}
+use Rattle.plane.specs.Plane.{bit, on_at, table, rows_upto, plane_of}
 use Rattle.plane.proofs.Plane.{row_in, table-length, put-row}
-use Rattle.counts.specs.steps.Window.{inWindow}
-use Rattle.row_counts.specs.steps.Rows.{dilatedRows}
+use Rattle.counts.specs.steps.Window.{in_window}
+use Rattle.row_counts.specs.steps.Rows.{dilated_rows}
 use Rattle.counts.proofs.Put.{part_length}
 use Rattle.row_counts.proofs.RowLaws.{row_is}
 use Rattle.row_counts.proofs.dilate_rows.Statement.{statement}
@@ -13,13 +13,13 @@ use Rattle.row_counts.proofs.dilate_rows.Tie as tie
 
 -- row y of the plane after the line pass
 abbrev row_of : List ℕ → ℕ → ℕ → ℕ → List ℕ
-row_of mask w k y = table (λ (x : ℕ). bit (inWindow w k x (onAt mask w y))) 0 w
+row_of mask w k y = table (λ (x : ℕ). bit (in_window w k x (on_at mask w y))) 0 w
 
 abbrev invariant-loop : tie.invariant-loop
 invariant-loop mask h w k out₀ y₀ out y =
     (y ≤ h)
     × (length out ≡ length out₀)
-    × (out ≡ rowsUpto y (row_of mask w k) ++ drop (y * w) out₀)
+    × (out ≡ rows_upto y (row_of mask w k) ++ drop (y * w) out₀)
 
 abbrev decreases-loop : tie.decreases-loop
 decreases-loop mask h w k out₀ y₀ out y = h - y
@@ -59,12 +59,12 @@ loop-again c =
     )
 
 returns : tie.Need-returns invariant-loop decreases-loop
-unfolding dilatedRows planeOf
+unfolding dilated_rows plane_of
 returns c =
     let l = c.before.loop in
     let a = (at-start c.before).args in
     let e : l.y ≡ a.h = omega arith in
-    l.invariant.2 ∙ ap (λ (y : ℕ). rowsUpto y (row_of a.mask.now a.w a.k) ++ drop (y * a.w) a.out.now) e
+    l.invariant.2 ∙ ap (λ (y : ℕ). rows_upto y (row_of a.mask.now a.w a.k) ++ drop (y * a.w) a.out.now) e
 
 pub dilate-rows-spec : {M : Type 1} → statement M
 dilate-rows-spec =
@@ -72,7 +72,7 @@ dilate-rows-spec =
     (tie.spec
     invariant-loop
     decreases-loop
-    (λ c. (omega arith, refl, unfold rowsUpto in rw zero-mul))
+    (λ c. (omega arith, refl, unfold rows_upto in rw zero-mul))
     (λ c. omega (arith, row_here c))
     (λ c. omega (arith, row_here c))
     (λ c. omega (arith, row_here c))

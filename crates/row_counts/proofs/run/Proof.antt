@@ -3,8 +3,8 @@
 use Rattle.std.proofs.Common.{◌≡◌, ℕ, ◌+◌, ◌-◌, ◌%◌, ◌≤◌, length, get_or, sym, ap, ◌∙◌, ⊎_elim, add-one, arith, rules}
 use Rattle.plane.specs.Plane.{on, bit}
 use Rattle.plane.specs.Mask.{mask_of}
-use Rattle.counts.specs.steps.Parts.{fullByte}
-use Rattle.row_counts.specs.steps.Rows.{tally, ranLine}
+use Rattle.counts.specs.steps.Parts.{full_byte}
+use Rattle.row_counts.specs.steps.Rows.{tally, ran_line}
 use Rattle.counts.proofs.Begun.{Begun, begun-none, begun_more, begun-end}
 use Rattle.row_counts.proofs.run.Statement.{statement}
 use Rattle.row_counts.proofs.run.Tie as tie
@@ -12,16 +12,16 @@ use Rattle.row_counts.proofs.run.Tie as tie
 abbrev invariant-loop : tie.invariant-loop
 invariant-loop steps n out₀ b v₀ x₀ out v x =
     (x ≤ length steps)
-    × (b ≡ fullByte n)
+    × (b ≡ full_byte n)
     × (v ≤ 255)
-    × (v ≡ tally steps (fullByte n) x)
-    × Begun (λ (i : ℕ). bit (on (tally steps (fullByte n) (i + 1)))) (length steps) out x
+    × (v ≡ tally steps (full_byte n) x)
+    × Begun (λ (i : ℕ). bit (on (tally steps (full_byte n) (i + 1)))) (length steps) out x
 
 abbrev decreases-loop : tie.decreases-loop
 decreases-loop steps n out₀ b v₀ x₀ out v x = length steps - x
 
 -- the byte before the first step
-full : (c : tie.After-row-known invariant-loop decreases-loop) → c.before.if1.b ≡ fullByte c.before.before.before.before.args.n
+full : (c : tie.After-row-known invariant-loop decreases-loop) → c.before.if1.b ≡ full_byte c.before.before.before.before.args.n
 full c = ⊎_elim (λ w. omega arith) (λ w. omega arith) c.before.if1.branch
 
 loop-holds : tie.Need-loop-init invariant-loop decreases-loop
@@ -35,12 +35,12 @@ loop-again c =
     let l = c.before.before.before.before.loop in
     let a = c.before.before.before.before.before.before.before.before.before.args in
     let step = c.before.wrapping-add-u8 in
-    let v : step.result ≡ tally a.steps.now (fullByte a.n) (l.x + 1) =
+    let v : step.result ≡ tally a.steps.now (full_byte a.n) (l.x + 1) =
     rw (add-one l.x) (step.ensures ∙ ap (λ (u : ℕ). (u + get_or a.steps.now l.x 0) % 256) l.invariant.3) in
     (omega arith, l.invariant.1, omega (arith, step.ensures), v, begun_more l.invariant.4 (omega arith) (c.byte.ensures ∙ ap (λ (u : ℕ). bit (on u)) v))
 
 returns : tie.Need-returns invariant-loop decreases-loop
-unfolding ranLine mask_of
+unfolding ran_line mask_of
 returns c =
     let l = c.before.loop in
     let a = c.before.before.before.before.before.before.args in

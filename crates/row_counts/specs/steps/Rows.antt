@@ -1,24 +1,24 @@
 -- The line pass along a row: the running count block by block, by its changes at each column.
 -- Assumes nothing.
 use Rattle.std.specs.Prelude.{◌≡◌, ℕ, zero, suc, ◌+◌, ◌*◌, ◌%◌, ◌<◌, ◌≤◌, List, length, nat_lt, slice_index}
-use Rattle.plane.specs.Plane.{on, bit, onAt, table, planeOf}
-use Rattle.plane.specs.Mask.{isOn, mask_of}
-use Rattle.plane.specs.steps.Sides.{longestSide, Sides}
-use Rattle.counts.specs.Running.{windowCount, enters, leaves, running}
-use Rattle.counts.specs.steps.Window.{inWindow}
+use Rattle.plane.specs.Plane.{on, bit, on_at, table, plane_of}
+use Rattle.plane.specs.Mask.{is_on, mask_of}
+use Rattle.plane.specs.steps.Sides.{longest_side, Sides}
+use Rattle.counts.specs.Running.{window_count, enters, leaves, running}
+use Rattle.counts.specs.steps.Window.{in_window}
 use Rattle.counts.specs.steps.Parts.{step_of}
 
 -- a row after the line pass: 1 where the pixel's window holds an on-pixel, else 0
-unfoldable pub dilatedRow : List ℕ → ℕ → List ℕ
-dilatedRow row k = mask_of (length row) (λ (x : ℕ). inWindow (length row) k x (isOn row))
+unfoldable pub dilated_row : List ℕ → ℕ → List ℕ
+dilated_row row k = mask_of (length row) (λ (x : ℕ). in_window (length row) k x (is_on row))
 
 -- a plane after the line pass along each row
-unfoldable pub dilatedRows : List ℕ → ℕ → ℕ → ℕ → List ℕ
-dilatedRows mask h w k = planeOf h w (λ (y x : ℕ). bit (inWindow w k x (onAt mask w y)))
+unfoldable pub dilated_rows : List ℕ → ℕ → ℕ → ℕ → List ℕ
+dilated_rows mask h w k = plane_of h w (λ (y x : ℕ). bit (in_window w k x (on_at mask w y)))
 
 -- m columns of a row from column c on: 1 where the count of the pixel's window is above 0
-unfoldable pub countedPart : List ℕ → ℕ → ℕ → ℕ → List ℕ
-countedPart row k c m = mask_of m (λ (i : ℕ). nat_lt 0 (windowCount (length row) k (c + i) (isOn row)))
+unfoldable pub counted_part : List ℕ → ℕ → ℕ → ℕ → List ℕ
+counted_part row k c m = mask_of m (λ (i : ℕ). nat_lt 0 (window_count (length row) k (c + i) (is_on row)))
 
 -- a byte after x steps, from b on
 unfoldable pub tally : List ℕ → ℕ → ℕ → ℕ
@@ -26,12 +26,12 @@ tally steps b zero = b
 tally steps b (suc x) = (tally steps b x + slice_index steps x) % 256
 
 -- 1 where the byte after the step is not 0
-unfoldable pub ranLine : List ℕ → ℕ → List ℕ
-ranLine steps b = mask_of (length steps) (λ (x : ℕ). on (tally steps b (x + 1)))
+unfoldable pub ran_line : List ℕ → ℕ → List ℕ
+ran_line steps b = mask_of (length steps) (λ (x : ℕ). on (tally steps b (x + 1)))
 
 -- the steps where at each of them a pixel of one line enters and one of another leaves
-unfoldable pub changeLine : List ℕ → List ℕ → List ℕ
-changeLine enter leave = table (λ (x : ℕ). step_of (isOn enter x) (isOn leave x)) 0 (length enter)
+unfoldable pub change_line : List ℕ → List ℕ → List ℕ
+change_line enter leave = table (λ (x : ℕ). step_of (is_on enter x) (is_on leave x)) 0 (length enter)
 
 -- lines of one length
 pub record Changing (enter leave steps : List ℕ) : Type 0 where
@@ -40,38 +40,38 @@ pub record Changing (enter leave steps : List ℕ) : Type 0 where
 
 -- columns from column c on of a row, with a step for each, all 0
 pub record Steppable (row : List ℕ) (k c : ℕ) (steps : List ℕ) : Type 0 where
-  pub wide : length row ≤ longestSide
-  pub near : k ≤ longestSide
+  pub wide : length row ≤ longest_side
+  pub near : k ≤ longest_side
   pub inside : c + length steps ≤ length row
   pub zeros : (i : ℕ) → i < length steps → slice_index steps i ≡ 0
 
 -- the steps of these columns
 pub record Stepped (row : List ℕ) (k c : ℕ) (steps : List ℕ) : Type 0 where
   pub each : (i : ℕ) → i < length steps
-      → slice_index steps i ≡ step_of (enters (length row) k (isOn row) (c + i)) (leaves k (isOn row) (c + i))
+      → slice_index steps i ≡ step_of (enters (length row) k (is_on row) (c + i)) (leaves k (is_on row) (c + i))
 
 -- a count, and a line to write that is as long as the steps
 pub record Runnable (steps : List ℕ) (n : ℕ) (out : List ℕ) : Type 0 where
   pub size : length out ≡ length steps
-  pub small : n ≤ longestSide
+  pub small : n ≤ longest_side
 
 -- at most 256 columns from column c on, and the running value before them
 pub record Block (row : List ℕ) (k c n : ℕ) (out : List ℕ) : Type 0 where
-  pub wide : length row ≤ longestSide
-  pub near : k ≤ longestSide
+  pub wide : length row ≤ longest_side
+  pub near : k ≤ longest_side
   pub inside : c + length out ≤ length row
   pub short : length out ≤ 256
-  pub value : n ≡ running (length row) k (isOn row) c
+  pub value : n ≡ running (length row) k (is_on row) c
 
 -- a row, and the row that is written
 pub record Rows (row : List ℕ) (k : ℕ) (out : List ℕ) : Type 0 where
-  pub wide : length row ≤ longestSide
-  pub near : k ≤ longestSide
+  pub wide : length row ≤ longest_side
+  pub near : k ≤ longest_side
   pub size : length out ≡ length row
 
 -- a mask with its sides and a k, and the buffer for the rows
 pub record RowPlanes (mask : List ℕ) (h w k : ℕ) (out : List ℕ) : Type 0 where
   pub sides : Sides h w
-  pub near : k ≤ longestSide
+  pub near : k ≤ longest_side
   pub mask_size : length mask ≡ h * w
   pub out-size : h * w ≤ length out

@@ -4,18 +4,18 @@ use Prim.Native.Nat.{◌*◌, ◌≤◌}
 use native.Mathlib.Omega.{arith}
 use lib.ListN.{drop}
 use borrow.Author.Rules.{rules}
-use Rattle.plane.specs.steps.Sides.{longestSide}
+use Rattle.plane.specs.steps.Sides.{longest_side}
 use Rattle.squares.proofs.Laws.{larger-least, radius-most}
 use Rattle.squares.proofs.Passes.{passes-are, work-kept}
 use Rattle.squares.proofs.dilate.Statement.{statement}
 use Rattle.squares.proofs.dilate.Tie as tie
 
 -- the k that is used is at most the longest side
-near : (c : tie.After-radius) → c.radius.result ≤ longestSide
+near : (c : tie.After-radius) → c.radius.result ≤ longest_side
 near c =
     let o = c.before.before.before.before in
     let a = o.args in
-    let side = larger-least a.h a.w longestSide o.requires.sides.tall o.requires.sides.wide in
+    let side = larger-least a.h a.w longest_side o.requires.sides.tall o.requires.sides.wide in
     omega (arith, c.radius.ensures, radius-most a.h a.w a.iterations)
 
 abbrev at-start : tie.After-dilate-rows → tie.Start

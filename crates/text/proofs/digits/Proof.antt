@@ -6,13 +6,13 @@ use native.Mathlib.Omega.{arith}
 use lib.ListN.{length}
 use borrow.Author.Tests.{not-true, not-false}
 use borrow.Author.Rules.{rules}
-use Rattle.text.specs.Decimal.{isDigit, digitsUpto}
+use Rattle.text.specs.Decimal.{is_digit, digits_upto}
 use Rattle.text.proofs.Decimal.{digit-inside, digits_more, digits-end, digits-most, digits-past, digits-start}
 use Rattle.text.proofs.digits.Statement.{statement}
 use Rattle.text.proofs.digits.Tie as tie
 
 abbrev invariant-loop : tie.invariant-loop
-invariant-loop text at most i₀ i = (i ≤ most) × (at + i ≤ length text) × (digitsUpto most text at ≡ i + digitsUpto (most - i) text (at + i))
+invariant-loop text at most i₀ i = (i ≤ most) × (at + i ≤ length text) × (digits_upto most text at ≡ i + digits_upto (most - i) text (at + i))
 
 abbrev decreases-loop : tie.decreases-loop
 decreases-loop text at most i₀ i = most - i
@@ -30,7 +30,7 @@ returns-2 c =
     let read = c.before.before in
     let l = read.before.before.loop in
     let a = read.before.before.before.before.before.args in
-    let e = ap isDigit (sym read.byte_at.ensures) ∙ sym c.before.is_digit.ensures ∙ not-true _ c.if2.true in
+    let e = ap is_digit (sym read.byte_at.ensures) ∙ sym c.before.is_digit.ensures ∙ not-true _ c.if2.true in
     let d = digits-end a.text.now (a.most - l.i) (a.at + l.i) e in
     omega arith
 
@@ -39,7 +39,7 @@ loop-again c =
     let read = c.before.before in
     let l = read.before.before.loop in
     let a = read.before.before.before.before.before.args in
-    let e = ap isDigit (sym read.byte_at.ensures) ∙ sym c.before.is_digit.ensures ∙ not-false _ c.if2.false in
+    let e = ap is_digit (sym read.byte_at.ensures) ∙ sym c.before.is_digit.ensures ∙ not-false _ c.if2.false in
     let g = digit-inside a.text.now (a.at + l.i) e in
     (omega arith, omega arith, l.invariant.2 ∙ digits_more a.text.now _ (a.most - (l.i + 1)) a.at l.i (omega arith) e)
 

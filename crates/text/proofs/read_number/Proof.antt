@@ -6,16 +6,16 @@ use Prim.Native.Nat.{ℕ, ◌+◌, ◌-◌, ◌≤◌}
 use native.Mathlib.Omega.{arith}
 use lib.ListN.{length, take, drop, length-take}
 use borrow.Author.Rules.{rules}
-use Rattle.text.specs.Decimal.{valueFrom, value_of, digitsUpto, numberUpto}
+use Rattle.text.specs.Decimal.{value_from, value_of, digits_upto, number_upto}
 use Rattle.text.proofs.Decimal.{stand, digits-most}
 use Rattle.text.proofs.read_number.Statement.{statement}
 use Rattle.text.proofs.read_number.Tie as tie
 
 returns : tie.Need-returns
-unfolding numberUpto valueFrom
+unfolding number_upto value_from
 returns c =
     let a = c.before.before.before.args in
-    let e : digitsUpto a.most a.text.now a.at ≡ 0 = sym c.before.digits.ensures ∙ c.if1.true in
+    let e : digits_upto a.most a.text.now a.at ≡ 0 = sym c.before.digits.ensures ∙ c.if1.true in
     rw e
 
 -- the digits are inside the text
@@ -38,7 +38,7 @@ value-requires c κs =
     ((stand a.text.now a.most a.at).all, rw length-take (omega (arith, most, counted.before.before.requires)))
 
 returns-2 : tie.Need-returns-2
-unfolding numberUpto
+unfolding number_upto
 returns-2 c =
     let counted = c.before.before.before in
     let a = counted.before.before.args in

@@ -7,7 +7,7 @@ use native.Mathlib.Numerals.{add-one}
 use native.Mathlib.Omega.{arith}
 use lib.ListN.{length, take}
 use lib.Seq.{take_all}
-use Rattle.text.specs.Decimal.{valueFrom, value_of}
+use Rattle.text.specs.Decimal.{value_from, value_of}
 use Rattle.text.proofs.Decimal.{digit-is, digit_at, value-more}
 use Rattle.text.proofs.value.Statement.{statement}
 use Rattle.text.proofs.value.Tie as tie
@@ -22,7 +22,7 @@ power-most : (i n : ℕ) → i < n → n ≤ 19 → 10 ^ i ≤ 10000000000000000
 power-most i n l m = pow-le-pow_right {n = 10} (omega arith) {i = i} {j = 18} (omega arith)
 
 loop-holds : tie.Need-loop-init invariant-loop decreases-loop
-unfolding valueFrom
+unfolding value_from
 loop-holds c = (omega arith, refl, omega arith)
 
 mul-v : tie.Need-overflow-mul-v invariant-loop decreases-loop

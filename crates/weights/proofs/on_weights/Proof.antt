@@ -6,7 +6,7 @@ use native.Mathlib.Nat.{not-suc-le-zero}
 use lib.ListN.{length, get_or, length-set}
 use lib.Ieee.{nan}
 use Rattle.plane.proofs.Plane.{filled, table_is}
-use Rattle.weights.specs.steps.Weight.{onWeight}
+use Rattle.weights.specs.steps.Weight.{on_weight}
 use borrow.Author.Rules.{rules}
 use native.Mathlib.Omega.{arith}
 use Rattle.weights.proofs.on_weights.Statement.{statement}
@@ -14,7 +14,7 @@ use Rattle.weights.proofs.on_weights.Tie as tie
 
 abbrev invariant-loop : tie.invariant-loop
 invariant-loop out₀ v₀ out v =
-    (v ≤ 256) × (length out ≡ length out₀) × ((k : ℕ) → k < v → get_or out k nan ≡ onWeight k)
+    (v ≤ 256) × (length out ≡ length out₀) × ((k : ℕ) → k < v → get_or out k nan ≡ on_weight k)
 
 abbrev decreases-loop : tie.decreases-loop
 decreases-loop out₀ v₀ out v = 256 - v
@@ -25,13 +25,13 @@ loop-again c =
     let v = c.on-weight.result in (
       omega arith,
       length-set l.out l.v v ∙ l.invariant.1,
-      filled onWeight l.out l.v v nan (omega arith) l.invariant.2 c.on-weight.ensures,
+      filled on_weight l.out l.v v nan (omega arith) l.invariant.2 c.on-weight.ensures,
     )
 
 returns : tie.Need-returns invariant-loop decreases-loop
 returns c =
     let l = c.before.loop in
-    table_is onWeight 256 l.out nan (omega arith) (λ k g. l.invariant.2 k (omega arith))
+    table_is on_weight 256 l.out nan (omega arith) (λ k g. l.invariant.2 k (omega arith))
 
 pub on-weights-spec : {M : Type 1} → statement M
 on-weights-spec =

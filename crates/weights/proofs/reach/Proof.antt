@@ -11,7 +11,7 @@ use Rattle.plane.proofs.Plane.{filled, table_is}
 use mir.Syntax.{w64}
 use mir.Val.{to_z, of_z}
 use mir.Facts.{to_z-of_z}
-use Rattle.colour.specs.Settings.{onOf}
+use Rattle.colour.specs.Settings.{on_of}
 use Rattle.plane.specs.Mask.{mask_of}
 use borrow.Author.Rules.{rules}
 use native.Mathlib.Omega.{arith}
@@ -20,7 +20,7 @@ use Rattle.weights.proofs.reach.Tie as tie
 
 -- byte k of the mask
 abbrev reached : List ℕ → ℤ → ℕ → ℕ
-reached alpha threshold k = bit (onOf (get_or alpha k 0) threshold)
+reached alpha threshold k = bit (on_of (get_or alpha k 0) threshold)
 
 abbrev invariant-loop : tie.invariant-loop
 invariant-loop alpha threshold mask₀ i₀ mask i =

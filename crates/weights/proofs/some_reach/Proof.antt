@@ -3,11 +3,11 @@
 use mathlib.Core.Path.{◌≡◌, refl, ◌∙◌}
 use Prim.Native.Nat.{ℕ, ◌-◌, ◌≤◌}
 use lib.ListN.{length, get_or}
-use Rattle.plane.specs.Search.{someBelow}
+use Rattle.plane.specs.Search.{some_below}
 use mir.Syntax.{w64}
 use mir.Val.{to_z, of_z}
 use mir.Facts.{to_z-of_z}
-use Rattle.colour.specs.Settings.{onOf}
+use Rattle.colour.specs.Settings.{on_of}
 use Rattle.plane.proofs.Search.{some_more}
 use borrow.Author.Rules.{rules}
 use native.Mathlib.Omega.{arith}
@@ -16,7 +16,7 @@ use Rattle.weights.proofs.some_reach.Tie as tie
 
 abbrev invariant-loop : tie.invariant-loop
 invariant-loop alpha threshold found₀ i₀ found i =
-    (i ≤ length alpha) × (found ≡ someBelow i (λ (k : ℕ). onOf (get_or alpha k 0) (to_z w64 threshold)))
+    (i ≤ length alpha) × (found ≡ some_below i (λ (k : ℕ). on_of (get_or alpha k 0) (to_z w64 threshold)))
 
 abbrev decreases-loop : tie.decreases-loop
 decreases-loop alpha threshold found₀ i₀ found i = length alpha - i
@@ -41,7 +41,7 @@ some-reach-spec =
     (tie.spec
     invariant-loop
     decreases-loop
-    (λ c. (omega arith, unfold someBelow in refl))
+    (λ c. (omega arith, unfold some_below in refl))
     (λ c. omega arith)
     (λ c κs. search rules)
     (λ c. omega arith)

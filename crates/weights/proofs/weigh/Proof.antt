@@ -9,25 +9,25 @@ use borrow.Author.Tests.{eq-eqb, ne_eqb}
 use native.Mathlib.Omega.{arith}
 use Rattle.plane.specs.Plane.{on}
 use Rattle.plane.proofs.Plane.{table-length, table_at}
-use Rattle.weights.specs.steps.Weight.{onWeight, weightFor}
+use Rattle.weights.specs.steps.Weight.{on_weight, weight_for}
 use Rattle.weights.proofs.weigh.Statement.{statement}
 use Rattle.weights.proofs.weigh.Tie as tie
 
 returns : tie.Need-returns
-unfolding weightFor on of_bits
+unfolding weight_for on of_bits
 returns c = rw (eq-eqb _ _ c.if1.true)
 
 shared-slice-read-result : tie.Need-shared-slice-read-result
 shared-slice-read-result c =
-    let long : length c.before.before.args.entries.now ≡ 256 = ap length c.before.before.requires ∙ table-length onWeight 0 256 in
+    let long : length c.before.before.args.entries.now ≡ 256 = ap length c.before.before.requires ∙ table-length on_weight 0 256 in
     omega arith
 
 returns-2 : tie.Need-returns-2
-unfolding weightFor on
+unfolding weight_for on
 returns-2 c =
     let start = c.before.before in
     let n = start.args.alpha in
-    let entry = ap (λ (l : List Float). get_or l n nan) start.requires ∙ table_at onWeight 256 n nan (omega arith) in
+    let entry = ap (λ (l : List Float). get_or l n nan) start.requires ∙ table_at on_weight 256 n nan (omega arith) in
     rw (ne_eqb _ _ c.before.if1.false) entry
 
 pub weigh-spec : {M : Type 1} → statement M

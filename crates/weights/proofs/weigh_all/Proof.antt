@@ -6,9 +6,9 @@ use native.Mathlib.Nat.{not-suc-le-zero}
 use lib.ListN.{length, get_or, length-set}
 use lib.Ieee.{nan}
 use Rattle.plane.proofs.Plane.{filled, table_is}
-use Rattle.plane.specs.Mask.{isOn}
-use Rattle.outline.specs.Cut.{weightAt, weightsOf}
-use Rattle.weights.specs.steps.Weight.{onWeight, weightFor}
+use Rattle.plane.specs.Mask.{is_on}
+use Rattle.outline.specs.Cut.{weight_at, weights_of}
+use Rattle.weights.specs.steps.Weight.{on_weight, weight_for}
 use borrow.Author.Rules.{rules}
 use native.Mathlib.Omega.{arith}
 use Rattle.weights.proofs.weigh_all.Statement.{statement}
@@ -16,28 +16,28 @@ use Rattle.weights.proofs.weigh_all.Tie as tie
 
 abbrev invariant-loop : tie.invariant-loop
 invariant-loop entries mask alpha out₀ i₀ out i =
-    (i ≤ length out₀) × (length out ≡ length out₀) × ((k : ℕ) → k < i → get_or out k nan ≡ weightAt mask alpha k)
+    (i ≤ length out₀) × (length out ≡ length out₀) × ((k : ℕ) → k < i → get_or out k nan ≡ weight_at mask alpha k)
 
 abbrev decreases-loop : tie.decreases-loop
 decreases-loop entries mask alpha out₀ i₀ out i = length out₀ - i
 
 loop-again : tie.Need-loop-preserved invariant-loop decreases-loop
-unfolding weightAt weightFor onWeight isOn
+unfolding weight_at weight_for on_weight is_on
 loop-again c =
     let l = c.before.before.before.before.loop in
     let a = c.before.before.before.before.before.before.before.before.before.args in
     let v = c.weigh.result in (
       omega arith,
       length-set l.out l.i v ∙ l.invariant.1,
-      filled (weightAt a.mask.now a.alpha.now) l.out l.i v nan (omega arith) l.invariant.2 c.weigh.ensures,
+      filled (weight_at a.mask.now a.alpha.now) l.out l.i v nan (omega arith) l.invariant.2 c.weigh.ensures,
     )
 
 returns : tie.Need-returns invariant-loop decreases-loop
-unfolding weightsOf
+unfolding weights_of
 returns c =
     let l = c.before.loop in
     let a = c.before.before.before.before.before.before.args in
-    table_is (weightAt a.mask.now a.alpha.now) (length a.out.now) l.out nan l.invariant.1 (λ k g. l.invariant.2 k (omega arith))
+    table_is (weight_at a.mask.now a.alpha.now) (length a.out.now) l.out nan l.invariant.1 (λ k g. l.invariant.2 k (omega arith))
 
 pub weigh-all-spec : {M : Type 1} → statement M
 weigh-all-spec =

@@ -3,12 +3,12 @@
 use Rattle.std.specs.Prelude.{ℕ, cond, eqb, Float}
 use Rattle.plane.specs.Plane.{on}
 use Rattle.colour.specs.Number.{zero64}
-use Rattle.colour.specs.Weight.{weightOf}
+use Rattle.colour.specs.Weight.{weight_of}
 
 -- the weight of an on-pixel with this alpha
-unfoldable pub onWeight : ℕ → Float
-onWeight alpha = weightOf (cond (eqb alpha 0) 1 alpha)
+unfoldable pub on_weight : ℕ → Float
+on_weight alpha = weight_of (cond (eqb alpha 0) 1 alpha)
 
 -- the weight of a pixel with this byte in the mask and this alpha
-unfoldable pub weightFor : ℕ → ℕ → Float
-weightFor m alpha = cond (on m) (onWeight alpha) zero64
+unfoldable pub weight_for : ℕ → ℕ → Float
+weight_for m alpha = cond (on m) (on_weight alpha) zero64

@@ -7,12 +7,12 @@ use native.Mathlib.Omega.{arith}
 use borrow.Author.Rules.{rules}
 use borrow.Author.Count.{below_more}
 use Rattle.line.proofs.Squares.{square_le, root-lt}
-use Rattle.window.specs.steps.Window.{levelOn}
+use Rattle.window.specs.steps.Window.{level_on}
 use Rattle.window.proofs.gap.Statement.{statement}
 use Rattle.window.proofs.gap.Tie as tie
 
 abbrev invariant-loop : tie.invariant-loop
-invariant-loop deep h w y i across far e₀ e = (e ≤ 7) × ((k : ℕ) → k < e → levelOn deep h w y i k ≡ false)
+invariant-loop deep h w y i across far e₀ e = (e ≤ 7) × ((k : ℕ) → k < e → level_on deep h w y i k ≡ false)
 
 abbrev decreases-loop : tie.decreases-loop
 decreases-loop deep h w y i across far e₀ e = 8 - e
@@ -21,7 +21,7 @@ low : (c : tie.At-loop invariant-loop decreases-loop) → c.loop.e * c.loop.e �
 low c = square_le {a = c.loop.e} {b = 7} c.loop.invariant.0
 
 returns : tie.Need-returns invariant-loop decreases-loop
-unfolding levelOn
+unfolding level_on
 returns c =
     let at_up = c.before.before in
     let l = at_up.before.before.loop in
@@ -31,7 +31,7 @@ returns c =
     record { near = l.invariant.0; before = l.invariant.1; here = λ g. rw (u, d) at t }
 
 loop-again : tie.Need-loop-preserved invariant-loop decreases-loop
-unfolding levelOn
+unfolding level_on
 loop-again c =
     let at_up = c.before.before in
     let l = at_up.before.before.loop in

@@ -7,7 +7,7 @@ use native.Mathlib.Omega.{arith}
 use lib.ListN.{get_or}
 use borrow.Author.Rules.{rules}
 use Rattle.plane.proofs.Plane.{row_of, column-of, area-most}
-use Rattle.nearest.specs.steps.Indices.{indicesPlane}
+use Rattle.nearest.specs.steps.Indices.{indices_plane}
 use Rattle.window.proofs.Searching.{near-index}
 use Rattle.window.proofs.Indices.{indices-length, indices-at, indices-inside}
 use Rattle.window.proofs.near_pixel.Statement.{statement}
@@ -18,7 +18,7 @@ module _ (c : tie.Then1) where
   abbrev start : tie.Start
   start = c.before.before.before
 
-  plane : start.args.nearest.now ≡ indicesPlane start.args.deep.now start.args.h start.args.w
+  plane : start.args.nearest.now ≡ indices_plane start.args.deep.now start.args.h start.args.w
   plane = start.pre.1.1.0.indices c.if1.true
 
 shared-slice-read-wide : tie.Need-shared-slice-read-wide

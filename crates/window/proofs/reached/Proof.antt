@@ -8,7 +8,7 @@ use borrow.Author.Tests.{le-leb, lt-leb}
 use Rattle.plane.proofs.Plane.{row_of, column-of, area-most}
 use Rattle.line.proofs.Squares.{gap-fits}
 use Rattle.nearest.specs.Nearest.{away}
-use Rattle.outline.specs.Growth.{bodyReach}
+use Rattle.outline.specs.Growth.{body_reach}
 use Rattle.window.proofs.reached.Statement.{statement}
 use Rattle.window.proofs.reached.Tie as tie
 
@@ -38,10 +38,10 @@ unfolding away
 known c = rw (← c.before.apart.ensures, ← c.apart2.ensures) (omega arith)
 
 returns : tie.Need-returns
-returns c = rw (le-leb (far c.before.before.before) bodyReach (omega (arith, known c.before, c.if1.true)))
+returns c = rw (le-leb (far c.before.before.before) body_reach (omega (arith, known c.before, c.if1.true)))
 
 returns-2 : tie.Need-returns-2
-returns-2 c = rw (lt-leb (far c.before.before.before) bodyReach (omega (arith, known c.before, c.if1.false)))
+returns-2 c = rw (lt-leb (far c.before.before.before) body_reach (omega (arith, known c.before, c.if1.false)))
 
 pub reached-spec : {M : Type 1} → statement M
 reached-spec =

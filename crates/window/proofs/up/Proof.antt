@@ -4,14 +4,14 @@ use Prim.Native.Nat.{◌+◌, ◌*◌, ◌-◌, ◌<◌}
 use native.Mathlib.Omega.{arith}
 use lib.ListN.{length}
 use borrow.Author.Tests.{lt-leb, le-leb}
-use Rattle.plane.specs.Plane.{on, onAt}
+use Rattle.plane.specs.Plane.{on, on_at}
 use Rattle.plane.proofs.Plane.{pixel-in}
-use Rattle.window.specs.steps.Window.{upOn}
+use Rattle.window.specs.steps.Window.{up_on}
 use Rattle.window.proofs.up.Statement.{statement}
 use Rattle.window.proofs.up.Tie as tie
 
 returns : tie.Need-returns
-unfolding upOn
+unfolding up_on
 returns c = rw (lt-leb _ _ c.if1.true)
 
 -- the pixel lies in the plane
@@ -22,7 +22,7 @@ here c =
     omega (arith, pixel-in (a.y - a.e) a.i a.h a.w (omega (arith, p.row)) p.column, p.long)
 
 returns-2 : tie.Need-returns-2
-unfolding upOn onAt on
+unfolding up_on on_at on
 returns-2 c = rw (le-leb _ _ c.before.if1.false)
 
 pub up-spec : {M : Type 1} → statement M

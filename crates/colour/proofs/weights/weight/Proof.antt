@@ -4,13 +4,13 @@
 use native.Mathlib.Omega.{arith}
 use lib.Ieee.{of_bits, div, of_int}
 use borrow.Author.Rules.{rules}
-use Rattle.colour.specs.Weight.{weightOf}
+use Rattle.colour.specs.Weight.{weight_of}
 use Rattle.colour.proofs.Bytes.{weights, weights-at}
 use Rattle.colour.proofs.weights.weight.Statement.{statement}
 use Rattle.colour.proofs.weights.weight.Tie as tie
 
 returns : tie.Need-returns
-unfolding weights weightOf of_bits div of_int
+unfolding weights weight_of of_bits div of_int
 returns c = weights-at c.args.v (omega arith)
 
 pub weight-spec : {M : Type 1} → statement M

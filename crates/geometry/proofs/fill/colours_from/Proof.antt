@@ -8,16 +8,16 @@ use native.Mathlib.Omega.{arith}
 use lib.ListN.{length, get_or, drop, drop_of_length-le}
 use borrow.Author.Rules.{rules}
 use borrow.Rule.Slice.PartMut.{same_len_mid}
-use Rattle.plane.specs.Plane.{rowsUpto, planeOf}
+use Rattle.plane.specs.Plane.{rows_upto, plane_of}
 use Rattle.plane.proofs.Plane.{row_in, area-most, put-row}
-use Rattle.geometry.specs.steps.Source.{sourceAt, coloursFrom}
-use Rattle.geometry.proofs.Filling.{colourRow, colour-keeps, colour-is, last_row, source_in}
+use Rattle.geometry.specs.steps.Source.{source_at, colours_from}
+use Rattle.geometry.proofs.Filling.{colour_row, colour-keeps, colour-is, last_row, source_in}
 use Rattle.geometry.proofs.fill.colours_from.Statement.{statement}
 use Rattle.geometry.proofs.fill.colours_from.Tie as tie
 
 abbrev invariant-loop : tie.invariant-loop
 invariant-loop colours h w indices some out₀ n last i₀ out i =
-    (i ≤ h * w) × (length out ≡ length out₀) × (out ≡ rowsUpto i (colourRow colours h w indices some) ++ drop (i * 3) out₀)
+    (i ≤ h * w) × (length out ≡ length out₀) × (out ≡ rows_upto i (colour_row colours h w indices some) ++ drop (i * 3) out₀)
 
 abbrev decreases-loop : tie.decreases-loop
 decreases-loop colours h w indices some out₀ n last i₀ out i = h * w - i
@@ -42,10 +42,10 @@ module _ (c : tie.After-source invariant-loop decreases-loop) where
   at-start = at-loop.before.before.before.before
 
   abbrev from : ℕ
-  from = sourceAt at-start.args.indices.now at-start.args.some at-start.args.h at-start.args.w at-loop.loop.i
+  from = source_at at-start.args.indices.now at-start.args.some at-start.args.h at-start.args.w at-loop.loop.i
 
   source_is : c.source.result ≡ from
-  unfolding sourceAt
+  unfolding source_at
   source_is =
       c.source.ensures
       ∙ ap (λ (k : ℕ). cond at-start.args.some (get_or at-start.args.indices.now at-loop.loop.i 0) k)
@@ -86,7 +86,7 @@ loop-again c =
     let s = 3 * read.source.result in
     let e : l.i * 3 + 3 - l.i * 3 ≡ 3 = omega arith in
     let d : s + 3 - s ≡ 3 = omega arith in
-    let row = colourRow a.colours.now a.h a.w a.indices.now a.some in
+    let row = colour_row a.colours.now a.h a.w a.indices.now a.some in
     let copied : call.new.1.0 ≡ row l.i = call.ensures ∙ rw d (colour-is _ _ _ _ _ l.i _ (source_is read) (long read)) in (
       omega (arith, read.before.before.loop-test.true),
       same_len_mid (l.i * 3) (l.i * 3 + 3 - l.i * 3) l.out call.new.1.0 call.auto.1.0 ∙ l.inv.1,
@@ -94,7 +94,7 @@ loop-again c =
     )
 
 returns : tie.Need-returns invariant-loop decreases-loop
-unfolding coloursFrom planeOf colourRow
+unfolding colours_from plane_of colour_row
 returns c =
     let l = c.before.loop in
     let o = c.before.before.before.before.before in
@@ -112,7 +112,7 @@ colours-from-spec =
     decreases-loop
     (λ c. let m = small c.before.before.before in omega arith)
     sub-last
-    (λ c. (omega arith, refl, unfold rowsUpto in refl))
+    (λ c. (omega arith, refl, unfold rows_upto in refl))
     (λ c. omega arith)
     shared-slice-read-source
     (λ c κs. search rules)
