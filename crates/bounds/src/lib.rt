@@ -1,4 +1,6 @@
 // The box of a mask: the first and the last row, and the first and the last column, that have an on-pixel, with a margin.
+#![tactic(auto)]
+
 ghost use Rattle.std.specs.Prelude.{◌≡◌, ◌+◌, ◌*◌, ◌-◌, ◌≤◌, length};
 ghost use Rattle.plane.specs.steps.Sides.{longest_side, Sides};
 ghost use Rattle.plane.specs.Search.{first_below, last_below};

@@ -1,4 +1,6 @@
 // The card that a picture was taken on: whether its colour is given, and the colour that a text of six hexadecimal digits names.
+#![tactic(auto)]
+
 ghost use Rattle.std.specs.Prelude.{◌≡◌, true, ◌<◌};
 ghost use Rattle.card.specs.Hex.{hex_of, all_hex};
 ghost use Rattle.card.specs.Card.{is_colour_text, text_channel, card_of, is_readable};
@@ -7,7 +9,7 @@ use colour::Rgb;
 
 // Where the reference colour comes from: the picture's border, where none is given; the colour that is given; or a text was given that
 // names no colour.
-#[derive(Drop)]
+#[derive(Clone, Copy)]
 pub enum Card {
     Border,
     Given(Rgb),

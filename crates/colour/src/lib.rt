@@ -1,4 +1,6 @@
 // One colour or two: difference, closeness, the join test, the range of a colour, the settings' record.
+#![tactic(auto)]
+
 ghost use Rattle.std.specs.Prelude.{◌≡◌};
 ghost use Rattle.std.specs.Float.Ieee.Scale.{finite};
 ghost use Rattle.colour.specs.Number.{abs_of, larger, plus_zero, half_of};
@@ -11,7 +13,7 @@ pub mod weights;
 
 // The three channels of a colour.
 #[repr(C)]
-#[derive(Drop)]
+#[derive(Clone, Copy)]
 pub struct Rgb {
     pub r: f64,
     pub g: f64,
@@ -20,7 +22,7 @@ pub struct Rgb {
 
 // The five settings of a cut.
 #[repr(C)]
-#[derive(Drop)]
+#[derive(Clone, Copy)]
 pub struct Settings {
     pub alpha_threshold: i64,
     pub key_bg: bool,

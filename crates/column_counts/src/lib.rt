@@ -2,6 +2,8 @@
 // for each column of a strip. A strip has a fixed number of columns, however wide the plane is.
 //
 // The count of each column stands in two parts, a byte that follows every row and the rest, and is their sum.
+#![tactic(auto)]
+
 ghost use Rattle.std.specs.Prelude.{◌≡◌, ◌+◌, length};
 ghost use Rattle.plane.specs.Mask.{is_on, mask_of};
 ghost use Rattle.counts.specs.steps.Parts.{moved_line};

@@ -1,5 +1,7 @@
 // Running counts: what the passes of the dilation by squares share. A window of k pixels each way slides along a line, and the number of
 // on-pixels in it is a running value: at each step the pixel that enters is added and the one that leaves is taken off.
+#![tactic(auto)]
+
 ghost use Rattle.std.specs.Prelude.{◌≡◌, ◌+◌, ◌-◌, length};
 ghost use Rattle.counts.specs.steps.Parts.{moved_line};
 

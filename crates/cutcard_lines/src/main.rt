@@ -1,5 +1,7 @@
 // cutcard on a file of another stand: comments and empty lines in the header, and its fields in another order. stdout has the cut
 // of mask.rs.
+#![tactic(auto)]
+
 fn main() {
     cutfile::run();
 }

@@ -1,4 +1,6 @@
 // The work of cutcard: from the bytes of a PAM file to the bytes of a plain PBM file or of a refusal.
+#![tactic(auto)]
+
 ghost use Rattle.std.specs.Prelude.{◌≡◌, true, ◌≤◌, ◌<◌, ◌*◌, length};
 ghost use Rattle.colour.specs.Colour.{colours_ok};
 ghost use Rattle.text.specs.steps.Writing.{Wrote};

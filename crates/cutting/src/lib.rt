@@ -1,4 +1,6 @@
 // The cut of an accepted picture: its mask, whether it was keyed, and its crop box.
+#![tactic(auto)]
+
 ghost use Rattle.std.specs.Prelude.{◌≡◌, true, ℕ, ◌*◌, length};
 ghost use Rattle.plane.specs.steps.Sides.{Sides};
 ghost use Rattle.card.specs.steps.Range.{card_ok};

@@ -1,4 +1,6 @@
 // The flood: which close pixels of a plane the border reaches by steps up, down, left and right.
+#![tactic(auto)]
+
 ghost use Rattle.std.specs.Prelude.{◌≡◌, ◌*◌, ◌<◌, ◌≤◌, true, length, slice_index};
 ghost use Rattle.plane.specs.steps.Sides.{Sides};
 ghost use Rattle.outline.specs.Border.{border_list};

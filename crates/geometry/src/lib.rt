@@ -1,4 +1,6 @@
 // Plane geometry: the public calls. Each declines by its number, and a call that declines writes nothing.
+#![tactic(auto)]
+
 mod fill;
 mod refusals;
 

@@ -1,5 +1,7 @@
 // The ground of a picture without growth: the reference of its border or of its card, the close pixels, and those of them that the
 // border reaches.
+#![tactic(auto)]
+
 ghost use Rattle.std.specs.Prelude.{◌≡◌, true, ℕ, ◌*◌, ◌<◌, leb, length};
 ghost use Rattle.plane.specs.Plane.{table};
 ghost use Rattle.plane.specs.Mask.{mask_of};

@@ -1,4 +1,6 @@
 // Growth (the core of unmix_fringe): passes that move the background into the object's anti-aliased rim.
+#![tactic(auto)]
+
 ghost use Rattle.std.specs.Prelude.{◌≡◌, cond, not, ◌||◌, ℕ, ◌+◌, ◌*◌, ◌-◌, ◌<◌, ◌≤◌, eqb, length, take};
 ghost use Rattle.plane.specs.Plane.{on, bit, table};
 ghost use Rattle.plane.specs.steps.Sides.{Sides};

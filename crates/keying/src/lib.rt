@@ -1,5 +1,7 @@
 // Keying: the public calls of the upper layer. Each declines by its number, and a call that declines writes nothing. Ground and cut come
 // in two forms, without the card's colour and with a text that names it; both judge the lengths, and then share the rest.
+#![tactic(auto)]
+
 ghost use Rattle.std.specs.Prelude.{◌≡◌, true, length};
 ghost use Rattle.plane.specs.Refusal.{refusal_of};
 ghost use Rattle.card.specs.declared.Card.TheVariants.{Border};

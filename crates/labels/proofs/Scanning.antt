@@ -154,7 +154,7 @@ module _ (mask : List ℕ) (h w : ℕ) (fits : length mask ≡ h * w) (wide : 0 
       alike = alike;
       rises = g.rises;
       inside = g.inside';
-      own_val = g.own;
+      own = g.own;
       starts =
           both (λ (k : ℕ). is_first mask h w k ≡ true → seed (lab' k) ≡ k)
           (λ k l e. ap seed (at_old k l) ∙ g.old-starts k l e) (λ e. ap seed at_new ∙ g.pixel.starts e);
@@ -514,7 +514,7 @@ none-scanned mask labels parents h w room = record {
   alike = λ j k l. absurd (not-suc-le-zero l);
   rises = λ a b i j k. absurd (omega arith);
   inside = λ l i j. absurd (omega arith);
-  own_val = λ l i j. absurd (omega arith);
+  own = λ l i j. absurd (omega arith);
   starts = λ k l. absurd (not-suc-le-zero l);
 }
   where

@@ -1,5 +1,7 @@
 // Labels of the parts of a mask that are joined by steps up, down, left or right over on-pixels: each pixel gets a provisional
 // label from its neighbours to the left and above, and labels that meet are joined in trees, whose roots are numbered at the end.
+#![tactic(auto)]
+
 ghost use Rattle.std.specs.Prelude.{◌≡◌, ℕ, ◌+◌, ◌*◌, ◌-◌, ◌<◌, ◌≤◌, cond, eqb, length, get_or, set};
 ghost use Rattle.plane.specs.Plane.{table};
 ghost use Rattle.labels.specs.Labels.{parts, labels_plane};

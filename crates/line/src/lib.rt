@@ -2,6 +2,8 @@
 // The answers, the costs and the stack are regions of one buffer, in this order: out, costs and stack say where each starts.
 // The stack has two numbers for each of its sites: the site itself, in the region stack, and the place where it starts to lead, in
 // the region out. No answer is written over a start that is still needed: site q does not start to lead before place q.
+#![tactic(auto)]
+
 ghost use Rattle.std.specs.Prelude.{◌≡◌, true, ℕ, ◌+◌, ◌*◌, ◌-◌, ◌/◌, ◌<◌, ◌≤◌, length};
 ghost use Rattle.line.specs.steps.Line.{most_cost, most_length};
 ghost use Rattle.line.specs.steps.Part.{Written};

@@ -1,4 +1,6 @@
 // The reference of one channel: the median of its border values, which are kept in a lent buffer of 32-bit numbers.
+#![tactic(auto)]
+
 ghost use Rattle.std.specs.Prelude.{◌≡◌, true, ◌+◌, set};
 ghost use Rattle.colour.specs.Number.{plus_zero};
 ghost use Rattle.colour.specs.Colour.{colours_ok};

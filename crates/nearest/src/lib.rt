@@ -2,6 +2,8 @@
 // First stage: the nearest on-row of each column, in two sweeps over the rows. Second stage: the line pass along each row.
 // What stands between the stages is kept in one lent buffer: h rows of w numbers, and behind them three lines of w numbers:
 // the nearest on-rows of the row at hand, their costs, and the sites of the line pass's stack.
+#![tactic(auto)]
+
 ghost use Rattle.std.specs.Prelude.{◌≡◌, cond, ℕ, ◌+◌, ◌*◌, ◌-◌, ◌<◌, ◌≤◌, pos, length, take};
 ghost use Rattle.plane.specs.Plane.{on, index_of};
 ghost use Rattle.line.specs.steps.Line.{most_length};

@@ -1,4 +1,6 @@
 // A look at the coming pass: what it answers, and how many pixels the pass would take off the object. The pass itself is growth's.
+#![tactic(auto)]
+
 ghost use Rattle.std.specs.Prelude.{◌≡◌, ◌≤◌, length};
 ghost use Rattle.next_pass.specs.NextPass.{newly_on};
 

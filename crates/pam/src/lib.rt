@@ -1,4 +1,6 @@
 // What cutcard is given: a picture in a PAM file, of at most 2304 pixels, and its settings.
+#![tactic(auto)]
+
 ghost use Rattle.std.specs.Prelude.{◌≡◌, true, ◌*◌, ◌≤◌, length};
 ghost use Rattle.colour.specs.Colour.{colours_ok};
 ghost use Rattle.pam.specs.Settings.{settings};

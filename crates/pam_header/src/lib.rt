@@ -1,4 +1,6 @@
 // Reading the header of a PAM file, line by line.
+#![tactic(auto)]
+
 ghost use Rattle.std.specs.Prelude.{◌≡◌, true, [], ◌+◌, ◌*◌, ◌≤◌, ◌<◌, length, get_or, drop};
 ghost use Rattle.pam_header.specs.Header.{starts_at, is_text, is_numeral, is_side, side_from, is_skipped};
 ghost use Rattle.pam_header.specs.Header.{lines_of, first_text, most_header, declined, header_by, header_of};
@@ -11,7 +13,7 @@ const MOST_HEADER: usize = 4096;
 const MOST_DIGITS: usize = 5;
 
 // What a header says: whether it is accepted, and if so the sides and where the pixels stand.
-#[derive(Drop)]
+#[derive(Clone, Copy)]
 pub struct Header {
     pub ok: bool,
     pub height: usize,

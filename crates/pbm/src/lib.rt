@@ -1,5 +1,7 @@
 // What cutcard prints: the plain PBM file of a mask, or a refusal. Each function writes its piece from a place on and answers
 // the place after it.
+#![tactic(auto)]
+
 ghost use Rattle.std.specs.Prelude.{◌≡◌, cond, [], ◌+◌, ◌*◌, ◌<◌, ◌≤◌, length};
 ghost use Rattle.text.specs.steps.Writing.{Wrote};
 ghost use Rattle.pbm.specs.Text.{bit_byte, ends_line, newline, pixel_text, pixels_text, pair_text, keyed_end};

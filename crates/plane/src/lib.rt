@@ -1,5 +1,7 @@
 // Planes of pixels: the largest side, boxes, the tests of sides and lengths, and small loops over masks that all crates share.
 // The definitions stand in specs/, their laws in proofs/.
+#![tactic(auto)]
+
 ghost use Rattle.std.specs.Prelude.{◌≡◌, not, length};
 ghost use Rattle.plane.specs.Plane.{bit, apart};
 ghost use Rattle.plane.specs.steps.Sides.{Sides};

@@ -2,6 +2,8 @@
 // made at once. Sides and lengths come first, so that nothing is read behind a wrong length, and colours are read no further
 // than the first block with a wrong one. Of ground and cut the lengths are judged by one function and what stands in the buffers by
 // another, so that a text with the card's colour is read between the two.
+#![tactic(auto)]
+
 ghost use Rattle.std.specs.Prelude.{◌≡◌, length};
 ghost use Rattle.plane.specs.Refusal.{refusal_of};
 ghost use Rattle.colour.specs.Colour.{rgb_ok};

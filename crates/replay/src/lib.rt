@@ -17,6 +17,8 @@
 // pass as h lines of w digits, or `absent`. A refusal is `refused` and its number.
 //
 // g, c, p and f are G, C, P and F with the card's colour: the line has the text of it as one more word, its last, which may be empty.
+#![tactic(auto)]
+
 ghost use Rattle.std.specs.Prelude.{◌≤◌};
 
 use colour::{Rgb, Settings};

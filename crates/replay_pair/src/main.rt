@@ -9,6 +9,8 @@
 // - The last pair, 6 by 1 with white given: all black, which has no ground, and five white pixels of six. Their borders differ,
 //   and so do their masks.
 // stdout is what mask.rs answered, and for a given colour its functions put together with that colour for the median.
+#![tactic(auto)]
+
 fn main() {
     replay::run();
 }

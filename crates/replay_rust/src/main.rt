@@ -1,4 +1,6 @@
 // Replays mask.rs's answers of labels, squares and nearest: stdin has the cases, stdout what mask.rs answered.
+#![tactic(auto)]
+
 fn main() {
     replay::run();
 }

@@ -1,5 +1,7 @@
 // The line pass of the dilation by squares: along each row of a mask the running count of the window, block by block of columns. What
 // holds its changes has a fixed size, however long a row is.
+#![tactic(auto)]
+
 ghost use Rattle.std.specs.Prelude.{◌≡◌, ◌+◌, ◌*◌, ◌≤◌, ◌++◌, length, drop};
 ghost use Rattle.plane.specs.Search.{count_below};
 ghost use Rattle.plane.specs.Plane.{table};

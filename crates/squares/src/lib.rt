@@ -1,4 +1,6 @@
 // Squares: the dilation of a mask by a square (binary_dilation8), by a pass along each row and a pass down each column.
+#![tactic(auto)]
+
 ghost use Rattle.std.specs.Prelude.{◌≡◌};
 ghost use Rattle.squares.specs.Squares.{squares_plane};
 ghost use Rattle.squares.specs.Work.{BitOrOld};

@@ -1,5 +1,7 @@
 // The C interface of the copy stand: the cut and its parts, nearest, labels and what stands beside them, on numbers and slices. A slice
 // crosses as a pointer and then its length. Each call answers a number, 0 where it is accepted, and is what the call that it names is.
+#![tactic(auto)]
+
 ghost use Rattle.std.specs.Prelude.{◌≡◌};
 ghost use Rattle.geometry.specs.declared.Answer.{Answer};
 ghost use Rattle.geometry.specs.declared.Labelled.{Labelled};

@@ -1,5 +1,7 @@
 // Text in a buffer of bytes: decimal numbers read and written, and bytes put at a place. A function that writes does so from a
 // place on and answers the place after what it wrote.
+#![tactic(auto)]
+
 ghost use Rattle.std.specs.Prelude.{◌≡◌, true, [], ◌∷◌, ◌+◌, ◌<◌, ◌≤◌, length, get_or};
 ghost use Rattle.text.specs.Decimal.{is_digit, all_digits, digits_upto, value_of, number_upto, decimal};
 ghost use Rattle.text.specs.steps.Writing.{Wrote};

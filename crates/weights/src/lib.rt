@@ -1,4 +1,6 @@
 // Alpha and weights: which alpha reaches the threshold, the mask of those that do, and the weight of each pixel.
+#![tactic(auto)]
+
 ghost use Rattle.std.specs.Prelude.{◌≡◌, ℕ, length, get_or};
 ghost use Rattle.plane.specs.Plane.{table};
 ghost use Rattle.plane.specs.Search.{some_below};

@@ -1,4 +1,6 @@
 // The search of a window: the deep pixel nearest to a pixel, where it is near enough to give its body colour.
+#![tactic(auto)]
+
 ghost use Rattle.std.specs.Prelude.{◌≡◌, cond, ◌+◌, ◌*◌, ◌<◌, ◌≤◌, ◌/◌, ◌%◌, leb, length};
 ghost use Rattle.plane.specs.steps.Sides.{Sides};
 ghost use Rattle.nearest.specs.Nearest.{away};

@@ -1,0 +1,13 @@
+-- `colour::abs` meets its contract.
+-- Assumes nothing.
+use lib.Ieee.{of_bits}
+use Rattle.colour.specs.Number.{abs_of}
+use Rattle.colour.proofs.abs.Goals as goal
+
+pub returns-then-x : goal.returns-then-x
+unfolding abs_of of_bits
+returns-then-x c = simp c.if-x.true
+
+pub returns-else-x : goal.returns-else-x
+unfolding abs_of of_bits
+returns-else-x c = simp c.if-x.false

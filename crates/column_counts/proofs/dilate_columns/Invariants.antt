@@ -1,0 +1,14 @@
+-- `column_counts::dilate_columns` meets its contract. The loop's invariant: the columns before column c are written.
+-- Assumes nothing.
+use Rattle.std.proofs.Common.{◌≡◌, ℕ, ◌+◌, ◌-◌, ◌<◌, ◌≤◌, List, length, get_or, take, replicate, sym, refl, ap, ◌∙◌, arith, length-take, get_or-take, rules}
+use lib.ListN.{length-replicate, get_or-replicate}
+use Rattle.column_counts.specs.steps.Columns.{Counted, Swept}
+use Rattle.counts.proofs.Parts.{split-new}
+use Rattle.column_counts.proofs.Strips.{none-swept, strip-swept, all-swept}
+use Rattle.column_counts.proofs.dilate_columns.Given as goal
+
+abbrev pub invariant-loop-c : goal.invariant-loop-c
+invariant-loop-c l = (l.c ≤ l.w) × Swept l.plane l.h l.w l.k l.c l.c 0 l.out
+
+abbrev pub decreases-loop-c : goal.decreases-loop-c
+decreases-loop-c l = l.w - l.c

@@ -1,0 +1,13 @@
+-- `column_counts::test_line` meets its contract. The loop's invariant: the pixels before x are written.
+-- Assumes nothing.
+use Rattle.std.proofs.Common.{ℕ, ◌-◌, ◌≤◌, length, arith, rules}
+use Rattle.plane.specs.Plane.{on, bit}
+use Rattle.plane.specs.Mask.{is_on, mask_of}
+use Rattle.counts.proofs.Begun.{Begun, begun-none, begun_more, begun-end}
+use Rattle.column_counts.proofs.test_line.Given as goal
+
+abbrev pub invariant-loop-x : goal.invariant-loop-x
+invariant-loop-x l = (l.x ≤ length l.low) × Begun (λ (i : ℕ). bit (is_on l.low i)) (length l.low) l.out l.x
+
+abbrev pub decreases-loop-x : goal.decreases-loop-x
+decreases-loop-x l = length l.low - l.x

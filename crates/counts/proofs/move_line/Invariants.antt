@@ -1,0 +1,15 @@
+-- `counts::move_line` meets its contract. The loop's invariant: the bytes before x are changed.
+-- Assumes nothing.
+use Rattle.std.proofs.Common.{◌≡◌, ℕ, ◌-◌, ◌≤◌, cond, length, get_or, ◌∙◌, ⊎_elim, le_refl, arith, rules, ne_eqb}
+use Rattle.plane.specs.Plane.{on}
+use Rattle.plane.specs.Mask.{is_on}
+use Rattle.plane.proofs.InPlace.{Changed, changed-none, changed-more, changed-end}
+use Rattle.counts.specs.steps.Parts.{changed, moved_line}
+use Rattle.counts.proofs.move_line.Given as goal
+
+abbrev pub invariant-loop-x : goal.invariant-loop-x
+invariant-loop-x l =
+    (l.x ≤ length l.line) × Changed 0 (λ (i : ℕ). changed (get_or l.initial.counts i 0) (is_on l.line i) l.change) l.initial.counts l.counts l.x
+
+abbrev pub decreases-loop-x : goal.decreases-loop-x
+decreases-loop-x l = length l.line - l.x

@@ -1,0 +1,16 @@
+-- `nearest::nearer_line` meets its contract.
+-- Assumes nothing.
+use mathlib.Core.Path.{◌≡◌, ap, ◌∙◌}
+use Prim.Native.Nat.{ℕ, ◌+◌, ◌-◌, ◌<◌}
+use lib.ListN.{length, get_or}
+use native.Mathlib.Omega.{arith}
+use Rattle.line.proofs.Part.{Filling, filling-none, filling-more, filling-end}
+use Rattle.nearest.specs.steps.Stages.{nearer, nearer_in}
+use Rattle.nearest.specs.steps.Room.{NearRoom}
+use Rattle.nearest.proofs.nearer_line.Given as goal
+
+abbrev pub invariant-loop-x : goal.invariant-loop-x
+invariant-loop-x l = Filling 0 (nearer_in l.y l.initial.work l.row l.near) l.near l.w l.initial.work l.work l.x
+
+abbrev pub decreases-loop-x : goal.decreases-loop-x
+decreases-loop-x l = l.w - l.x

@@ -1,0 +1,16 @@
+-- `row_counts::change_line` meets its contract. The loop's invariant: the steps before x are written.
+-- Assumes nothing.
+use Rattle.std.proofs.Common.{◌≡◌, ℕ, ◌-◌, ◌≤◌, cond, length, ◌∙◌, ⊎_elim, arith, rules, ne_eqb}
+use Rattle.plane.specs.Plane.{on, bit}
+use Rattle.plane.specs.Mask.{is_on}
+use Rattle.counts.specs.steps.Parts.{changed, step_of}
+use Rattle.counts.proofs.Begun.{Begun, begun-none, begun_more, begun-end}
+use Rattle.row_counts.specs.steps.Rows.{change_line}
+use Rattle.row_counts.proofs.change_line.Given as goal
+
+abbrev pub invariant-loop-x : goal.invariant-loop-x
+invariant-loop-x l =
+    (l.x ≤ length l.enter) × Begun (λ (i : ℕ). step_of (is_on l.enter i) (is_on l.leave i)) (length l.enter) l.steps l.x
+
+abbrev pub decreases-loop-x : goal.decreases-loop-x
+decreases-loop-x l = length l.enter - l.x

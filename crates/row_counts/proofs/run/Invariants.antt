@@ -1,0 +1,20 @@
+-- `row_counts::run` meets its contract. The loop's invariant: v is the byte after x steps, and the pixels before x are written.
+-- Assumes nothing.
+use Rattle.std.proofs.Common.{◌≡◌, ℕ, ◌+◌, ◌-◌, ◌%◌, ◌≤◌, length, get_or, sym, ap, ◌∙◌, ⊎_elim, add-one, arith, rules}
+use Rattle.plane.specs.Plane.{on, bit}
+use Rattle.plane.specs.Mask.{mask_of}
+use Rattle.counts.specs.steps.Parts.{full_byte}
+use Rattle.row_counts.specs.steps.Rows.{tally, ran_line}
+use Rattle.counts.proofs.Begun.{Begun, begun-none, begun_more, begun-end}
+use Rattle.row_counts.proofs.run.Given as goal
+
+abbrev pub invariant-loop-x : goal.invariant-loop-x
+invariant-loop-x l =
+    (l.x ≤ length l.steps)
+    × (l.b ≡ full_byte l.n)
+    × (l.v ≤ 255)
+    × (l.v ≡ tally l.steps (full_byte l.n) l.x)
+    × Begun (λ (i : ℕ). bit (on (tally l.steps (full_byte l.n) (i + 1)))) (length l.steps) l.out l.x
+
+abbrev pub decreases-loop-x : goal.decreases-loop-x
+decreases-loop-x l = length l.steps - l.x
