@@ -30,10 +30,10 @@ loop-j-preserved c =
     let a = c.args in
     let on : ℕ → ℕ → Bool = λ (x : ℕ). on_down a.plane.now a.w (a.c + x) in
     let n = counted-enter (c.balance_after-t.ensures.kept _ l.invariant.3) (λ (x : ℕ). on x l.j)
-    e.new.1.1.1.1.1.1.1.0 e.auto.1.1.1.1.1.1.1.0 (omega (arith, c.balance_after-t.ensures.few)) e.ensures.each in (
+    e.new.low e.auto.low (omega (arith, c.balance_after-t.ensures.few)) e.ensures.each in (
       omega arith,
       omega (arith, c.balance_after-t.ensures.few),
-      e.auto.1.1.1.1.1.1.1.0 ∙ c.balance_after-t.auto.low ∙ l.invariant.2,
+      e.auto.low ∙ c.balance_after-t.auto.low ∙ l.invariant.2,
       counted-as n (λ x g. sym (count-more l.j (on x))),
     )
 

@@ -8,22 +8,18 @@ use borrow.Author.Rules.{rules}
 use Rattle.plane.proofs.Refusal.{and-true}
 use Rattle.pam_header.specs.Header.{starts_at, is_numeral, is_side, side_from}
 use Rattle.pam_header.proofs.Numbers.{number-last}
-use Rattle.pam_header.proofs.side.Statement.{statement}
-use Rattle.pam_header.proofs.side.Tie as tie
+use Rattle.pam_header.proofs.side.Goals as goal
 
-returns : tie.Need-returns
+pub returns-then-not-is_side : goal.returns-then-not-is_side
 unfolding side_from
-returns c = rw (sym c.before.is-side.ensures ∙ not-true _ c.if1.true)
+returns-then-not-is_side c = rw (sym c.is_side.ensures ∙ c.if-not-is_side.true)
 
-returns-2 : tie.Need-returns-2
+pub returns : goal.returns
 unfolding is_side side_from
-returns-2 c =
-    let a = c.before.before.before.before.before.args in
+returns c =
+    let a = c.args in
     let line = a.line.now in
     let name = a.name.now in
-    let given : is_side name line ≡ true = sym c.before.before.is-side.ensures ∙ not-false _ c.before.if1.false in
+    let given : is_side name line ≡ true = sym c.is_side.ensures ∙ c.if-not-is_side.false in
     let number = (and-true (starts_at line 0 name) (is_numeral (drop (length name) line)) given).1 in
     c.read_number.ensures ∙ number-last line (length name) number ∙ rw given
-
-pub side-spec : {M : Type 1} → statement M
-side-spec = tie.close (tie.spec (λ c κs. search rules) returns (λ c κs. search rules) returns-2)

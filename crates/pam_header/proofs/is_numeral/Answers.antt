@@ -7,15 +7,11 @@ use lib.ListN.{length, get_or}
 use borrow.Author.Rules.{rules}
 use Rattle.pam_header.specs.Header.{is_numeral}
 use Rattle.pam_header.proofs.Numbers.{digits-all}
-use Rattle.pam_header.proofs.is_numeral.Statement.{statement}
-use Rattle.pam_header.proofs.is_numeral.Tie as tie
+use Rattle.pam_header.proofs.is_numeral.Goals as goal
 
-returns : tie.Need-returns
+pub returns : goal.returns
 unfolding is_numeral
 returns c =
-    let l = c.before.before.before.args.digits.now in
-    rw (c.byte_at.ensures, c.before.digits.ensures)
+    let l = c.args.digits.now in
+    rw (c.byte_at.ensures, c.digits.ensures)
     (ap (λ (t : Bool). t && leb 1 (length l) && not (eqb (get_or l 0 0) 48)) (digits-all l))
-
-pub is-numeral-spec : {M : Type 1} → statement M
-is-numeral-spec = tie.close (tie.spec (λ c κs. search rules) (λ c κs. search rules) returns)

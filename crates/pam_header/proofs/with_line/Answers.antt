@@ -9,8 +9,7 @@ use Rattle.pam_header.specs.declared.Fields.{Fields}
 use Rattle.pam_header.specs.Header.{is_text, is_side, side_from, is_skipped, is_other}
 use Rattle.pam_header.specs.Header.{width_name, height_name, depth_text, maxval_text, tupltype_text}
 use Rattle.pam_header.specs.steps.Reading.{more, with_line}
-use Rattle.pam_header.proofs.with_line.Statement.{statement}
-use Rattle.pam_header.proofs.with_line.Tie as tie
+use Rattle.pam_header.proofs.with_line.Goals as goal
 
 -- from the tests and the counts to the whole
 module _ (s : Fields) (line : List ℕ) where
@@ -24,54 +23,21 @@ module _ (s : Fields) (line : List ℕ) where
   unfolding is_other with_line
   whole s0 s1 s2 s3 s4 s5 c0 c1 c2 c3 c4 c5 w0 h0 = rw (c0, c1, c2, c3, c4, c5, w0, h0, s0, s1, s2, s3, s4, s5)
 
-returns : tie.Need-returns
+pub returns : goal.returns
 returns c =
-    let six = c.before.before.before.before in
-    let four = six.before.before in
-    let two = four.before.before in
-    let tested = two.before.before in
-    let texts = tested.before in
-    let sides = texts.before.before.before.before.before.before in
-    let a = sides.before.before.before.before.before.args in
+    let a = c.args in
     whole a.seen a.line.now
-    tested.is-skipped.ensures
-    sides.before.before.is-side.ensures
-    sides.is-side2.ensures
-    texts.before.before.before.before.is-text.ensures
-    texts.before.before.is-text2.ensures
-    texts.is-text3.ensures
-    two.before.counted.ensures
-    two.counted2.ensures
-    four.before.counted3.ensures
-    four.counted4.ensures
-    six.before.counted5.ensures
-    six.counted6.ensures
-    c.before.before.side.ensures
-    c.side2.ensures
-
-pub with-line-spec : {M : Type 1} → statement M
-with-line-spec =
-    tie.close
-    (tie.spec
-    (λ c. search rules)
-    (λ c κs. search rules)
-    (λ c. search rules)
-    (λ c κs. search rules)
-    (λ c. search rules)
-    (λ c κs. search rules)
-    (λ c. search rules)
-    (λ c κs. search rules)
-    (λ c. search rules)
-    (λ c κs. search rules)
-    (λ c κs. search rules)
-    (λ c κs. search rules)
-    (λ c κs. search rules)
-    (λ c κs. search rules)
-    (λ c κs. search rules)
-    (λ c κs. search rules)
-    (λ c κs. search rules)
-    (λ c. search rules)
-    (λ c κs. search rules)
-    (λ c. search rules)
-    (λ c κs. search rules)
-    returns)
+    c.is_skipped.ensures
+    c.is_side-is_width.ensures
+    c.is_side-is_height.ensures
+    c.is_text-is_depth.ensures
+    c.is_text-is_maxval.ensures
+    c.is_text-is_tupltype.ensures
+    c.counted.ensures
+    c.counted-2.ensures
+    c.counted-3.ensures
+    c.counted-4.ensures
+    c.counted-5.ensures
+    c.counted-6.ensures
+    c.side.ensures
+    c.side-2.ensures

@@ -5,35 +5,38 @@ use mathlib.Core.Logic.{⊎_elim}
 use native.Mathlib.Omega.{arith}
 use Rattle.squares.specs.Squares.{larger, reach}
 use Rattle.squares.proofs.Laws.{larger-wide, larger-tall, reach-none, reach-some, radius-near, radius-far}
-use Rattle.squares.proofs.radius.Statement.{statement}
 use Rattle.squares.proofs.radius.Tie as tie
+use Rattle.squares.proofs.radius.Reads as reads
+use Rattle.squares.proofs.radius.Lts as lts
+use Rattle.squares.proofs.radius.Goals as goal
+use Rattle.squares.proofs.radius.Goals.{else-h-w, then-h-w}
+
+abbrev At-Joined1 : Type 0
+At-Joined1 = lts.Joined1 reads.Pre reads.Post
 
 -- the side that was taken is the larger one
-side-is : (c : tie.Joined1) → c.if1.side ≡ larger c.before.args.h c.before.args.w
+side-is : (c : At-Joined1) → c.if-h-w.side ≡ larger c.args.h c.args.w
 side-is c =
-    ⊎_elim (λ w. w.1 ∙ sym (larger-wide _ _ w.0.taken)) (λ w. w.1 ∙ sym (larger-tall _ _ w.0.left)) c.if1.branch
+    elim c.if-h-w.branch [ then-h-w w ↦ w.side-is ∙ sym (larger-wide _ _ w.if-h-w.true) | else-h-w w ↦ w.side-is ∙ sym (larger-tall _ _ w.if-h-w.false) ]
 
-returns : tie.Need-returns
-returns c =
-    let a = c.before.before.args in
+pub returns-then-iterations-eq0 : goal.returns-then-iterations-eq0
+returns-then-iterations-eq0 c =
+    let a = c.args in
     let s = side-is c.before in
     let e : reach a.h a.w a.iterations ≡ larger a.h a.w =
-    ap (reach a.h a.w) c.if2.true ∙ reach-none a.h a.w in
+    ap (reach a.h a.w) c.if-iterations-eq0.true ∙ reach-none a.h a.w in
     omega (arith, radius-near a.h a.w a.iterations (omega arith))
 
-returns-2 : tie.Need-returns-2
-returns-2 c =
-    let a = c.before.before.before.args in
+pub returns-then-iterations-side : goal.returns-then-iterations-side
+returns-then-iterations-side c =
+    let a = c.args in
     let s = side-is c.before.before in
     let e = reach-some a.h a.w a.iterations (omega arith) in
     omega (arith, radius-near a.h a.w a.iterations (omega arith))
 
-returns-3 : tie.Need-returns-3
-returns-3 c =
-    let a = c.before.before.before.args in
+pub returns : goal.returns
+returns c =
+    let a = c.args in
     let s = side-is c.before.before in
     let e = reach-some a.h a.w a.iterations (omega arith) in
     omega (arith, radius-far a.h a.w a.iterations (omega arith))
-
-pub radius-spec : {M : Type 1} → statement M
-radius-spec = tie.close (tie.spec returns returns-2 returns-3)

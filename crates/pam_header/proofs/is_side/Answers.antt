@@ -11,36 +11,23 @@ use borrow.Author.Rules.{rules}
 use Rattle.plane.proofs.Search.{and_no}
 use Rattle.text.specs.Decimal.{all_digits}
 use Rattle.pam_header.specs.Header.{starts_at, is_numeral, is_side}
-use Rattle.pam_header.proofs.is_side.Statement.{statement}
-use Rattle.pam_header.proofs.is_side.Tie as tie
+use Rattle.pam_header.proofs.is_side.Goals as goal
 
 -- nothing is no number
 none : is_numeral [] ≡ false
 unfolding is_numeral all_digits
 none = refl
 
-returns : tie.Need-returns
+pub returns-then-line-at : goal.returns-then-line-at
 unfolding is_side
-returns c =
-    let a = c.before.before.before.args in
+returns-then-line-at c =
+    let a = c.args in
     rw (drop_of_length-le a.line.now {i = length a.name.now} (omega arith), none, and_no (starts_at a.line.now 0 a.name.now))
 
-returns-2 : tie.Need-returns-2
+pub returns : goal.returns
 unfolding is_side
-returns-2 c =
-    let a = c.before.before.before.before.before.before.args in
+returns c =
+    let a = c.args in
     let rest = drop (length a.name.now) a.line.now in
     let long : length rest ≤ length a.line.now - length a.name.now = rw length-drop (omega arith) in
-    rw (c.is-numeral.ensures, c.before.before.starts.ensures, take_all _ rest long)
-
-pub is-side-spec : {M : Type 1} → statement M
-is-side-spec =
-    tie.close
-    (tie.spec
-    returns
-    (λ c κs. search rules)
-    (λ c. search rules)
-    (λ c. search rules)
-    (λ c. search rules)
-    (λ c κs. search rules)
-    returns-2)
+    rw (c.is_numeral.ensures, c.starts.ensures, take_all _ rest long)
