@@ -15,7 +15,7 @@ use Rattle.geometry.proofs.crop_row.Lts as lts
 use Rattle.geometry.proofs.crop_row.Goals as goal
 
 abbrev At-Else1 : Type 0
-At-Else1 = lts.Else1 reads.Pre reads.Post
+At-Else1 = lts.Else1 tie.the-claims reads.Pre reads.Post
 
 got : (c : At-Else1) → let a = c.args in InPlane (length a.plane.now) a.w a.x0 a.x1 a.y
 got c =
@@ -38,28 +38,28 @@ returns c =
 
 pub overflow_mul-result : goal.overflow_mul-result
 overflow_mul-result c =
-    let g = got c in omega arith
+    let g = got c.before in omega arith
 
 pub overflow_add-result : goal.overflow_add-result
 overflow_add-result c =
-    let g = got c in omega arith
+    let g = got c.before in omega arith
 
 pub overflow_mul-result-2 : goal.overflow_mul-result-2
 overflow_mul-result-2 c =
-    let g = got c in omega arith
+    let g = got c.before in omega arith
 
 pub overflow_add-result-2 : goal.overflow_add-result-2
 overflow_add-result-2 c =
-    let g = got c in omega arith
+    let g = got c.before in omega arith
 
 pub slice_bounds-result-count-2 : goal.slice_bounds-result-count-2
 slice_bounds-result-count-2 c =
-    let g = got c in omega arith
+    let g = got c.before in omega arith
 
 pub slice_bounds-result-start-2 : goal.slice_bounds-result-start-2
 slice_bounds-result-start-2 c =
-    let g = got c in omega arith
+    let g = got c.before in omega arith
 
 pub slice_bounds-result-end-2 : goal.slice_bounds-result-end-2
 slice_bounds-result-end-2 c =
-    let g = got c in omega arith
+    let g = got c.before in omega arith

@@ -12,7 +12,7 @@ use Rattle.geometry.proofs.label4.Lts as lts
 use Rattle.geometry.proofs.label4.Goals as goal
 
 abbrev At-Else1 : Type 0
-At-Else1 = lts.Else1 reads.Pre reads.Post
+At-Else1 = lts.Else1 tie.the-claims reads.Pre reads.Post tie.handed_clauses
 
 pub returns-then-refusal-gt0 : goal.returns-then-refusal-gt0
 returns-then-refusal-gt0 c =
@@ -29,13 +29,13 @@ zero c = omega (arith, c.if-refusal-gt0.false)
 
 pub label-n-requires : goal.label-n-requires
 label-n-requires c =
-    let k = plane-ok _ _ _ _ _ (sym c.plane_refusal-refusal.ensures ∙ zero c.before.before) in
+    let k = plane-ok _ _ _ _ _ (sym c.plane_refusal-refusal.ensures ∙ zero c.before.before.before) in
     record { sides = k.sides; input = k.input; output = k.output; room = omega (arith, k.room); few = few-pixels _ _ k.within }
 
 pub returns : goal.returns
 returns c =
     let n = c.plane_refusal-refusal in
-    let z = sym n.ensures ∙ zero c.before.before.before.before.before.before.before in
+    let z = sym n.ensures ∙ zero c.before.before.before.before.before.before.before.before in
     let call = c.label-n in
     record {
       answer = ap labelled.Parts call.ensures.value ∙ counted _ _ z;

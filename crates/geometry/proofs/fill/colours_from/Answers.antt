@@ -18,10 +18,10 @@ use Rattle.geometry.proofs.fill.colours_from.Lts as lts
 use Rattle.geometry.proofs.fill.colours_from.Goals as goal
 
 abbrev At-After-source : Type 0
-At-After-source = lts.After-source reads.Pre reads.Post goal.the-invariant-loop-i goal.the-decreases-loop-i
+At-After-source = lts.After-source tie.the-claims reads.Pre reads.Post goal.the-invariant-loop-i goal.the-decreases-loop-i
 
 abbrev At-Start : Type 0
-At-Start = lts.Start reads.Pre reads.Post goal.the-invariant-loop-i goal.the-decreases-loop-i
+At-Start = lts.Start tie.the-claims reads.Pre reads.Post goal.the-invariant-loop-i goal.the-decreases-loop-i
 
 small : (c : At-Start) → c.args.h * c.args.w ≤ 4294967296
 small c = let m = area-most {h = c.args.h} {w = c.args.w} c.requires.sides.tall c.requires.sides.wide in omega arith
@@ -61,10 +61,10 @@ module _ (c : At-After-source) where
   long = omega (arith, inside, c.requires.colours-long)
 
 pub overflow_add-t : goal.overflow_add-t
-overflow_add-t c = omega (arith, little c.before, c.loop-i-test.true)
+overflow_add-t c = omega (arith, little c.before.before, c.loop-i-test.true)
 
 pub offset_bounds-out-t : goal.offset_bounds-out-t
-offset_bounds-out-t c = omega (arith, little c.before, c.loop-i-test.true)
+offset_bounds-out-t c = omega (arith, little c.before.before, c.loop-i-test.true)
 
 pub slice_bounds-copy_colour-end-in-loop-i : goal.slice_bounds-copy_colour-end-in-loop-i
 slice_bounds-copy_colour-end-in-loop-i c =
@@ -79,7 +79,7 @@ loop-i-preserved c =
     let e : l.i * 3 + 3 - l.i * 3 ≡ 3 = omega arith in
     let d : s + 3 - s ≡ 3 = omega arith in
     let row = colour_row a.colours.now a.h a.w a.indices.now a.some in
-    let copied : call.new.to ≡ row l.i = call.ensures ∙ rw d (colour-is _ _ _ _ _ l.i _ (source_is c.before.before.before.before.before) (long c.before.before.before.before.before)) in (
+    let copied : call.new.to ≡ row l.i = call.ensures ∙ rw d (colour-is _ _ _ _ _ l.i _ (source_is c.before.before.before.before.before.before) (long c.before.before.before.before.before.before)) in (
       omega (arith, c.loop-i-test.true),
       same_len_mid (l.i * 3) (l.i * 3 + 3 - l.i * 3) l.out call.new.to call.auto.to ∙ l.invariant.1,
       put-row row 3 (colour-keeps _ _ _ _ _) l.i _ a.out.now l.out call.new.to l.invariant.2 e copied,
@@ -97,7 +97,7 @@ returns c =
 
 pub overflow_mul-n : goal.overflow_mul-n
 overflow_mul-n c =
-    let m = small c.before.before.before in omega arith
+    let m = small c.before.before.before.before in omega arith
 
 pub loop-i-init : goal.loop-i-init
 loop-i-init c =
@@ -105,23 +105,23 @@ loop-i-init c =
 
 pub overflow_mul-s : goal.overflow_mul-s
 overflow_mul-s c =
-    omega (arith, inside c, little c)
+    omega (arith, inside c.before, little c.before)
 
 pub overflow_mul-t : goal.overflow_mul-t
 overflow_mul-t c =
-    omega (arith, little c, c.loop-i-test.true)
+    omega (arith, little c.before, c.loop-i-test.true)
 
 pub overflow_add-s : goal.overflow_add-s
 overflow_add-s c =
-    omega (arith, inside c, little c)
+    omega (arith, inside c.before, little c.before)
 
 pub offset_bounds-colours-s : goal.offset_bounds-colours-s
 offset_bounds-colours-s c =
-    omega (arith, inside c, little c)
+    omega (arith, inside c.before, little c.before)
 
 pub slice_bounds-copy_colour-end : goal.slice_bounds-copy_colour-end
 slice_bounds-copy_colour-end c =
-    omega (arith, long c)
+    omega (arith, long c.before)
 
 pub shape_of-out : goal.shape_of-out
 shape_of-out c =

@@ -15,7 +15,7 @@ use Rattle.geometry.proofs.refusals.fill_refusal.Lts as lts
 use Rattle.geometry.proofs.refusals.fill_refusal.Goals as goal
 
 abbrev At-Else1 : Type 0
-At-Else1 = lts.Else1 reads.Pre reads.Post
+At-Else1 = lts.Else1 tie.the-claims reads.Pre reads.Post
 
 -- the sides are accepted
 ok : (c : At-Else1) → sides_ok c.args.h c.args.w ≡ true

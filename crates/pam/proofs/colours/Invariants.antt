@@ -1,0 +1,27 @@
+-- `pam::colours` meets its contract.
+-- Assumes nothing.
+use mathlib.Core.Path.{ap, ◌∙◌}
+use mathlib.Core.List.{List}
+use Prim.Native.Nat.{ℕ, ◌+◌, ◌*◌, ◌/◌, ◌%◌, ◌-◌, ◌≤◌}
+use native.Mathlib.Omega.{arith}
+use lib.ListN.{length, get_or}
+use lib.Ieee.{Float, nan}
+use borrow.Author.Rules.{rules}
+use Rattle.plane.specs.Plane.{table}
+use Rattle.plane.proofs.InPlace.{Changed, changed-none, changed-more, changed-end}
+use Rattle.colour.specs.Colour.{colour_ok}
+use Rattle.colour.specs.Weight.{weight_of}
+use Rattle.colour.proofs.Range.{colours-all}
+use Rattle.pam.specs.Picture.{sample_at, colours_from}
+use Rattle.colour.proofs.Bytes.{byte-ok}
+use Rattle.pam.proofs.colours.Given as goal
+
+-- number k of the colours
+abbrev pub channel : List ℕ → ℕ → ℕ → Float
+channel input body k = weight_of (sample_at input body (4 * (k / 3) + k % 3))
+
+abbrev pub invariant-loop-k : goal.invariant-loop-k
+invariant-loop-k l = (l.k ≤ length l.initial.out) × Changed nan (channel l.input l.body) l.initial.out l.out l.k
+
+abbrev pub decreases-loop-k : goal.decreases-loop-k
+decreases-loop-k l = length l.initial.out - l.k

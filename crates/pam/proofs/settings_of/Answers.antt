@@ -1,0 +1,9 @@
+-- `pam::settings_of` meets its contract.
+-- Assumes nothing.
+use mathlib.Core.Path.{refl}
+use lib.Ieee.{of_bits}
+use Rattle.pam.proofs.settings_of.Goals as goal
+
+pub returns : goal.returns
+unfolding of_bits
+returns c = refl

@@ -1,0 +1,15 @@
+-- `pbm::crop_lines` meets its contract.
+-- Assumes nothing.
+use native.Mathlib.Omega.{arith}
+use borrow.Author.Rules.{rules}
+use Rattle.text.proofs.Written.{wrote-more}
+use Rattle.pbm.specs.Text.{crop_lines}
+use Rattle.pbm.proofs.Lengths.{crop-long}
+use Rattle.pbm.proofs.crop_lines.Goals as goal
+
+-- the start, seen from the calls
+pub returns : goal.returns
+unfolding crop_lines
+returns c =
+    let lines = wrote-more (wrote-more c.copy-rows.ensures c.pair-between.ensures) c.put-columns.ensures in
+    wrote-more (wrote-more lines c.pair-word.ensures) c.keyed_end.ensures

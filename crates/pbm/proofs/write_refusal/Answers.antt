@@ -1,0 +1,14 @@
+-- `pbm::write_refusal` meets its contract.
+-- Assumes nothing.
+use native.Mathlib.Omega.{arith}
+use borrow.Author.Rules.{rules}
+use Rattle.text.proofs.Written.{wrote-more}
+use Rattle.pbm.specs.Text.{refusal_text}
+use Rattle.pbm.proofs.Lengths.{refusal-long}
+use Rattle.pbm.proofs.write_refusal.Goals as goal
+
+-- the start, seen from the line end
+pub returns : goal.returns
+unfolding refusal_text
+returns c =
+    wrote-more (wrote-more c.copy-at.ensures c.write_number-end.ensures) c.put.ensures
