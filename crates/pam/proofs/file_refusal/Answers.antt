@@ -27,31 +27,31 @@ small c = rw c.requires (header-small c.args.input.now)
 
 pub returns-then-not-header : goal.returns-then-not-header
 unfolding file_refusal refusal_of
-returns-then-not-header c = rw c.if-not-header.true
+returns-then-not-header c = rw (not-true c.args.header.ok c.if-not-header.true)
 
 -- the header is as it should be
 accepted : (c : At-Else1) → c.args.header.ok ≡ true
-accepted c = c.if-not-header.false
+accepted c = not-false c.args.header.ok c.if-not-header.false
 
 pub overflow_mul-n : goal.overflow_mul-n
 overflow_mul-n c =
-    let s = small c.before.before.before in
+    let s = small c.before.before.before.before in
     Fits-le (mul-le-mul s.height-most s.width-most) (Fits-lit tt)
 
 pub returns-then-n-gt-MOST_PIXELS : goal.returns-then-n-gt-MOST_PIXELS
 unfolding file_refusal refusal_of
-returns-then-n-gt-MOST_PIXELS c = rw (accepted c.before.before, lt-leb _ _ c.if-n-gt-MOST_PIXELS.true)
+returns-then-n-gt-MOST_PIXELS c = rw (accepted c.before.before.before, lt-leb _ _ c.if-n-gt-MOST_PIXELS.true)
 
 pub returns-then-input-end : goal.returns-then-input-end
 unfolding file_refusal refusal_of
 returns-then-input-end c =
-    rw (accepted c.before.before.before.before, le-leb _ _ c.if-n-gt-MOST_PIXELS.false, ne_eqb _ _ c.if-input-end.true)
+    rw (accepted c.before.before.before.before.before, le-leb _ _ c.if-n-gt-MOST_PIXELS.false, ne_eqb _ _ c.if-input-end.true)
 
 pub returns : goal.returns
 unfolding file_refusal refusal_of
 returns c =
-    rw (accepted c.before.before.before.before, le-leb _ _ c.if-n-gt-MOST_PIXELS.false, eq-eqb _ _ c.if-input-end.false)
+    rw (accepted c.before.before.before.before.before, le-leb _ _ c.if-n-gt-MOST_PIXELS.false, eq-eqb _ _ c.if-input-end.false)
 
 pub overflow_add-end : goal.overflow_add-end
 overflow_add-end c =
-    omega (arith, (small c.before.before.before.before.before).body-most)
+    omega (arith, (small c.before.before.before.before.before.before).body-most)

@@ -12,3 +12,15 @@ pub returns : goal.returns
 unfolding refusal_text
 returns c =
     wrote-more (wrote-more c.copy-at.ensures c.write_number-end.ensures) c.put.ensures
+
+pub copy-at-requires : goal.copy-at-requires
+copy-at-requires c =
+    omega (arith, refusal-long c.args.n)
+
+pub write_number-end-requires : goal.write_number-end-requires
+write_number-end-requires c =
+    omega (arith, refusal-long c.args.n)
+
+pub put-requires : goal.put-requires
+put-requires c =
+    omega (arith, refusal-long c.args.n)
