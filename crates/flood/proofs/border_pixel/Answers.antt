@@ -83,7 +83,7 @@ overflow_sub-h c =
 
 pub overflow_mul-result-then-y-h : goal.overflow_mul-result-then-y-h
 overflow_mul-result-then-y-h c =
-    omega (arith, in-first-column c, small c.before)
+    omega (arith, in-first-column c, small c.before.before.before)
 
 pub returns-then-y-h : goal.returns-then-y-h
 returns-then-y-h c =
@@ -99,7 +99,7 @@ overflow_sub-result-3 c =
 
 pub overflow_mul-result-2 : goal.overflow_mul-result-2
 overflow_mul-result-2 c =
-    omega (arith, in-last-column c, small c.before)
+    omega (arith, in-last-column c, small c.before.before.before)
 
 pub overflow_sub-result-4 : goal.overflow_sub-result-4
 overflow_sub-result-4 c =
@@ -107,7 +107,7 @@ overflow_sub-result-4 c =
 
 pub overflow_add-result-2 : goal.overflow_add-result-2
 overflow_add-result-2 c =
-    omega (arith, in-last-column c, small c.before)
+    omega (arith, in-last-column c, small c.before.before.before)
 
 pub returns : goal.returns
 returns c =

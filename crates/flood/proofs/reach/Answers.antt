@@ -40,8 +40,7 @@ going c =
 
 pub loop-top-init : goal.loop-top-init
 loop-top-init c =
-    let b : At-After-seed_border = c.before.before.before.before in
-    (refl, refl, (b.args.out.now, b.requires.closed, going b), λ mask g r. r)
+    (refl, refl, (c.args.out.now, c.requires.closed, going c.before.before.before.before.before), λ mask g r. r)
 
 -- a spread is asked rightly
 ready : (c : At-In-loop) → Spreads c.args.w (state-1 c.before)
@@ -56,19 +55,17 @@ module _ (c : At-After-spread) where
 pub loop-top-smaller : goal.loop-top-smaller
 unfolding total
 loop-top-smaller c =
-    let b : At-After-spread = c.before.before.before.before in
-    let e : state-2 b ≡ spread_top b.args.w (state-1 b) = b.spread.ensures in
-    omega (arith, ap total e, spread-total (ready b.before.before.before))
+    let e : state-2 c.before.before.before.before.before ≡ spread_top c.args.w (state-1 c.before.before.before.before.before.before.before.before.before) = c.spread-top.ensures in
+    omega (arith, ap total e, spread-total (ready c.before.before.before.before.before.before.before.before))
 
 pub loop-top-preserved : goal.loop-top-preserved
 loop-top-preserved c =
-    let b : At-After-spread = c.before.before.before.before in
-    let i = b.loop.invariant in
+    let i = c.loop-top.invariant in
     let m = i.2 in (
-      b.spread.auto.1.1.0 ∙ i.0,
-      b.spread.auto.1.1.1.0 ∙ i.1,
-      (m.0, m.1, goes_on b m.0 m.1 m.2),
-      λ mask g r. goes_on b mask g (i.3 mask g r),
+      c.spread-top.auto.stack ∙ i.0,
+      c.spread-top.auto.out ∙ i.1,
+      (m.0, m.1, goes_on c.before.before.before.before.before m.0 m.1 m.2),
+      λ mask g r. goes_on c.before.before.before.before.before mask g (i.3 mask g r),
     )
 
 pub returns : goal.returns

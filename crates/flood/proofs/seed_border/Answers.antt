@@ -62,9 +62,8 @@ module _ (c : At-After-visit) where
 
 pub loop-k-preserved : goal.loop-k-preserved
 loop-k-preserved c =
-    let b : At-After-visit = c.before.before.before.before in
-    let i = b.loop.invariant in
-    (i.0, omega arith, b.visit.auto.1.1.1.0 ∙ i.2, kept b, i.4 ∙ rest (border b) _ _ _ (omega (arith, i.0)) (after_is b))
+    let i = c.loop-k.invariant in
+    (i.0, omega arith, c.visit-top.auto.stack ∙ i.2, kept c.before.before.before.before.before, i.4 ∙ rest (border c.before.before.before.before.before) _ _ _ (omega (arith, i.0)) (after_is c.before.before.before.before.before))
 
 pub returns : goal.returns
 returns c =

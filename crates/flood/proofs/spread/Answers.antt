@@ -24,9 +24,6 @@ At-After-visit2 = lts.After-visit2 tie.the-claims reads.Pre reads.Post tie.hande
 abbrev At-After-visit3 : Type 0
 At-After-visit3 = lts.After-visit3 tie.the-claims reads.Pre reads.Post tie.handed_clauses
 
-abbrev At-After-visit4 : Type 0
-At-After-visit4 = lts.After-visit4 tie.the-claims reads.Pre reads.Post tie.handed_clauses
-
 abbrev At-Start : Type 0
 At-Start = lts.Start tie.the-claims reads.Pre reads.Post tie.handed_clauses
 
@@ -49,7 +46,7 @@ module _ (c : At-After-visit-arg2) where
   p = pixel c.before.before.before.before.before.before
 
   above : leb w p ≡ true → c.wrapping_sub_usize.result ≡ p - w
-  above t = let z = c.wrapping_sub_usize in unwrapped z.ensures (omega (arith, z.type_inv)) (leb-true w p t)
+  above t = let z = c.wrapping_sub_usize in unwrapped z.ensures.value (omega (arith, z.type_inv)) (leb-true w p t)
 
 pub visit-t1-requires : goal.visit-t1-requires
 visit-t1-requires c =
@@ -94,7 +91,7 @@ module _ (c : At-After-visit-arg6) where
   left t =
       let z = c.wrapping_sub_usize-2 in
       let x = pixel c.before.before.before.before.before.before.before.before.before.before.before.before.before.before.before.before.before.before.before.before.before % c.args.w in
-      unwrapped z.ensures (omega (arith, z.type_inv)) (omega (arith, ltb-true 0 x t, mod-le (pixel c.before.before.before.before.before.before.before.before.before.before.before.before.before.before.before.before.before.before.before.before.before) c.args.w))
+      unwrapped z.ensures.value (omega (arith, z.type_inv)) (omega (arith, ltb-true 0 x t, mod-le (pixel c.before.before.before.before.before.before.before.before.before.before.before.before.before.before.before.before.before.before.before.before.before) c.args.w))
 
 pub visit-t3-requires : goal.visit-t3-requires
 visit-t3-requires c =
@@ -126,12 +123,8 @@ visit-requires c =
 pub returns : goal.returns
 unfolding spread_from
 returns c =
-    let four : At-After-visit4 = c.before.before.before.before in
-    let c3 = four.before in
-    let c2 = c3.before in
-    let o = c3.before in
-    ◌∙◌ {b = visit_if (ltb (pixel o % o.args.w) (o.args.w - 1)) (pixel o + 1) (state-3 c3)} four.visit4.ensures
-    (ap (visit_if _ _) (is-3 c3 ∙ ap (visit_if _ _) (is-2 c2 ∙ ap (visit_if _ _) (is-1 c2.before))))
+    ◌∙◌ {b = visit_if (ltb (pixel c.before.before.before.before.before.before.before.before.before.before.before.before.before.before.before.before.before.before.before.before.before.before.before.before.before.before.before.before.before.before.before.before.before.before % c.args.w) (c.args.w - 1)) (pixel c.before.before.before.before.before.before.before.before.before.before.before.before.before.before.before.before.before.before.before.before.before.before.before.before.before.before.before.before.before.before.before.before.before.before + 1) (state-3 c.before.before.before.before.before.before.before.before.before.before.before.before)} c.visit.ensures
+    (ap (visit_if _ _) (is-3 c.before.before.before.before.before.before.before.before.before.before.before.before ∙ ap (visit_if _ _) (is-2 c.before.before.before.before.before.before.before.before.before.before.before.before.before.before.before.before.before.before.before.before ∙ ap (visit_if _ _) (is-1 c.before.before.before.before.before.before.before.before.before.before.before.before.before.before.before.before.before.before.before.before.before.before.before.before.before.before.before))))
 
 pub overflow_sub-t0 : goal.overflow_sub-t0
 overflow_sub-t0 c =

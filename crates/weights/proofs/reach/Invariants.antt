@@ -23,7 +23,7 @@ reached alpha threshold k = bit (on_of (get_or alpha k 0) threshold)
 
 abbrev pub invariant-loop-i : goal.invariant-loop-i
 invariant-loop-i l =
-    (l.i ≤ length l.initial.mask) × (length l.mask ≡ length l.initial.mask) × ((k : ℕ) → k < l.i → get_or l.mask k 0 ≡ reached l.alpha (to_z w64 l.threshold) k)
+    (l.i ≤ length l.initial.mask) × (length l.mask ≡ length l.initial.mask) × ((k : ℕ) → k < l.i → get_or l.mask k 0 ≡ reached l.alpha l.threshold k)
 
 abbrev pub decreases-loop-i : goal.decreases-loop-i
 decreases-loop-i l = length l.initial.mask - l.i

@@ -15,7 +15,7 @@ use Rattle.weights.proofs.some_reach.Given as goal
 
 abbrev pub invariant-loop-i : goal.invariant-loop-i
 invariant-loop-i l =
-    (l.i ≤ length l.alpha) × (l.found ≡ some_below l.i (λ (k : ℕ). on_of (get_or l.alpha k 0) (to_z w64 l.threshold)))
+    (l.i ≤ length l.alpha) × (l.found ≡ some_below l.i (λ (k : ℕ). on_of (get_or l.alpha k 0) l.threshold))
 
 abbrev pub decreases-loop-i : goal.decreases-loop-i
 decreases-loop-i l = length l.alpha - l.i

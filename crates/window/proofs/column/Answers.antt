@@ -30,8 +30,8 @@ At-Then2 = lts.Then2 tie.the-claims reads.Pre reads.Post tie.handed_clauses
 near : (c : At-After-apart) → c.apart-d.result * c.apart-d.result ≤ 36
 unfolding apart
 near c =
-    let p = c.requires.1 in
-    square_le {a = c.apart-d.result} {b = 6} (omega (arith, c.apart-d.ensures, p.0, p.1.0))
+    let p = c.requires in
+    square_le {a = c.apart-d.result} {b = 6} (omega (arith, c.apart-d.ensures, c.requires.i_bound, c.requires.x_bound))
 
 module _ (c : At-After-gap) where
   -- how far the column is, and in it the pixel
@@ -54,20 +54,20 @@ module _ (c : At-After-gap) where
 pub returns-then-best-far : goal.returns-then-best-far
 returns-then-best-far c =
     let p = c.requires in
-    passed p.0 c.apart-d.ensures c.gap-e.ensures p.1.1.1 c.if-best-far.true
+    passed c.requires.inside c.apart-d.ensures c.gap-e.ensures c.requires.searched c.if-best-far.true
 
 -- the pixel above
 above : (c : At-Then2) → (e c.before.before.before.before ≤ c.args.y) × Taken c.before.before.before.before (c.args.y - e c.before.before.before.before)
 above c =
     let p = c.requires in
-    taken-up p.0 c.apart-d.ensures c.gap-e.ensures p.1.1.1 c.if-best-far.false
+    taken-up c.requires.inside c.apart-d.ensures c.gap-e.ensures c.requires.searched c.if-best-far.false
     (sym c.up.ensures ∙ c.if-up.true)
 
 -- the pixel below, else
 below : (c : At-Else2) → Taken c.before.before.before.before (c.args.y + e c.before.before.before.before)
 below c =
     let p = c.requires in
-    taken-down p.0 c.apart-d.ensures c.gap-e.ensures p.1.1.1 c.if-best-far.false
+    taken-down c.requires.inside c.apart-d.ensures c.gap-e.ensures c.requires.searched c.if-best-far.false
     (sym c.up.ensures ∙ c.if-up.false)
 
 pub overflow_mul-across : goal.overflow_mul-across
@@ -76,7 +76,11 @@ overflow_mul-across c =
 
 pub gap-e-requires : goal.gap-e-requires
 gap-e-requires c =
-    let p = c.requires in (p.0, (near c.before, p.1.1.1.low))
+    let p = c.requires in record {
+      inside = c.requires.inside;
+      across_bound = near c.before;
+      far_bound = c.requires.searched.low;
+    }
 
 pub overflow_mul-far : goal.overflow_mul-far
 overflow_mul-far c =

@@ -12,7 +12,7 @@ use Rattle.window.proofs.window.Reads as reads
 use Rattle.window.proofs.window.Lts as lts
 use Rattle.window.proofs.window.Invariants.{Ends}
 use Rattle.window.proofs.window.Goals as goal
-use Rattle.window.proofs.window.Goals.{else-x-lt6, then-x-lt6}
+use Rattle.window.proofs.window.Goals.{else-x-lt6, then-x-lt6, else-x-w, then-x-w}
 
 abbrev At-Joined1 : Type 0
 At-Joined1 = lts.Joined1 tie.the-claims reads.Pre reads.Post goal.the-invariant-loop-i goal.the-decreases-loop-i tie.handed_clauses
@@ -27,10 +27,10 @@ begin c = elim c.if-x-lt6.branch [ then-x-lt6 u ↦ (omega arith, omega arith) |
 end : (c : At-Joined2) → let a = c.args in Ends a.x a.w c.if-x-w.to
 end c =
     let o = c.requires.column in
-    ⊎_elim
-    (λ u. (inr (omega arith), omega arith, omega arith, omega arith))
-    (λ u. (inl (omega arith), omega arith, omega arith, omega arith))
-    c.if-x-w.branch
+    elim c.if-x-w.branch [
+      then-x-w u ↦ (inr (omega arith), omega arith, omega arith, omega arith)
+    | else-x-w u ↦ (inl (omega arith), omega arith, omega arith, omega arith)
+    ]
 
 pub loop-i-init : goal.loop-i-init
 loop-i-init c =
@@ -43,10 +43,12 @@ pub column-best-requires : goal.column-best-requires
 column-best-requires c =
     let i = c.loop-i.invariant in
     let p = c.requires in
-    let t = c.loop-i-test.true in (
-      record { sides = p.sides; long = p.long; row = p.row; column = omega (arith, i.0.1) },
-      (omega (arith, i.0.2), (i.2, i.3)),
-    )
+    let t = c.loop-i-test.true in record {
+      inside = record { sides = p.sides; long = p.long; row = p.row; column = omega (arith, i.0.1) };
+      i_bound = omega (arith, i.0.2);
+      x_bound = i.2;
+      searched = i.3;
+    }
 
 pub loop-i-preserved : goal.loop-i-preserved
 loop-i-preserved c =
