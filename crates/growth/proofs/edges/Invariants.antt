@@ -1,0 +1,19 @@
+-- `growth::edges` meets its contract.
+-- Assumes nothing.
+use mathlib.Core.Path.{◌≡◌, ap, ◌∙◌}
+use Prim.Native.Nat.{ℕ, ◌-◌, ◌≤◌}
+use native.Mathlib.Omega.{arith}
+use lib.ListN.{length}
+use borrow.Author.Rules.{rules}
+use Rattle.plane.specs.Plane.{bit, table}
+use Rattle.plane.specs.Mask.{mask_of}
+use Rattle.plane.proofs.Mask.{off_byte}
+use Rattle.plane.proofs.InPlace.{Changed, changed-none, changed-more, changed-end}
+use Rattle.growth.specs.steps.Marks.{edge_test}
+use Rattle.growth.proofs.edges.Given as goal
+
+abbrev pub invariant-loop-i : goal.invariant-loop-i
+invariant-loop-i l = (l.i ≤ length l.back) × Changed 0 (λ (k : ℕ). bit (edge_test l.some l.back l.shallow k)) l.initial.marks l.marks l.i
+
+abbrev pub decreases-loop-i : goal.decreases-loop-i
+decreases-loop-i l = length l.back - l.i

@@ -1,0 +1,9 @@
+-- `growth::joins_with` meets its contract.
+-- Assumes nothing.
+use borrow.Author.Rules.{rules}
+use Rattle.growth.specs.steps.Marks.{joins_with}
+use Rattle.growth.proofs.joins_with.Goals as goal
+
+pub returns : goal.returns
+unfolding joins_with
+returns c = cc

@@ -1,0 +1,39 @@
+-- `growth::lay` meets its contract.
+-- Assumes nothing.
+use mathlib.Core.Path.{◌≡◌, ap, ◌∙◌}
+use mathlib.Core.List.{List}
+use Prim.Native.Nat.{ℕ, ◌*◌}
+use native.Mathlib.Omega.{arith}
+use borrow.Author.Rules.{rules}
+use Rattle.plane.specs.Mask.{mask_of}
+use Rattle.plane.specs.steps.Complement.{complement_of}
+use Rattle.outline.specs.Growth.{is_shallow}
+use Rattle.growth.proofs.Laying.{deep-laid, shallow-laid, edge-laid}
+use Rattle.growth.proofs.lay.Goals as goal
+
+pub edges-requires : goal.edges-requires
+edges-requires c =
+    let p = c.requires in record {
+      shallow_len = omega (arith, c.complement-2.auto.mask, c.dilate-2.auto.out, p.back_len, p.shallow_len);
+      marks_len = omega (arith, c.dilate-2.auto.work, c.dilate.auto.work, p.back_len, p.marks_len);
+    }
+
+pub returns : goal.returns
+returns c =
+    let a = c.args in
+    let wide = c.requires.sides.some-columns in
+    let shallow : List ℕ = c.complement-2.new.mask in
+    let shallow-made : shallow ≡ mask_of (a.h * a.w) (is_shallow a.back.now a.h a.w) =
+    c.complement-2.ensures
+    ∙ ap complement_of c.dilate-2.ensures.out_after
+    ∙ shallow-laid a.back.now a.h a.w wide in
+    record {
+      shallow-is = shallow-made;
+      deep_is =
+          c.complement.ensures
+          ∙ ap complement_of c.dilate.ensures.out_after
+          ∙ deep-laid a.back.now a.h a.w wide;
+      marks-are =
+          c.edges.ensures
+          ∙ rw (c.any-some.ensures, c.requires.back_len) (edge-laid a.back.now a.h a.w wide shallow shallow-made);
+    }

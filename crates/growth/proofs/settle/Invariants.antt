@@ -1,0 +1,21 @@
+-- `growth::settle` meets its contract.
+-- Assumes nothing.
+use mathlib.Core.Path.{◌≡◌, refl, ap, ◌∙◌}
+use mathlib.Core.Bool.{◌||◌}
+use Prim.Native.Nat.{ℕ, ◌-◌, ◌≤◌}
+use native.Mathlib.Omega.{arith}
+use lib.ListN.{length}
+use borrow.Author.Rules.{rules}
+use Rattle.plane.specs.Plane.{on, bit}
+use Rattle.plane.specs.Search.{some_below}
+use Rattle.plane.specs.Mask.{is_on, mask_of}
+use Rattle.plane.proofs.Search.{some_more}
+use Rattle.plane.proofs.InPlace.{Changed, changed-none, changed-more, changed-end}
+use Rattle.growth.proofs.settle.Given as goal
+
+abbrev pub invariant-loop-i : goal.invariant-loop-i
+invariant-loop-i l =
+    (l.i ≤ length l.initial.back) × Changed 0 (λ (k : ℕ). bit (is_on l.initial.back k || is_on l.marks k)) l.initial.back l.back l.i × (l.joined ≡ some_below l.i (is_on l.marks))
+
+abbrev pub decreases-loop-i : goal.decreases-loop-i
+decreases-loop-i l = length l.initial.back - l.i

@@ -1,0 +1,17 @@
+-- `growth::tidy` meets its contract.
+-- Assumes nothing.
+use mathlib.Core.Path.{ap, ◌∙◌}
+use Prim.Native.Nat.{ℕ, ◌-◌, ◌≤◌}
+use native.Mathlib.Omega.{arith}
+use lib.ListN.{length}
+use borrow.Author.Rules.{rules}
+use Rattle.plane.specs.Plane.{on, bit}
+use Rattle.plane.specs.Mask.{is_on, mask_of}
+use Rattle.plane.proofs.InPlace.{Changed, changed-none, changed-more, changed-end}
+use Rattle.growth.proofs.tidy.Given as goal
+
+abbrev pub invariant-loop-i : goal.invariant-loop-i
+invariant-loop-i l = (l.i ≤ length l.initial.back) × Changed 0 (λ (k : ℕ). bit (is_on l.initial.back k)) l.initial.back l.back l.i
+
+abbrev pub decreases-loop-i : goal.decreases-loop-i
+decreases-loop-i l = length l.initial.back - l.i

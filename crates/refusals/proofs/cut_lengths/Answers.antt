@@ -1,0 +1,55 @@
+-- `refusals::cut_lengths` meets its contract.
+-- Assumes nothing.
+use mathlib.Core.Path.{◌≡◌, sym, ◌∙◌}
+use mathlib.Core.Bool.{true}
+use Prim.Native.Nat.{◌*◌, ◌≤◌}
+use native.Mathlib.Omega.{arith}
+use borrow.Author.Rules.{rules}
+use borrow.Author.Tests.{not-true, not-false}
+use Rattle.plane.specs.Refusal.{refusal_of, sides_ok}
+use Rattle.plane.proofs.Refusal.{joined, sides-are, accepted-area}
+use Rattle.outline.specs.Refusal.{cut_lengths}
+use Rattle.refusals.proofs.cut_lengths.Tie as tie
+use Rattle.refusals.proofs.cut_lengths.Reads as reads
+use Rattle.refusals.proofs.cut_lengths.Lts as lts
+use Rattle.refusals.proofs.cut_lengths.Goals as goal
+
+abbrev At-Else1 : Type 0
+At-Else1 = lts.Else1 tie.the-claims reads.Pre reads.Post
+
+-- the sides are accepted
+ok : (c : At-Else1) → sides_ok c.args.h c.args.w ≡ true
+ok c = sym c.sides_ok.ensures ∙ c.if-not-sides_ok.false
+
+small : (c : At-Else1) → c.args.h * c.args.w ≤ 4294967296
+small c = accepted-area _ _ (ok c)
+
+pub returns-then-not-sides_ok : goal.returns-then-not-sides_ok
+unfolding cut_lengths refusal_of
+returns-then-not-sides_ok c = rw (sym c.sides_ok.ensures ∙ c.if-not-sides_ok.true)
+
+pub returns-then-mask-n : goal.returns-then-mask-n
+unfolding cut_lengths refusal_of
+returns-then-mask-n c =
+    rw (joined, joined, ← c.room.ensures, ok c.before.before.before.before, c.if-colours-n.true, c.if-mask-n.true)
+    c.work_lengths.ensures
+
+pub returns-then-colours-n : goal.returns-then-colours-n
+unfolding cut_lengths refusal_of
+returns-then-colours-n c = rw (joined, joined, ok c.before.before, c.if-colours-n.true, c.if-mask-n.false)
+
+pub returns : goal.returns
+unfolding cut_lengths refusal_of
+returns c = rw (joined, ok c.before, c.if-colours-n.false)
+
+pub overflow_mul-n : goal.overflow_mul-n
+overflow_mul-n c =
+    omega (arith, small c)
+
+pub overflow_mul-n-2 : goal.overflow_mul-n-2
+overflow_mul-n-2 c =
+    omega (arith, small c)
+
+pub room-requires : goal.room-requires
+room-requires c =
+    sides-are _ _ (ok c.before.before)
