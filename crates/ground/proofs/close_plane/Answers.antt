@@ -43,7 +43,7 @@ pub close-requires : goal.close-requires
 close-requires c =
     let a = c.args in
     let ok = pixel-ok a.colours.now a.reference a.out.now c.loop-i.i c.requires (omega arith) in
-    record { first = ok; second = c.requires.well_formed }
+    record { first = ok; second = c.requires.good }
 
 pub loop-i-preserved : goal.loop-i-preserved
 loop-i-preserved c =

@@ -75,8 +75,10 @@ mostly-requires c =
 pub returns-then-not-mostly : goal.returns-then-not-mostly
 returns-then-not-mostly c =
     let a = c.args in
-    absent-few a.colours.now a.h a.w a.reference a.tolerance (close c.before.before.before.before.before.before.before.before.before) (length (close c.before.before.before.before.before.before.before.before.before)) c.clear.new.out
-    (close-pixels c.before.before.before.before.before.before.before.before.before) (sym (counted_is c.before.before.before.before.before.before) ∙ c.if-not-mostly.true) (close-long c.before.before.before.before.before.before.before.before.before, c.clear.ensures)
+    let both =
+      absent-few a.colours.now a.h a.w a.reference a.tolerance (close c.before.before.before.before.before.before.before.before.before) (length (close c.before.before.before.before.before.before.before.before.before)) c.clear.new.out
+      (close-pixels c.before.before.before.before.before.before.before.before.before) (sym (counted_is c.before.before.before.before.before.before) ∙ c.if-not-mostly.true) (close-long c.before.before.before.before.before.before.before.before.before, c.clear.ensures) in
+    record { value = both.0; out_after = both.1 }
 
 pub flood-requires : goal.flood-requires
 flood-requires c =
@@ -90,14 +92,18 @@ flood-requires c =
 pub returns-then-not-some_off : goal.returns-then-not-some_off
 returns-then-not-some_off c =
     let a = c.args in
-    absent-full _ _ _ _ _ (close c.before.before.before.before.before.before.before.before.before.before.before.before.before.before.before.before.before.before) (ground c.before.before.before.before.before.before.before.before.before.before.before) (close-pixels c.before.before.before.before.before.before.before.before.before.before.before.before.before.before.before.before.before.before) c.flood.ensures (ground-long c.before.before.before.before.before.before.before.before.before.before.before) (length (ground c.before.before.before.before.before.before.before.before.before.before.before)) _
-    (sym (off-is c.before.before.before.before.before.before) ∙ c.if-not-some_off.true) (ground-long c.before.before.before.before.before.before.before.before.before.before.before, c.clear-then-not-some_off.ensures)
+    let both =
+      absent-full _ _ _ _ _ (close c.before.before.before.before.before.before.before.before.before.before.before.before.before.before.before.before.before.before) (ground c.before.before.before.before.before.before.before.before.before.before.before) (close-pixels c.before.before.before.before.before.before.before.before.before.before.before.before.before.before.before.before.before.before) c.flood.ensures (ground-long c.before.before.before.before.before.before.before.before.before.before.before) (length (ground c.before.before.before.before.before.before.before.before.before.before.before)) _
+      (sym (off-is c.before.before.before.before.before.before) ∙ c.if-not-some_off.true) (ground-long c.before.before.before.before.before.before.before.before.before.before.before, c.clear-then-not-some_off.ensures) in
+    record { value = both.0; out_after = both.1 }
 
 pub returns : goal.returns
 returns c =
     let a = c.args in
-    found _ _ _ _ _ (close c.before.before.before.before.before.before.before.before.before.before.before.before.before.before) (ground c.before.before.before.before.before.before.before) (close-pixels c.before.before.before.before.before.before.before.before.before.before.before.before.before.before) c.flood.ensures (ground-long c.before.before.before.before.before.before.before)
-    (sym (counted_is c.before.before.before.before.before.before.before.before.before.before.before) ∙ c.if-not-mostly.left) (sym (off-is c.before.before) ∙ c.if-not-some_off.false)
+    let both =
+      found _ _ _ _ _ (close c.before.before.before.before.before.before.before.before.before.before.before.before.before.before) (ground c.before.before.before.before.before.before.before) (close-pixels c.before.before.before.before.before.before.before.before.before.before.before.before.before.before) c.flood.ensures (ground-long c.before.before.before.before.before.before.before)
+      (sym (counted_is c.before.before.before.before.before.before.before.before.before.before.before) ∙ c.if-not-mostly.false) (sym (off-is c.before.before) ∙ c.if-not-some_off.false) in
+    record { value = both.0; out_after = both.1 }
 
 pub shape_of-out-then-not-mostly : goal.shape_of-out-then-not-mostly
 shape_of-out-then-not-mostly c =

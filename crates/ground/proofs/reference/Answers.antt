@@ -44,8 +44,8 @@ returns c =
     let r = c.channel-r.ensures in
     let a = c.args in
     record {
-      value = reference-is a.colours.now a.h a.w _ _ _ r.0 g.0 b.0;
-      result_value = rgb-from _ r.1 g.1 b.1;
+      value = reference-is a.colours.now a.h a.w _ _ _ r.value g.value b.value;
+      result_value = rgb-from _ r.result_value g.result_value b.result_value;
     }
 
 pub channel-g-requires : goal.channel-g-requires
