@@ -3,14 +3,11 @@
 use mathlib.Core.Path.{◌≡◌, refl, sym, ap, ◌∙◌}
 use mathlib.Core.Bool.{Bool, true, false, cond, not, ◌&&◌}
 use mathlib.Core.List.{List, [], ◌∷◌}
-use mathlib.Core.Logic.{⊎_elim}
 use Prim.Native.Nat.{ℕ, ◌*◌}
 use native.Mathlib.Omega.{arith}
 use lib.ListN.{length, get_or}
 use lib.Ieee.{Float}
 use borrow.Author.Tests.{not-true}
-use types.Run.{OneOf}
-use denote.Enum.Declared.{tag_of}
 use Rattle.plane.specs.Plane.{on, table}
 use Rattle.plane.specs.Mask.{is_on, mask_of, some_off}
 use Rattle.plane.specs.steps.Complement.{complement_of}
@@ -25,21 +22,20 @@ use Rattle.outline.specs.Ground.{ground_of, is_found, ground_plane}
 use Rattle.outline.specs.Cut.{alpha_mask, is_sought, is_keyed, grown_ground, cut_mask}
 use Rattle.outline.specs.Answer.{ground_for}
 use Rattle.outline.specs.declared.Ground.{Ground}
-use Rattle.outline.specs.contracts.Ground as ground-type
 use Rattle.outline.specs.declared.Ground.TheVariants as ground
 use Rattle.cutting.specs.steps.Key.{keyed_plane}
 
 -- ---- what the search of the ground answered
 
 module _ (colours : List Float) (h w : ℕ) (reference : Rgb) (t : Float) where
-  no-so : (b : Bool) (q : Rgb) → OneOf (1 ∷ 2 ∷ []) (tag_of ground-type.the_type (cond b (ground.Found q) ground.Absent)) → b ≡ false
-  no-so true q e = ⊎_elim {C = true ≡ false} (λ z. absurd (omega arith)) (λ z. absurd (omega arith)) e
-  no-so false q e = refl
+  no-so : (b : Bool) (q : Rgb) → ((x : Rgb) → cond b (ground.Found q) ground.Absent ≡ ground.Found x → ⊥) → b ≡ false
+  no-so true q none = absurd (none q refl)
+  no-so false q none = refl
 
-  pub not_found : (g : Ground) → g ≡ ground_for 0 colours h w reference t → OneOf (1 ∷ 2 ∷ []) (tag_of ground-type.the_type g)
+  pub not_found : (g : Ground) → g ≡ ground_for 0 colours h w reference t → ((x : Rgb) → g ≡ ground.Found x → ⊥)
       → is_found colours h w reference t ≡ false
   unfolding ground_for
-  not_found g e o = no-so (is_found colours h w reference t) reference (rw e at o)
+  not_found g e none = no-so (is_found colours h w reference t) reference (λ x f. none x (e ∙ f))
 
   yes-so : (b : Bool) (q r : Rgb) → cond b (ground.Found q) ground.Absent ≡ ground.Found r → (b ≡ true) × (r ≡ q)
   yes-so true q r e = let z : q ≡ r = cc in (refl, sym z)

@@ -4,7 +4,7 @@ use mathlib.Core.Path.{◌≡◌, refl, sym, ap, ◌∙◌}
 use mathlib.Core.Bool.{Bool, true, false}
 use mathlib.Core.List.{List, ◌++◌, append_assoc}
 use mathlib.Core.Logic.{⊎_elim}
-use Prim.Native.Nat.{ℕ, zero, suc, ◌+◌, ◌*◌, ◌-◌, ◌/◌, ◌%◌, ◌≤◌, ◌<◌}
+use Prim.Native.Nat.{ℕ, zero, suc, ◌+◌, ◌*◌, ◌/◌, ◌%◌, ◌≤◌, ◌<◌}
 use native.Mathlib.Nat.{zero-mul, mul-zero, suc-mul, add-mul, one-mul, mul-le-mul, mul-le-mul_right, add-zero, zero-add}
 use native.Mathlib.Nat.{ne_of_lt, not-suc-le-zero, le_of_suc-le-suc, div-add-mod', div-lt_iff_lt-mul, mod-lt}
 use native.Mathlib.Numerals.{add-one}

@@ -1,6 +1,6 @@
 -- Masks: bytes of which 0 is off and any other on, by index.
 -- Assumes nothing.
-use Rattle.std.specs.Prelude.{ℕ, Bool, not, List, length, get_or}
+use Rattle.std.specs.Prelude.{ℕ, Bool, not, List, get_or}
 use Rattle.plane.specs.Plane.{on, bit, table}
 use Rattle.plane.specs.Search.{some_below}
 

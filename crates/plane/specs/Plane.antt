@@ -1,6 +1,6 @@
 -- Planes: h rows of w pixels, row by row; pixel (y, x) stands at index y * w + x.
 -- Assumes nothing.
-use Rattle.std.specs.Prelude.{ℕ, zero, suc, ◌+◌, ◌*◌, ◌-◌, ◌≤◌, Bool, cond, not, ◌&&◌, List, [], ◌∷◌, ◌++◌, eqb, leb, get_or}
+use Rattle.std.specs.Prelude.{ℕ, zero, suc, ◌+◌, ◌*◌, ◌-◌, Bool, cond, not, ◌&&◌, List, [], ◌∷◌, ◌++◌, eqb, leb, get_or}
 use Rattle.std.proofs.Math.Option.{Option, none, some}
 
 -- the largest side that the public calls accept (R1)

@@ -10,7 +10,6 @@ use native.Mathlib.Omega.{arith}
 use Rattle.plane.proofs.Search.{which}
 use Rattle.line.specs.steps.Part.{Written}
 use Rattle.line.specs.steps.Envelope.{site_at, start_at, Segments, InSegment}
-use borrow.Author.Rules.{rules}
 use Rattle.line.proofs.answer.Tie as tie
 use Rattle.line.proofs.answer.Reads as reads
 use Rattle.line.proofs.answer.Lts as lts

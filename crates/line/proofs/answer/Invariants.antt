@@ -1,16 +1,10 @@
 -- `line::answer` meets its contract: the segments are written from the last to the first.
 -- Assumes nothing.
-use mathlib.Core.Path.{◌≡◌, refl, sym, ap, ◌∙◌}
+use mathlib.Core.Path.{◌≡◌}
 use mathlib.Core.List.{List}
-use mathlib.Core.Logic.{⊎_elim}
-use Prim.Native.Nat.{ℕ, zero, suc, ◌+◌, ◌-◌, ◌≤◌, ◌<◌}
+use Prim.Native.Nat.{ℕ, ◌+◌, ◌≤◌, ◌<◌}
 use lib.ListN.{length, get_or}
-use native.Mathlib.Numerals.{add-one}
-use native.Mathlib.Omega.{arith}
-use Rattle.plane.proofs.Search.{which}
-use Rattle.line.specs.steps.Part.{Written}
-use Rattle.line.specs.steps.Envelope.{site_at, start_at, Segments, InSegment}
-use borrow.Author.Rules.{rules}
+use Rattle.line.specs.steps.Envelope.{start_at, InSegment}
 use Rattle.line.proofs.answer.Given as goal
 
 -- the segments from site q on are written: the places from end on

@@ -1,8 +1,7 @@
 -- `line::build` meets its contract.
 -- Assumes nothing.
-use mathlib.Core.Path.{◌≡◌, refl, ◌∙◌, subst}
-use Prim.Native.Nat.{ℕ, ◌-◌, ◌≤◌}
-use lib.ListN.{length}
+use mathlib.Core.Path.{refl, ◌∙◌, subst}
+use Prim.Native.Nat.{ℕ}
 use native.Mathlib.Omega.{arith}
 use Rattle.line.specs.steps.Envelope.{Stacked}
 use Rattle.line.proofs.Push.{nothing_yet, ready, stacked-skip, stacked-next}

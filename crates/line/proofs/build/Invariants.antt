@@ -1,11 +1,9 @@
 -- `line::build` meets its contract.
 -- Assumes nothing.
-use mathlib.Core.Path.{◌≡◌, refl, ◌∙◌, subst}
-use Prim.Native.Nat.{ℕ, ◌-◌, ◌≤◌}
+use mathlib.Core.Path.{◌≡◌}
+use Prim.Native.Nat.{◌-◌, ◌≤◌}
 use lib.ListN.{length}
-use native.Mathlib.Omega.{arith}
 use Rattle.line.specs.steps.Envelope.{Stacked}
-use Rattle.line.proofs.Push.{nothing_yet, ready, stacked-skip, stacked-next}
 use Rattle.line.proofs.build.Given as goal
 
 abbrev pub invariant-loop-u : goal.invariant-loop-u

@@ -1,9 +1,8 @@
 -- `line::fill` meets its contract.
 -- Assumes nothing.
 use mathlib.Core.Path.{refl}
-use Prim.Native.Nat.{ℕ, ◌-◌}
 use native.Mathlib.Omega.{arith}
-use Rattle.line.proofs.Part.{Filling, filling-none, filling-more, filling-end}
+use Rattle.line.proofs.Part.{filling-none, filling-more, filling-end}
 use Rattle.line.proofs.fill.Goals as goal
 
 pub loop-x-preserved : goal.loop-x-preserved

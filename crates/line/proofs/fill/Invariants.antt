@@ -1,9 +1,7 @@
 -- `line::fill` meets its contract.
 -- Assumes nothing.
-use mathlib.Core.Path.{refl}
 use Prim.Native.Nat.{ℕ, ◌-◌}
-use native.Mathlib.Omega.{arith}
-use Rattle.line.proofs.Part.{Filling, filling-none, filling-more, filling-end}
+use Rattle.line.proofs.Part.{Filling}
 use Rattle.line.proofs.fill.Given as goal
 
 abbrev pub invariant-loop-x : goal.invariant-loop-x

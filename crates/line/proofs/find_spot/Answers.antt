@@ -1,6 +1,6 @@
 -- `line::find_spot` meets its contract: the test says whether the top is as good as u at its own start.
 -- Assumes nothing.
-use mathlib.Core.Path.{◌≡◌, sym, ap, ◌∙◌, subst}
+use mathlib.Core.Path.{◌≡◌, ap, ◌∙◌, subst}
 use mathlib.Core.List.{List}
 use mathlib.Core.Logic.{⊎_elim}
 use Prim.Native.Nat.{ℕ, ◌+◌, ◌-◌, ◌*◌, ◌/◌, ◌≤◌, ◌<◌}
@@ -9,7 +9,6 @@ use native.Mathlib.Omega.{arith}
 use Rattle.plane.proofs.Search.{which}
 use Rattle.line.specs.steps.Envelope.{site_at, start_at, height_at, over_at, Stays, Tops}
 use Rattle.line.proofs.Squares.{square-fits}
-use borrow.Author.Rules.{rules}
 use Rattle.line.proofs.find_spot.Tie as tie
 use Rattle.line.proofs.find_spot.Reads as reads
 use Rattle.line.proofs.find_spot.Lts as lts

@@ -1,7 +1,6 @@
 -- `line::high` meets its contract.
 -- Assumes nothing.
 use native.Mathlib.Omega.{arith}
-use borrow.Author.Rules.{rules}
 use Rattle.line.proofs.Squares.{square-fits}
 use Rattle.line.proofs.high.Goals as goal
 

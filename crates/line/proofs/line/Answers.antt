@@ -6,8 +6,7 @@ use lib.ListN.{length}
 use native.Mathlib.Omega.{arith}
 use Rattle.line.specs.steps.Envelope.{Regions}
 use Rattle.line.specs.steps.Run.{Ends, Lone}
-use Rattle.line.proofs.Runs.{Passing, passing-none, own-next, lone-next, run-next, all_done}
-use borrow.Author.Rules.{rules}
+use Rattle.line.proofs.Runs.{passing-none, own-next, lone-next, run-next, all_done}
 use Rattle.line.proofs.line.Tie as tie
 use Rattle.line.proofs.line.Reads as reads
 use Rattle.line.proofs.line.Lts as lts

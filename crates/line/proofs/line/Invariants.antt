@@ -1,13 +1,7 @@
 -- `line::line` meets its contract.
 -- Assumes nothing.
-use mathlib.Core.Path.{◌≡◌}
-use Prim.Native.Nat.{◌-◌, ◌<◌}
-use lib.ListN.{length}
-use native.Mathlib.Omega.{arith}
-use Rattle.line.specs.steps.Envelope.{Regions}
-use Rattle.line.specs.steps.Run.{Ends, Lone}
-use Rattle.line.proofs.Runs.{Passing, passing-none, own-next, lone-next, run-next, all_done}
-use borrow.Author.Rules.{rules}
+use Prim.Native.Nat.{◌-◌}
+use Rattle.line.proofs.Runs.{Passing}
 use Rattle.line.proofs.line.Given as goal
 
 abbrev pub invariant-loop-x : goal.invariant-loop-x

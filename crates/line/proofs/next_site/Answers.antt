@@ -2,12 +2,11 @@
 -- Assumes nothing.
 use mathlib.Core.Path.{subst}
 use mathlib.Core.Logic.{⊎_elim}
-use Prim.Native.Nat.{ℕ, ◌+◌, ◌-◌, ◌≤◌, ◌<◌}
+use Prim.Native.Nat.{ℕ, ◌+◌, ◌≤◌, ◌<◌}
 use lib.ListN.{get_or}
 use native.Mathlib.Omega.{arith}
 use Rattle.plane.proofs.Search.{which}
 use Rattle.line.specs.steps.Line.{most_cost}
-use Rattle.line.specs.steps.Envelope.{Skips}
 use Rattle.line.proofs.next_site.Goals as goal
 
 pub loop-k-preserved : goal.loop-k-preserved

@@ -3,7 +3,6 @@
 use native.Mathlib.Omega.{arith}
 use Prim.Native.Nat.{◌+◌}
 use lib.ListN.{length-set}
-use borrow.Author.Rules.{rules}
 use Rattle.line.proofs.Push.{site_left, start-in, top_in, stacked-over, stacked-none}
 use Rattle.line.proofs.push_site.Goals as goal
 

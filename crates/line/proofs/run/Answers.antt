@@ -2,7 +2,6 @@
 -- Assumes nothing.
 use native.Mathlib.Omega.{arith}
 use Rattle.line.proofs.Runs.{segments, ran-spread, ran-none}
-use borrow.Author.Rules.{rules}
 use Rattle.line.proofs.run.Goals as goal
 
 pub returns-then-count-eq0 : goal.returns-then-count-eq0

@@ -1,9 +1,6 @@
 -- `line::run_end` meets its contract.
 -- Assumes nothing.
-use mathlib.Core.Path.{◌≡◌, subst}
-use Prim.Native.Nat.{ℕ, ◌+◌, ◌-◌, ◌≤◌}
-use lib.ListN.{get_or}
-use native.Mathlib.Omega.{arith}
+use Prim.Native.Nat.{◌-◌, ◌≤◌}
 use Rattle.line.proofs.run_end.Given as goal
 
 abbrev pub invariant-loop-k : goal.invariant-loop-k

@@ -1,13 +1,10 @@
 -- `plane::any` meets its contract.
 -- Assumes nothing.
-use mathlib.Core.Path.{◌≡◌, refl, ap, ◌∙◌}
-use Prim.Native.Nat.{ℕ, ◌-◌, ◌≤◌}
-use native.Mathlib.Omega.{arith}
+use mathlib.Core.Path.{◌≡◌}
+use Prim.Native.Nat.{◌-◌, ◌≤◌}
 use lib.ListN.{length}
-use Rattle.plane.specs.Plane.{on}
 use Rattle.plane.specs.Search.{some_below}
 use Rattle.plane.specs.Mask.{is_on}
-use Rattle.plane.proofs.Search.{some_more}
 use Rattle.plane.proofs.any.Given as goal
 
 abbrev pub invariant-loop-i : goal.invariant-loop-i

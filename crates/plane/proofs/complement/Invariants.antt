@@ -1,17 +1,11 @@
 -- `plane::complement` meets its contract.
 -- Assumes nothing.
-use mathlib.Core.Path.{ap, ◌∙◌}
 use mathlib.Core.Bool.{not}
 use Prim.Native.Nat.{ℕ, ◌-◌, ◌≤◌}
-use native.Mathlib.Omega.{arith}
-use lib.Dec.{eqb}
 use lib.ListN.{length}
-use borrow.Author.Rules.{rules}
 use Rattle.plane.specs.Plane.{bit}
-use Rattle.plane.specs.Mask.{is_on, mask_of}
-use Rattle.plane.specs.steps.Complement.{complement_of}
-use Rattle.plane.proofs.Mask.{off_byte}
-use Rattle.plane.proofs.InPlace.{Changed, changed-none, changed-more, changed-end}
+use Rattle.plane.specs.Mask.{is_on}
+use Rattle.plane.proofs.InPlace.{Changed}
 use Rattle.plane.proofs.complement.Given as goal
 
 abbrev pub invariant-loop-i : goal.invariant-loop-i

@@ -1,14 +1,11 @@
 -- `plane::some_off` meets its contract.
 -- Assumes nothing.
-use mathlib.Core.Path.{◌≡◌, refl, ap, ◌∙◌}
+use mathlib.Core.Path.{◌≡◌}
 use mathlib.Core.Bool.{not}
 use Prim.Native.Nat.{ℕ, ◌-◌, ◌≤◌}
 use lib.ListN.{length}
 use Rattle.plane.specs.Search.{some_below}
-use Rattle.plane.specs.Mask.{is_on, some_off}
-use Rattle.plane.proofs.Search.{some_more}
-use Rattle.plane.proofs.Mask.{off_byte}
-use native.Mathlib.Omega.{arith}
+use Rattle.plane.specs.Mask.{is_on}
 use Rattle.plane.proofs.some_off.Given as goal
 
 abbrev pub invariant-loop-i : goal.invariant-loop-i
