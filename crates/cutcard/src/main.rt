@@ -1,6 +1,8 @@
 // cutcard: a PAM file from standard input, the plain PBM file of its cut to standard output. stdin is the example of R43.
 #![tactic(auto)]
 
-fn main() {
-    cutfile::run();
+use std::io;
+
+fn main(rt: HostRuntime) -> io::Result<()> {
+    cutfile::run(&rt)
 }

@@ -2,6 +2,8 @@
 // mask.rs.
 #![tactic(auto)]
 
-fn main() {
-    cutfile::run();
+use std::io;
+
+fn main(rt: HostRuntime) -> io::Result<()> {
+    cutfile::run(&rt)
 }

@@ -13,6 +13,8 @@ ghost use Rattle.cutfile.specs.steps.Room.{Room, picture_text, answer_text, answ
 use outline::Outcome;
 use pam::{MOST_INPUT, MOST_PIXELS};
 use pam_header::Header;
+use std::io;
+use std::io::{Input, Read};
 
 // How many colours the largest picture has, and how many numbers a work buffer for it holds at least.
 const MOST_COLOURS: usize = 6912;
@@ -155,17 +157,19 @@ pub fn cutcard(input: &[u8], out: &mut [u8]) -> usize
 }
 
 // From standard input, until it ends or MOST_INPUT bytes are read, to standard output: what the programs run. No byte after
-// these matters (`first-bytes` in proofs/Laws.antt). A program has no exit status to give, so a text that standard output does
-// not take whole is said on standard error. It has no result, and so no contract.
-pub fn run() {
-    let mut input = [0u8; MOST_INPUT];
+// these matters (`first-bytes` in proofs/Laws.antt). A read that fails gives its error, and nothing is written. A text that
+// standard output does not take whole is said on standard error, and gives the error of that write. What is read and written
+// has no contract.
+pub fn run<R: Input + Print + Eprint + AllocGlobal>(rt: &R) -> io::Result<()> {
+    let mut input = Vec::new(rt.alloc());
     let mut out = [0u8; MOST_TEXT];
-    let n = io::read_full(libc::STDIN_FILENO, &mut input);
-    let r = cutcard(&input[..n], &mut out);
-    if !io::write_all(libc::STDOUT_FILENO, &out[..r]) {
-        io::write_all(
-            libc::STDERR_FILENO,
-            b"cutcard: the answer could not be written in full; remove what was written, see to the disk or the pipe, and run it again\n",
+    rt.reader().take(MOST_INPUT as u64).read_to_end(&mut input)?;
+    let r = cutcard(&input, &mut out);
+    let written = rt.write_all(&out[..r]);
+    if written.is_err() {
+        let _ = eprintln!(rt;
+            "cutcard: the answer could not be written in full; remove what was written, see to the disk or the pipe, and run it again"
         );
     }
+    written
 }

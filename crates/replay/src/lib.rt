@@ -25,6 +25,8 @@ use colour::{Rgb, Settings};
 use geometry::Labelled;
 use next_pass::NextPass;
 use outline::{Ground, Outcome};
+use std::io;
+use std::io::{Input, Read};
 
 const MOST_INPUT: usize = 262144;
 
@@ -240,112 +242,128 @@ fn picture(
 
 // ---- writing
 
-fn say(bytes: &[u8]) {
-    io::write_all(libc::STDOUT_FILENO, bytes);
+fn say<R: Print>(rt: &R, bytes: &[u8]) -> io::Result<()> {
+    rt.write_all(bytes)
 }
 
 // The line that starts here.
-fn say_line(input: &[u8], from: usize) {
+fn say_line<R: Print>(rt: &R, input: &[u8], from: usize) -> io::Result<()> {
     let end = skip(input, from, b'\n', 1);
     if input.len() < end {
-        return;
+        return Ok(());
     }
     if end < from {
-        return;
+        return Ok(());
     }
-    say(&input[from..end]);
+    say(rt, &input[from..end])
 }
 
-fn say_number(n: u64) {
+fn say_number<R: Print>(rt: &R, n: u64) -> io::Result<()> {
     let mut digits = [0u8; 20];
     let end = text::write_number(&mut digits, 0, n);
-    say(&digits[..end]);
+    say(rt, &digits[..end])
 }
 
 // A space and a number.
-fn say_word(n: usize) {
-    say(b" ");
-    say_number(n as u64);
+fn say_word<R: Print>(rt: &R, n: usize) -> io::Result<()> {
+    say(rt, b" ")?;
+    say_number(rt, n as u64)
 }
 
 // A row or a column; a negative one is -1.
-fn say_signed(v: i32) {
+fn say_signed<R: Print>(rt: &R, v: i32) -> io::Result<()> {
     if v < 0 {
-        say(b"-1");
+        say(rt, b"-1")
     } else {
-        say_number(v as u64);
+        say_number(rt, v as u64)
     }
 }
 
 // `yes` or `no` after a text, and a line end.
-fn say_whether(what: &[u8], yes: bool) {
-    say(what);
+fn say_whether<R: Print>(rt: &R, what: &[u8], yes: bool) -> io::Result<()> {
+    say(rt, what)?;
     if yes {
-        say(b" yes\n");
+        say(rt, b" yes\n")
     } else {
-        say(b" no\n");
+        say(rt, b" no\n")
     }
 }
 
 // `refused` and the number.
-fn say_refused(n: u32) {
-    say(b"refused");
-    say_word(n as usize);
-    say(b"\n");
+fn say_refused<R: Print>(rt: &R, n: u32) -> io::Result<()> {
+    say(rt, b"refused")?;
+    say_word(rt, n as usize)?;
+    say(rt, b"\n")
 }
 
 // Pixel i of a plane: for S its digit, for L its number, for N its pair.
-fn say_pixel(op: u8, mask: &[u8], labels: &[u32], rows: &[i32], columns: &[i32], i: usize) {
+fn say_pixel<R: Print>(
+    rt: &R,
+    op: u8,
+    mask: &[u8],
+    labels: &[u32],
+    rows: &[i32],
+    columns: &[i32],
+    i: usize,
+) -> io::Result<()> {
     if op == b'S' {
-        say_number(if text::byte_at(mask, i) == 0 { 0 } else { 1 });
-        return;
+        return say_number(rt, if text::byte_at(mask, i) == 0 { 0 } else { 1 });
     }
     if op == b'L' {
         if i < labels.len() {
-            say_number(plane::wide(labels[i]) as u64);
+            say_number(rt, plane::wide(labels[i]) as u64)?;
         }
-        return;
+        return Ok(());
     }
     if rows.len() <= i {
-        return;
+        return Ok(());
     }
     if columns.len() <= i {
-        return;
+        return Ok(());
     }
-    say_signed(rows[i]);
-    say(b",");
-    say_signed(columns[i]);
+    say_signed(rt, rows[i])?;
+    say(rt, b",")?;
+    say_signed(rt, columns[i])
 }
 
 // What stands after the pixel before place next: the line end, or for L and N a space.
-fn after_pixel(op: u8, next: usize, w: usize) {
+fn after_pixel<R: Print>(rt: &R, op: u8, next: usize, w: usize) -> io::Result<()> {
     if w == 0 {
-        return;
+        return Ok(());
     }
     if next % w == 0 {
-        say(b"\n");
-        return;
+        return say(rt, b"\n");
     }
     if op != b'S' {
-        say(b" ");
+        say(rt, b" ")?;
     }
+    Ok(())
 }
 
 // The pixels of a plane, as many as the mask has, in lines of w.
-fn say_plane(op: u8, mask: &[u8], labels: &[u32], rows: &[i32], columns: &[i32], w: usize) {
+fn say_plane<R: Print>(
+    rt: &R,
+    op: u8,
+    mask: &[u8],
+    labels: &[u32],
+    rows: &[i32],
+    columns: &[i32],
+    w: usize,
+) -> io::Result<()> {
     let mut i = 0usize;
     while i < mask.len() {
-        say_pixel(op, mask, labels, rows, columns, i);
+        say_pixel(rt, op, mask, labels, rows, columns, i)?;
         i += 1;
-        after_pixel(op, i, w);
+        after_pixel(rt, op, i, w)?;
     }
+    Ok(())
 }
 
 // A mask in lines of w digits.
-fn say_mask(mask: &[u8], w: usize) {
+fn say_mask<R: Print>(rt: &R, mask: &[u8], w: usize) -> io::Result<()> {
     let labels = [0u32; 1];
     let places = [0i32; 1];
-    say_plane(b'S', mask, &labels, &places, &places, w);
+    say_plane(rt, b'S', mask, &labels, &places, &places, w)
 }
 
 // A hexadecimal digit as a byte.
@@ -355,13 +373,14 @@ fn hex_digit(n: u64) -> u8 {
 }
 
 // 16 hexadecimal digits.
-fn say_hex(n: u64) {
+fn say_hex<R: Print>(rt: &R, n: u64) -> io::Result<()> {
     let mut unit = 0x1000_0000_0000_0000u64;
     while 0 < unit {
         let digit = [hex_digit(n / unit); 1];
-        say(&digit);
+        say(rt, &digit)?;
         unit /= 16;
     }
+    Ok(())
 }
 
 // The bits of a float; 0 for a NaN.
@@ -384,99 +403,143 @@ fn ends(list: &[f64], next: usize) -> bool {
 }
 
 // Where a run that started at first ends before place next, its length and its bits; where the next run starts.
-fn say_run(list: &[f64], first: usize, next: usize) -> usize {
+fn say_run<R: Print>(rt: &R, list: &[f64], first: usize, next: usize) -> io::Result<usize> {
     if next <= first {
-        return first;
+        return Ok(first);
     }
     if list.len() <= first {
-        return first;
+        return Ok(first);
     }
     if ends(list, next) {
-        say_number((next - first) as u64);
-        say(b" ");
-        say_hex(bits(list[first]));
-        say(b"\n");
-        return next;
+        say_number(rt, (next - first) as u64)?;
+        say(rt, b" ")?;
+        say_hex(rt, bits(list[first]))?;
+        say(rt, b"\n")?;
+        return Ok(next);
     }
-    first
+    Ok(first)
 }
 
 // The floats by their bits: a line for each run of equal ones.
-fn say_floats(list: &[f64]) {
+fn say_floats<R: Print>(rt: &R, list: &[f64]) -> io::Result<()> {
     let mut first = 0usize;
     let mut next = 0usize;
     while next < list.len() {
         next += 1;
-        first = say_run(list, first, next);
+        first = say_run(rt, list, first, next)?;
     }
+    Ok(())
 }
 
 // ---- the cases of geometry
 
 // The number of parts and the labels.
-fn say_labels(mask: &[u8], h: usize, w: usize, labels: &mut [u32]) {
+fn say_labels<R: Print>(
+    rt: &R,
+    mask: &[u8],
+    h: usize,
+    w: usize,
+    labels: &mut [u32],
+) -> io::Result<()> {
     let mut work = [0u32; WORK];
     let places = [0i32; 1];
     let answer = geometry::label4(mask, h, w, &mut work, labels);
     if let Labelled::Parts(parts) = answer {
-        say_number(parts as u64);
-        say(b"\n");
-        say_plane(b'L', mask, labels, &places, &places, w);
+        say_number(rt, parts as u64)?;
+        say(rt, b"\n")?;
+        say_plane(rt, b'L', mask, labels, &places, &places, w)?;
     }
+    Ok(())
 }
 
 // The dilated mask.
-fn say_squares(mask: &[u8], h: usize, w: usize, k: u64, dilated: &mut [u8]) {
+fn say_squares<R: Print>(
+    rt: &R,
+    mask: &[u8],
+    h: usize,
+    w: usize,
+    k: u64,
+    dilated: &mut [u8],
+) -> io::Result<()> {
     let mut work = [0u8; WORK];
     let answer = geometry::binary_dilation8(mask, h, w, k, &mut work, dilated);
     if geometry::refusal_of(answer) == 0 {
-        say_mask(dilated, w);
+        say_mask(rt, dilated, w)?;
     }
+    Ok(())
 }
 
 // The rows and columns of the nearest on-pixels.
-fn say_nearest(mask: &[u8], h: usize, w: usize, rows: &mut [i32], columns: &mut [i32]) {
+fn say_nearest<R: Print>(
+    rt: &R,
+    mask: &[u8],
+    h: usize,
+    w: usize,
+    rows: &mut [i32],
+    columns: &mut [i32],
+) -> io::Result<()> {
     let mut work = [0u32; WORK];
     let labels = [0u32; 1];
     let answer = geometry::feature_transform(mask, h, w, &mut work, rows, columns);
     if geometry::refusal_of(answer) == 0 {
-        say_plane(b'N', mask, &labels, rows, columns, w);
+        say_plane(rt, b'N', mask, &labels, rows, columns, w)?;
     }
+    Ok(())
 }
 
-fn geometry_answer(op: u8, mask: &[u8], h: usize, w: usize, k: u64) {
+fn geometry_answer<R: Print>(
+    rt: &R,
+    op: u8,
+    mask: &[u8],
+    h: usize,
+    w: usize,
+    k: u64,
+) -> io::Result<()> {
     let n = area(h, w);
     if op == b'L' {
         let mut labels = [0u32; MOST_PIXELS];
-        say_labels(mask, h, w, &mut labels[0..n]);
-        return;
+        return say_labels(rt, mask, h, w, &mut labels[0..n]);
     }
     if op == b'S' {
         let mut dilated = [0u8; MOST_PIXELS];
-        say_squares(mask, h, w, k, &mut dilated[0..n]);
-        return;
+        return say_squares(rt, mask, h, w, k, &mut dilated[0..n]);
     }
     let mut rows = [0i32; MOST_PIXELS];
     let mut columns = [0i32; MOST_PIXELS];
-    say_nearest(mask, h, w, &mut rows[0..n], &mut columns[0..n]);
+    say_nearest(rt, mask, h, w, &mut rows[0..n], &mut columns[0..n])
 }
 
 // The mask is read, and the answer written; where the next case starts.
-fn geometry_mask(input: &[u8], from: usize, op: u8, h: usize, w: usize, mask: &mut [u8]) -> usize {
+fn geometry_mask<R: Print>(
+    rt: &R,
+    input: &[u8],
+    from: usize,
+    op: u8,
+    h: usize,
+    w: usize,
+    mask: &mut [u8],
+) -> io::Result<usize> {
     let shades = [0.0f64; 1];
     let mut colours = [0.0f64; 1];
     let levels = b"\x00\x01\x02\x03\x04\x05\x06\x07\x08\x09";
     let body = skip(input, from, b'\n', 1);
     let next = picture(input, body, &shades, levels, &mut colours, mask);
-    say_line(input, from);
-    geometry_answer(op, mask, h, w, number(input, from, 3));
-    next
+    say_line(rt, input, from)?;
+    geometry_answer(rt, op, mask, h, w, number(input, from, 3))?;
+    Ok(next)
 }
 
-fn geometry_case(input: &[u8], from: usize, op: u8, h: usize, w: usize) -> usize {
+fn geometry_case<R: Print>(
+    rt: &R,
+    input: &[u8],
+    from: usize,
+    op: u8,
+    h: usize,
+    w: usize,
+) -> io::Result<usize> {
     let n = area(h, w);
     let mut mask = [0u8; MOST_PIXELS];
-    geometry_mask(input, from, op, h, w, &mut mask[0..n])
+    geometry_mask(rt, input, from, op, h, w, &mut mask[0..n])
 }
 
 // ---- the cases of keying
@@ -520,7 +583,8 @@ fn ground(
 }
 
 // The ground, or that there is none.
-fn say_ground(
+fn say_ground<R: Print>(
+    rt: &R,
     op: u8,
     colours: &[f64],
     h: usize,
@@ -528,28 +592,28 @@ fn say_ground(
     card: &[u8],
     tolerance: f64,
     mask: &mut [u8],
-) {
+) -> io::Result<()> {
     let answer = ground(op, colours, h, w, card, tolerance, mask);
     match answer {
         Ground::Found(_) => {
-            say(b"found\n");
-            say_mask(mask, w);
+            say(rt, b"found\n")?;
+            say_mask(rt, mask, w)
         }
-        Ground::Absent => say(b"absent\n"),
-        Ground::Refused(number) => say_refused(number),
+        Ground::Absent => say(rt, b"absent\n"),
+        Ground::Refused(number) => say_refused(rt, number),
     }
 }
 
 // `keyed`, 1 or 0, `crop` and its four numbers.
-fn say_crop(keyed: bool, crop: plane::Box) {
-    say(b"keyed");
-    say_word(if keyed { 1 } else { 0 });
-    say(b" crop");
-    say_word(crop.y0);
-    say_word(crop.y1);
-    say_word(crop.x0);
-    say_word(crop.x1);
-    say(b"\n");
+fn say_crop<R: Print>(rt: &R, keyed: bool, crop: plane::Box) -> io::Result<()> {
+    say(rt, b"keyed")?;
+    say_word(rt, if keyed { 1 } else { 0 })?;
+    say(rt, b" crop")?;
+    say_word(rt, crop.y0)?;
+    say_word(rt, crop.y1)?;
+    say_word(rt, crop.x0)?;
+    say_word(rt, crop.x1)?;
+    say(rt, b"\n")
 }
 
 // The cut, by the card's colour for a case that has it.
@@ -600,7 +664,8 @@ fn cut(
 }
 
 // The cut: flag, crop, mask and weights.
-fn say_cut(
+fn say_cut<R: Print>(
+    rt: &R,
     op: u8,
     colours: &[f64],
     alpha: &[u8],
@@ -610,15 +675,15 @@ fn say_cut(
     s: Settings,
     mask: &mut [u8],
     weights: &mut [f64],
-) {
+) -> io::Result<()> {
     let answer = cut(op, colours, alpha, h, w, card, s, mask, weights);
     match answer {
         Outcome::Done(keyed, crop) => {
-            say_crop(keyed, crop);
-            say_mask(mask, w);
-            say_floats(weights);
+            say_crop(rt, keyed, crop)?;
+            say_mask(rt, mask, w)?;
+            say_floats(rt, weights)
         }
-        Outcome::Refused(number) => say_refused(number),
+        Outcome::Refused(number) => say_refused(rt, number),
     }
 }
 
@@ -652,14 +717,15 @@ fn grow(
 }
 
 // A look at the pass that comes after a background: the joins, and the background after it.
-fn say_look(
+fn say_look<R: Print>(
+    rt: &R,
     colours: &[f64],
     background: &[u8],
     h: usize,
     w: usize,
     reference: Rgb,
     next: &mut [u8],
-) {
+) -> io::Result<()> {
     let mut nearest = [0u32; WORK];
     let mut shallow = [0u8; WORK];
     let mut deep = [0u8; WORK];
@@ -678,17 +744,18 @@ fn say_look(
     );
     match answer {
         NextPass::Joins(joins) => {
-            say(b"joins ");
-            say_number(joins);
-            say(b"\n");
-            say_mask(next, w);
+            say(rt, b"joins ")?;
+            say_number(rt, joins)?;
+            say(rt, b"\n")?;
+            say_mask(rt, next, w)
         }
-        NextPass::Refused(number) => say_refused(number),
+        NextPass::Refused(number) => say_refused(rt, number),
     }
 }
 
 // The pass that follows: ground, growth, and a look at the pass after it.
-fn say_following(
+fn say_following<R: Print>(
+    rt: &R,
     op: u8,
     colours: &[f64],
     h: usize,
@@ -697,19 +764,18 @@ fn say_following(
     s: Settings,
     background: &mut [u8],
     grown: &mut [u8],
-) {
+) -> io::Result<()> {
     let answer = ground(op, colours, h, w, card, s.key_bg_tolerance, background);
     match answer {
         Ground::Found(reference) => {
             let refusal = grow(colours, background, h, w, reference, s.key_bg_fringe, grown);
             if refusal != 0 {
-                say_refused(refusal);
-                return;
+                return say_refused(rt, refusal);
             }
-            say_look(colours, grown, h, w, reference, background);
+            say_look(rt, colours, grown, h, w, reference, background)
         }
-        Ground::Absent => say(b"absent\n"),
-        Ground::Refused(number) => say_refused(number),
+        Ground::Absent => say(rt, b"absent\n"),
+        Ground::Refused(number) => say_refused(rt, number),
     }
 }
 
@@ -764,7 +830,8 @@ fn agree_within(
 }
 
 // Where two pictures agree: within p + 3 and p + 4 of the first one's ground.
-fn say_agreement(
+fn say_agreement<R: Print>(
+    rt: &R,
     op: u8,
     a: &[f64],
     b: &[f64],
@@ -774,17 +841,16 @@ fn say_agreement(
     s: Settings,
     first: &mut [u8],
     near: &mut [u8],
-) {
+) -> io::Result<()> {
     let answer = ground(op, a, h, w, card, s.key_bg_tolerance, first);
     let Ground::Found(_) = answer else {
-        say(b"absent\n");
-        return;
+        return say(rt, b"absent\n");
     };
     let p = colour::passes(s) % 4096;
     let three = agree_within(a, b, first, h, w, p + 3, near);
     let four = agree_within(a, b, first, h, w, p + 4, near);
-    say_whether(b"agree within p + 3:", three);
-    say_whether(b"agree within p + 4:", four);
+    say_whether(rt, b"agree within p + 3:", three)?;
+    say_whether(rt, b"agree within p + 4:", four)
 }
 
 // Whether two masks are the same.
@@ -799,7 +865,8 @@ fn same(a: &[u8], b: &[u8]) -> bool {
 }
 
 // Where two pictures agree, both cuts, and whether their masks are the same.
-fn say_pair(
+fn say_pair<R: Print>(
+    rt: &R,
     op: u8,
     a: &[f64],
     b: &[f64],
@@ -811,24 +878,42 @@ fn say_pair(
     first: &mut [u8],
     second: &mut [u8],
     weights: &mut [f64],
-) {
-    say_agreement(op, a, b, h, w, card, s, first, second);
-    say_cut(op, a, alpha, h, w, card, s, first, weights);
-    say_cut(op, b, alpha, h, w, card, s, second, weights);
-    say_whether(b"same mask:", same(first, second));
+) -> io::Result<()> {
+    say_agreement(rt, op, a, b, h, w, card, s, first, second)?;
+    say_cut(rt, op, a, alpha, h, w, card, s, first, weights)?;
+    say_cut(rt, op, b, alpha, h, w, card, s, second, weights)?;
+    say_whether(rt, b"same mask:", same(first, second))
 }
 
 // The answer for one picture: ground, cut, or the pass that follows.
-fn answer(op: u8, colours: &[f64], alpha: &[u8], h: usize, w: usize, card: &[u8], s: Settings) {
+fn answer<R: Print>(
+    rt: &R,
+    op: u8,
+    colours: &[f64],
+    alpha: &[u8],
+    h: usize,
+    w: usize,
+    card: &[u8],
+    s: Settings,
+) -> io::Result<()> {
     let n = area(h, w);
     let mut mask = [0u8; MOST_PIXELS];
     if (op == b'G') | (op == b'g') {
-        say_ground(op, colours, h, w, card, s.key_bg_tolerance, &mut mask[0..n]);
-        return;
+        return say_ground(
+            rt,
+            op,
+            colours,
+            h,
+            w,
+            card,
+            s.key_bg_tolerance,
+            &mut mask[0..n],
+        );
     }
     if (op == b'F') | (op == b'f') {
         let mut grown = [0u8; MOST_PIXELS];
-        say_following(
+        return say_following(
+            rt,
             op,
             colours,
             h,
@@ -838,10 +923,10 @@ fn answer(op: u8, colours: &[f64], alpha: &[u8], h: usize, w: usize, card: &[u8]
             &mut mask[0..n],
             &mut grown[0..n],
         );
-        return;
     }
     let mut weights = [0.0f64; MOST_PIXELS];
     say_cut(
+        rt,
         op,
         colours,
         alpha,
@@ -851,11 +936,12 @@ fn answer(op: u8, colours: &[f64], alpha: &[u8], h: usize, w: usize, card: &[u8]
         s,
         &mut mask[0..n],
         &mut weights[0..n],
-    );
+    )
 }
 
 // The answer for two pictures.
-fn answer_pair(
+fn answer_pair<R: Print>(
+    rt: &R,
     op: u8,
     a: &[f64],
     b: &[f64],
@@ -864,12 +950,13 @@ fn answer_pair(
     w: usize,
     card: &[u8],
     s: Settings,
-) {
+) -> io::Result<()> {
     let n = area(h, w);
     let mut first = [0u8; MOST_PIXELS];
     let mut second = [0u8; MOST_PIXELS];
     let mut weights = [0.0f64; MOST_PIXELS];
     say_pair(
+        rt,
         op,
         a,
         b,
@@ -881,11 +968,12 @@ fn answer_pair(
         &mut first[0..n],
         &mut second[0..n],
         &mut weights[0..n],
-    );
+    )
 }
 
 // The pictures of a case are read, and the answer written; where the next case starts.
-fn keying_pictures(
+fn keying_pictures<R: Print>(
+    rt: &R,
     input: &[u8],
     from: usize,
     body: usize,
@@ -897,22 +985,23 @@ fn keying_pictures(
     colours: &mut [f64],
     other: &mut [f64],
     alpha: &mut [u8],
-) -> usize {
+) -> io::Result<usize> {
     let s = settings(input, from);
     let card = card_text(input, from, op);
-    say_line(input, from);
+    say_line(rt, input, from)?;
     let next = picture(input, body, shades, levels, colours, alpha);
     if (op != b'P') & (op != b'p') {
-        answer(op, colours, alpha, h, w, card, s);
-        return next;
+        answer(rt, op, colours, alpha, h, w, card, s)?;
+        return Ok(next);
     }
     let end = picture(input, next, shades, levels, other, alpha);
-    answer_pair(op, colours, other, alpha, h, w, card, s);
-    end
+    answer_pair(rt, op, colours, other, alpha, h, w, card, s)?;
+    Ok(end)
 }
 
 // The palette of a case, of n numbers, is read; where the next case starts.
-fn keying_palette(
+fn keying_palette<R: Print>(
+    rt: &R,
     input: &[u8],
     from: usize,
     op: u8,
@@ -921,7 +1010,7 @@ fn keying_palette(
     n: usize,
     shades: &mut [f64],
     levels: &mut [u8],
-) -> usize {
+) -> io::Result<usize> {
     let m = area(h, w);
     let mut colours = [0.0f64; 3 * MOST_PIXELS];
     let mut other = [0.0f64; 3 * MOST_PIXELS];
@@ -929,6 +1018,7 @@ fn keying_palette(
     let start = skip(input, from, b'\n', 1);
     let body = palette(input, start, n, shades, levels);
     keying_pictures(
+        rt,
         input,
         from,
         body,
@@ -943,14 +1033,22 @@ fn keying_palette(
     )
 }
 
-fn keying_case(input: &[u8], from: usize, op: u8, h: usize, w: usize) -> usize {
+fn keying_case<R: Print>(
+    rt: &R,
+    input: &[u8],
+    from: usize,
+    op: u8,
+    h: usize,
+    w: usize,
+) -> io::Result<usize> {
     let k = number(input, from, 3) as usize;
     if MOST_COLOURS < k {
-        return input.len();
+        return Ok(input.len());
     }
     let mut shades = [0.0f64; 3 * MOST_COLOURS];
     let mut levels = [0u8; MOST_COLOURS];
     keying_palette(
+        rt,
         input,
         from,
         op,
@@ -965,35 +1063,36 @@ fn keying_case(input: &[u8], from: usize, op: u8, h: usize, w: usize) -> usize {
 // ---- all cases
 
 // One case; where the next one starts. A plane that is empty or too large ends the run.
-fn one_case(input: &[u8], from: usize) -> usize {
+fn one_case<R: Print>(rt: &R, input: &[u8], from: usize) -> io::Result<usize> {
     let op = text::byte_at(input, from);
     let h = number(input, from, 1) as usize;
     let w = number(input, from, 2) as usize;
     if area(h, w) == 0 {
-        return input.len();
+        return Ok(input.len());
     }
     if (op == b'L') | (op == b'S') | (op == b'N') {
-        return geometry_case(input, from, op, h, w);
+        return geometry_case(rt, input, from, op, h, w);
     }
-    keying_case(input, from, op, h, w)
+    keying_case(rt, input, from, op, h, w)
 }
 
 // Every case; each is at least a byte long.
-fn cases(input: &[u8]) {
+fn cases<R: Print>(rt: &R, input: &[u8]) -> io::Result<()> {
     let mut from = 0usize;
     let mut turns = 0usize;
     while turns < input.len() {
         if input.len() <= from {
-            return;
+            return Ok(());
         }
-        from = one_case(input, from);
+        from = one_case(rt, input, from)?;
         turns += 1;
     }
+    Ok(())
 }
 
-// All of standard input, up to MOST_INPUT bytes.
-pub fn run() {
-    let mut input = [0u8; MOST_INPUT];
-    let n = io::read_full(libc::STDIN_FILENO, &mut input);
-    cases(&input[..n]);
+// All of standard input, up to MOST_INPUT bytes. A read or a write that fails ends the run.
+pub fn run<R: Input + Print + AllocGlobal>(rt: &R) -> io::Result<()> {
+    let mut input = Vec::new(rt.alloc());
+    rt.reader().take(MOST_INPUT as u64).read_to_end(&mut input)?;
+    cases(rt, &input)
 }

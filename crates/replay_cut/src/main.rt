@@ -3,6 +3,8 @@
 // and subject, put together with that colour for the median.
 #![tactic(auto)]
 
-fn main() {
-    replay::run();
+use std::io;
+
+fn main(rt: HostRuntime) -> io::Result<()> {
+    replay::run(&rt)
 }

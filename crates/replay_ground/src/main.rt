@@ -2,6 +2,8 @@
 // and were answered by mask.rs's label4 with that colour for the median.
 #![tactic(auto)]
 
-fn main() {
-    replay::run();
+use std::io;
+
+fn main(rt: HostRuntime) -> io::Result<()> {
+    replay::run(&rt)
 }

@@ -11,6 +11,8 @@
 // stdout is what mask.rs answered, and for a given colour its functions put together with that colour for the median.
 #![tactic(auto)]
 
-fn main() {
-    replay::run();
+use std::io;
+
+fn main(rt: HostRuntime) -> io::Result<()> {
+    replay::run(&rt)
 }

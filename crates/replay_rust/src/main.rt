@@ -1,6 +1,8 @@
 // Replays mask.rs's answers of labels, squares and nearest: stdin has the cases, stdout what mask.rs answered.
 #![tactic(auto)]
 
-fn main() {
-    replay::run();
+use std::io;
+
+fn main(rt: HostRuntime) -> io::Result<()> {
+    replay::run(&rt)
 }

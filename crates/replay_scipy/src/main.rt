@@ -1,6 +1,8 @@
 // Replays SciPy's answers of labels, squares and nearest: stdin has the cases, stdout what SciPy answered.
 #![tactic(auto)]
 
-fn main() {
-    replay::run();
+use std::io;
+
+fn main(rt: HostRuntime) -> io::Result<()> {
+    replay::run(&rt)
 }
