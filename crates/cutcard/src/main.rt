@@ -1,8 +1,6 @@
 // cutcard: a PAM file from standard input, the plain PBM file of its cut to standard output. stdin is the example of R43.
 #![tactic(auto)]
 
-use std::io;
-
-fn main(rt: HostRuntime) -> io::Result<()> {
-    cutfile::run(&rt)
+fn main(rt: HostRuntime) {
+    cutfile::run(&rt);
 }

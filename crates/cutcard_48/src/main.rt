@@ -2,8 +2,6 @@
 // mask.rs.
 #![tactic(auto)]
 
-use std::io;
-
-fn main(rt: HostRuntime) -> io::Result<()> {
-    cutfile::run(&rt)
+fn main(rt: HostRuntime) {
+    cutfile::run(&rt);
 }
