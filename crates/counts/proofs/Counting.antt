@@ -1,6 +1,6 @@
 -- Laws of counting below n, of the count of a window, and of its running value.
 -- Assumes nothing.
-use Rattle.std.proofs.Common.{◌≡◌, ℕ, zero, suc, ◌+◌, ◌-◌, ◌<◌, ◌≤◌, Bool, true, false, cond, ◌&&◌, ◌||◌, ltb, leb, ◌⊎◌, sym, refl, ◌∙◌, ⊎_elim, add-zero, add-one, arith, le-ltb, lt-ltb, le-leb}
+use Rattle.std.proofs.Common.{◌≡◌, ℕ, zero, suc, ◌+◌, ◌-◌, ◌<◌, ◌≤◌, Bool, true, false, cond, ◌&&◌, ◌||◌, ltb, leb, sym, refl, ◌∙◌, ⊎_elim, add-zero, add-one, arith, le-ltb, lt-ltb, le-leb}
 use borrow.Author.Tests.{lt-leb}
 use Rattle.plane.specs.Search.{some_below, count_below}
 use Rattle.plane.specs.Plane.{bit, apart}

@@ -1,7 +1,7 @@
 -- Labels: the parts of a mask that steps up, down, left or right over on-pixels join (SciPy's ndimage.label with its
 -- default structuring element), numbered from 1 in raster order of their first pixels. A pixel is named by its index, row * w + column.
 -- Assumes nothing.
-use Rattle.std.specs.Prelude.{◌≡◌, Bool, true, cond, ◌&&◌, ◌||◌, List, map, ℕ, zero, suc, ◌+◌, ◌*◌, ◌/◌, ◌%◌, eqb, leb, get_or}
+use Rattle.std.specs.Prelude.{◌≡◌, Bool, true, cond, ◌&&◌, ◌||◌, List, map, ℕ, zero, suc, ◌+◌, ◌*◌, ◌/◌, ◌%◌, eqb, get_or}
 use Rattle.plane.specs.Plane.{apart, table, plane_of}
 use Rattle.plane.specs.Search.{count_below}
 use Rattle.plane.specs.Mask.{is_on}

@@ -1,9 +1,9 @@
 -- `column_counts::balance` meets its contract. The loop's invariant: the parts before x are balanced.
 -- Assumes nothing.
-use Rattle.std.proofs.Common.{◌≡◌, ℕ, ◌+◌, ◌-◌, ◌≤◌, length, get_or, ap, ◌∙◌, ⊎_elim, le_refl, arith}
+use Rattle.std.proofs.Common.{◌≡◌, ◌+◌, get_or, ap, ◌∙◌, le_refl, arith}
 use Rattle.plane.specs.Plane.{table}
-use Rattle.plane.proofs.InPlace.{Changed, changed-none, changed-more, changed-end}
-use Rattle.counts.specs.steps.Parts.{full_byte, rest_of}
+use Rattle.plane.proofs.InPlace.{changed-none, changed-more, changed-end}
+use Rattle.counts.specs.steps.Parts.{full_byte}
 use Rattle.column_counts.specs.steps.Columns.{balanced_low, balanced_rest}
 use Rattle.column_counts.proofs.balance.Goals as goal
 use Rattle.column_counts.proofs.balance.Goals.{else-n-lt128, then-n-lt128}

@@ -1,10 +1,8 @@
 -- `column_counts::balance` meets its contract. The loop's invariant: the parts before x are balanced.
 -- Assumes nothing.
-use Rattle.std.proofs.Common.{◌≡◌, ℕ, ◌+◌, ◌-◌, ◌≤◌, length, get_or, ap, ◌∙◌, ⊎_elim, le_refl, arith}
-use Rattle.plane.specs.Plane.{table}
-use Rattle.plane.proofs.InPlace.{Changed, changed-none, changed-more, changed-end}
+use Rattle.std.proofs.Common.{ℕ, ◌+◌, ◌-◌, ◌≤◌, length, get_or}
+use Rattle.plane.proofs.InPlace.{Changed}
 use Rattle.counts.specs.steps.Parts.{full_byte, rest_of}
-use Rattle.column_counts.specs.steps.Columns.{balanced_low, balanced_rest}
 use Rattle.column_counts.proofs.balance.Given as goal
 
 abbrev pub invariant-loop-x : goal.invariant-loop-x

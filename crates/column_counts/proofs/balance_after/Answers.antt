@@ -1,6 +1,6 @@
 -- `column_counts::balance_after` meets its contract.
 -- Assumes nothing.
-use Rattle.std.proofs.Common.{arith, rules}
+use Rattle.std.proofs.Common.{arith}
 use Rattle.column_counts.proofs.Strips.{counted-new}
 use Rattle.column_counts.proofs.balance_after.Goals as goal
 

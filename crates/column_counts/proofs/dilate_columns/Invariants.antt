@@ -1,10 +1,7 @@
 -- `column_counts::dilate_columns` meets its contract. The loop's invariant: the columns before column c are written.
 -- Assumes nothing.
-use Rattle.std.proofs.Common.{◌≡◌, ℕ, ◌+◌, ◌-◌, ◌<◌, ◌≤◌, List, length, get_or, take, replicate, sym, refl, ap, ◌∙◌, arith, length-take, get_or-take, rules}
-use lib.ListN.{length-replicate, get_or-replicate}
-use Rattle.column_counts.specs.steps.Columns.{Counted, Swept}
-use Rattle.counts.proofs.Parts.{split-new}
-use Rattle.column_counts.proofs.Strips.{none-swept, strip-swept, all-swept}
+use Rattle.std.proofs.Common.{◌-◌, ◌≤◌}
+use Rattle.column_counts.specs.steps.Columns.{Swept}
 use Rattle.column_counts.proofs.dilate_columns.Given as goal
 
 abbrev pub invariant-loop-c : goal.invariant-loop-c

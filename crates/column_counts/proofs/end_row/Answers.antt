@@ -1,6 +1,6 @@
 -- `column_counts::end_row` meets its contract.
 -- Assumes nothing.
-use Rattle.std.proofs.Common.{◌+◌, ◌∙◌, arith, rules, ltb-true}
+use Rattle.std.proofs.Common.{◌+◌, ◌∙◌, arith, ltb-true}
 use Rattle.counts.specs.Running.{enters, leaves}
 use Rattle.column_counts.proofs.end_row.Goals as goal
 

@@ -1,11 +1,8 @@
 -- `column_counts::enter_rows` meets its contract. The loop's invariant: the counts are those of the first j rows.
 -- Assumes nothing.
-use Rattle.std.proofs.Common.{◌≡◌, ℕ, ◌+◌, ◌-◌, ◌≤◌, Bool, length, sym, refl, ◌∙◌, arith}
+use Rattle.std.proofs.Common.{◌≡◌, ℕ, ◌+◌, ◌-◌, ◌≤◌, length}
 use Rattle.plane.specs.Search.{count_below}
-use Rattle.plane.proofs.Search.{count_most}
 use Rattle.column_counts.specs.steps.Columns.{on_down, Counted}
-use Rattle.counts.proofs.Counting.{count-more}
-use Rattle.column_counts.proofs.Strips.{counted-later, counted-as, counted-small, counted-enter}
 use Rattle.column_counts.proofs.enter_rows.Given as goal
 
 abbrev pub invariant-loop-j : goal.invariant-loop-j

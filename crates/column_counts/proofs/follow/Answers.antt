@@ -1,6 +1,6 @@
 -- `column_counts::follow` meets its contract.
 -- Assumes nothing.
-use Rattle.std.proofs.Common.{◌≡◌, ℕ, ◌+◌, ◌-◌, ◌*◌, ◌<◌, ◌≤◌, List, length, get_or, take, drop, ap, ◌∙◌, arith, rules, lt-ltb}
+use Rattle.std.proofs.Common.{◌≡◌, ℕ, ◌+◌, ◌-◌, ◌*◌, ◌<◌, ◌≤◌, List, length, get_or, take, drop, ap, ◌∙◌, arith, lt-ltb}
 use Rattle.plane.proofs.Plane.{area-most}
 use Rattle.plane.specs.Mask.{is_on}
 use Rattle.counts.specs.Running.{enters, leaves}
@@ -21,12 +21,11 @@ rows-here : (c : At-Else2)
     ((a.y + a.k) * a.w + a.c + length a.low.now ≤ a.h * a.w)
     × ((a.y - a.k - 1) * a.w + a.c + length a.low.now ≤ a.h * a.w)
     × (a.h * a.w ≤ 4294967296)
-rows-here c =
-    (
-      strip-in _ _ _ _ _ (omega arith) c.requires.strip.inside,
-      strip-in _ _ _ _ _ (omega (arith, c.requires.row)) c.requires.strip.inside,
-      area-most c.requires.strip.tall c.requires.strip.wide,
-    )
+rows-here c = (
+  strip-in _ _ _ _ _ (omega arith) c.requires.strip.inside,
+  strip-in _ _ _ _ _ (omega (arith, c.requires.row)) c.requires.strip.inside,
+  area-most c.requires.strip.tall c.requires.strip.wide,
+)
 
 pub returns : goal.returns
 unfolding enters leaves

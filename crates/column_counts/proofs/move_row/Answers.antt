@@ -1,7 +1,6 @@
 -- `column_counts::move_row` meets its contract.
 -- Assumes nothing.
-use Rattle.std.proofs.Common.{ℕ, ◌+◌, ◌*◌, ◌≤◌, List, length, get_or, sym, ap, ◌∙◌, arith, rules}
-use borrow.Author.Tests.{not-true, not-false}
+use Rattle.std.proofs.Common.{ℕ, ◌+◌, ◌*◌, ◌≤◌, List, length, get_or, sym, ap, ◌∙◌, arith}
 use Rattle.counts.proofs.Parts.{not-moved}
 use Rattle.column_counts.proofs.Strips.{strip-in, strip-pixel, moved_at}
 use Rattle.column_counts.proofs.move_row.Tie as tie

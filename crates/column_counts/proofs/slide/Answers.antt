@@ -1,6 +1,6 @@
 -- `column_counts::slide` meets its contract.
 -- Assumes nothing.
-use Rattle.std.proofs.Common.{ℕ, ◌+◌, Bool, sym, ◌∙◌, arith, rules}
+use Rattle.std.proofs.Common.{ℕ, ◌+◌, Bool, sym, ◌∙◌, arith}
 use Rattle.counts.specs.Running.{enters, leaves, running}
 use Rattle.counts.proofs.Counting.{leaves-held, running-most, running-count}
 use Rattle.column_counts.specs.steps.Columns.{on_down}

@@ -1,13 +1,13 @@
 -- `column_counts::step_line` meets its contract. The loop's invariant: the bytes before x are changed, and the pixels before x written.
 -- Assumes nothing.
-use Rattle.std.proofs.Common.{◌≡◌, ℕ, ◌-◌, ◌≤◌, cond, List, length, get_or, sym, ap, ◌∙◌, ⊎_elim, le_refl, arith, rules, ne_eqb}
+use Rattle.std.proofs.Common.{◌≡◌, ℕ, cond, List, length, get_or, sym, ap, ◌∙◌, le_refl, arith, ne_eqb}
 use Rattle.plane.specs.Plane.{on, bit, table}
 use Rattle.plane.proofs.Plane.{table_is}
 use Rattle.plane.specs.Mask.{is_on, mask_of}
 use Rattle.plane.proofs.Mask.{mask-same}
-use Rattle.plane.proofs.InPlace.{Changed, changed-none, changed-more}
+use Rattle.plane.proofs.InPlace.{changed-none, changed-more}
 use Rattle.counts.specs.steps.Parts.{changed, moved_line}
-use Rattle.counts.proofs.Begun.{Begun, begun-none, begun_more, begun-end}
+use Rattle.counts.proofs.Begun.{begun-none, begun_more, begun-end}
 use Rattle.column_counts.proofs.Strips.{moved_length, moved_at}
 use Rattle.column_counts.proofs.step_line.Goals as goal
 use Rattle.column_counts.proofs.step_line.Goals.{else-leave-x-ne0, then-leave-x-ne0}

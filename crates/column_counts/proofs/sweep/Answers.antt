@@ -1,14 +1,14 @@
 -- `column_counts::sweep` meets its contract. The loop's invariant: the counts are the running counts before the step to row y, and the
 -- first y rows are written.
 -- Assumes nothing.
-use Rattle.std.proofs.Common.{◌≡◌, ℕ, ◌+◌, ◌-◌, ◌*◌, ◌≤◌, List, length, get_or, sym, ap, ◌∙◌, add-one, arith, length-drop, length-take, rules}
+use Rattle.std.proofs.Common.{◌≡◌, ℕ, ◌+◌, ◌*◌, ◌≤◌, List, length, get_or, sym, ap, ◌∙◌, add-one, arith, length-drop, length-take}
 use Rattle.plane.specs.Search.{count_below}
 use Rattle.plane.specs.Mask.{is_on, mask_of}
 use Rattle.plane.proofs.Plane.{area-most}
 use Rattle.plane.proofs.Mask.{mask-length}
 use Rattle.counts.specs.Running.{running}
 use Rattle.counts.proofs.Counting.{lesser-is, running-count}
-use Rattle.column_counts.specs.steps.Columns.{on_down, Counted, Swept}
+use Rattle.column_counts.specs.steps.Columns.{on_down}
 use Rattle.column_counts.proofs.Strips.{strip-in, counted-as, column-tested, row-swept}
 use Rattle.column_counts.proofs.sweep.Tie as tie
 use Rattle.column_counts.proofs.sweep.Reads as reads

@@ -1,9 +1,9 @@
 -- `column_counts::test_line` meets its contract. The loop's invariant: the pixels before x are written.
 -- Assumes nothing.
-use Rattle.std.proofs.Common.{ℕ, ◌-◌, ◌≤◌, length, arith, rules}
-use Rattle.plane.specs.Plane.{on, bit}
+use Rattle.std.proofs.Common.{arith}
+use Rattle.plane.specs.Plane.{on}
 use Rattle.plane.specs.Mask.{is_on, mask_of}
-use Rattle.counts.proofs.Begun.{Begun, begun-none, begun_more, begun-end}
+use Rattle.counts.proofs.Begun.{begun-none, begun_more, begun-end}
 use Rattle.column_counts.proofs.test_line.Goals as goal
 
 pub loop-x-preserved : goal.loop-x-preserved

@@ -1,9 +1,9 @@
 -- `column_counts::test_line` meets its contract. The loop's invariant: the pixels before x are written.
 -- Assumes nothing.
-use Rattle.std.proofs.Common.{ℕ, ◌-◌, ◌≤◌, length, arith, rules}
-use Rattle.plane.specs.Plane.{on, bit}
-use Rattle.plane.specs.Mask.{is_on, mask_of}
-use Rattle.counts.proofs.Begun.{Begun, begun-none, begun_more, begun-end}
+use Rattle.std.proofs.Common.{ℕ, ◌-◌, ◌≤◌, length}
+use Rattle.plane.specs.Plane.{bit}
+use Rattle.plane.specs.Mask.{is_on}
+use Rattle.counts.proofs.Begun.{Begun}
 use Rattle.column_counts.proofs.test_line.Given as goal
 
 abbrev pub invariant-loop-x : goal.invariant-loop-x

@@ -1,9 +1,9 @@
 -- `counts::move_line` meets its contract. The loop's invariant: the bytes before x are changed.
 -- Assumes nothing.
-use Rattle.std.proofs.Common.{◌≡◌, ℕ, ◌-◌, ◌≤◌, cond, length, get_or, ◌∙◌, ⊎_elim, le_refl, arith, rules, ne_eqb}
+use Rattle.std.proofs.Common.{◌≡◌, cond, get_or, ◌∙◌, le_refl, arith, ne_eqb}
 use Rattle.plane.specs.Plane.{on}
 use Rattle.plane.specs.Mask.{is_on}
-use Rattle.plane.proofs.InPlace.{Changed, changed-none, changed-more, changed-end}
+use Rattle.plane.proofs.InPlace.{changed-none, changed-more, changed-end}
 use Rattle.counts.specs.steps.Parts.{changed, moved_line}
 use Rattle.counts.proofs.move_line.Goals as goal
 use Rattle.counts.proofs.move_line.Goals.{then-line-x-ne0, else-line-x-ne0}

@@ -1,10 +1,9 @@
 -- `counts::move_line` meets its contract. The loop's invariant: the bytes before x are changed.
 -- Assumes nothing.
-use Rattle.std.proofs.Common.{◌≡◌, ℕ, ◌-◌, ◌≤◌, cond, length, get_or, ◌∙◌, ⊎_elim, le_refl, arith, rules, ne_eqb}
-use Rattle.plane.specs.Plane.{on}
+use Rattle.std.proofs.Common.{ℕ, ◌-◌, ◌≤◌, length, get_or}
 use Rattle.plane.specs.Mask.{is_on}
-use Rattle.plane.proofs.InPlace.{Changed, changed-none, changed-more, changed-end}
-use Rattle.counts.specs.steps.Parts.{changed, moved_line}
+use Rattle.plane.proofs.InPlace.{Changed}
+use Rattle.counts.specs.steps.Parts.{changed}
 use Rattle.counts.proofs.move_line.Given as goal
 
 abbrev pub invariant-loop-x : goal.invariant-loop-x

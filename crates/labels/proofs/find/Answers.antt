@@ -4,7 +4,6 @@ use mathlib.Core.Path.{◌≡◌, refl, sym, ap, ◌∙◌}
 use Prim.Native.Nat.{ℕ, ◌≤◌, ◌<◌}
 use native.Mathlib.Omega.{arith}
 use lib.ListN.{length, get_or, length-set}
-use Rattle.labels.specs.steps.Trees.{Forest}
 use Rattle.labels.proofs.Forests.{parent-most, grandparent, halved}
 use Rattle.labels.proofs.find.Goals as goal
 

@@ -1,11 +1,9 @@
 -- `labels::find` meets its contract. The loop's invariant: the trees have the roots that they had, and a has the root of l.
 -- Assumes nothing.
-use mathlib.Core.Path.{◌≡◌, refl, sym, ap, ◌∙◌}
-use Prim.Native.Nat.{ℕ, ◌≤◌, ◌<◌}
-use native.Mathlib.Omega.{arith}
-use lib.ListN.{length, get_or, length-set}
+use mathlib.Core.Path.{◌≡◌}
+use Prim.Native.Nat.{ℕ, ◌≤◌}
+use lib.ListN.{length, get_or}
 use Rattle.labels.specs.steps.Trees.{Forest}
-use Rattle.labels.proofs.Forests.{parent-most, grandparent, halved}
 use Rattle.labels.proofs.find.Given as goal
 
 abbrev pub invariant-loop-b : goal.invariant-loop-b

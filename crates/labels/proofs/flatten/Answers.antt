@@ -2,11 +2,10 @@
 -- Assumes nothing.
 use mathlib.Core.Path.{◌≡◌}
 use mathlib.Core.Bool.{cond}
-use Prim.Native.Nat.{◌+◌, ◌-◌, ◌≤◌}
+use Prim.Native.Nat.{◌+◌}
 use native.Mathlib.Omega.{arith}
 use lib.Dec.{eqb}
 use lib.ListN.{get_or, set}
-use Rattle.labels.specs.steps.Trees.{Numbered}
 use Rattle.labels.proofs.Numbers.{count-few, none-numbered, one-numbered}
 use Rattle.labels.proofs.flatten.Goals as goal
 

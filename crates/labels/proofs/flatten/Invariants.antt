@@ -1,13 +1,7 @@
 -- `labels::flatten` meets its contract. The loop's invariant: the labels below k have their numbers.
 -- Assumes nothing.
-use mathlib.Core.Path.{◌≡◌}
-use mathlib.Core.Bool.{cond}
 use Prim.Native.Nat.{◌+◌, ◌-◌, ◌≤◌}
-use native.Mathlib.Omega.{arith}
-use lib.Dec.{eqb}
-use lib.ListN.{get_or, set}
 use Rattle.labels.specs.steps.Trees.{Numbered}
-use Rattle.labels.proofs.Numbers.{count-few, none-numbered, one-numbered}
 use Rattle.labels.proofs.flatten.Given as goal
 
 abbrev pub invariant-loop-k : goal.invariant-loop-k

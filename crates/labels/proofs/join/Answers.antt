@@ -2,7 +2,6 @@
 -- Assumes nothing.
 use mathlib.Core.Path.{◌≡◌, ◌∙◌}
 use native.Mathlib.Omega.{arith}
-use borrow.Author.Rules.{rules}
 use Prim.Native.Nat.{◌≤◌, ◌<◌}
 use lib.ListN.{length, length-set}
 use Rattle.labels.proofs.Forests.{roots-in, linked-less, linked-more}

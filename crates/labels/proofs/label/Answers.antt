@@ -4,7 +4,6 @@ use mathlib.Core.Path.{◌≡◌, ◌∙◌}
 use Prim.Native.Nat.{◌+◌, ◌*◌}
 use native.Mathlib.Omega.{arith}
 use lib.ListN.{length}
-use borrow.Author.Rules.{rules}
 use Rattle.labels.specs.steps.Trees.{Scanned, Numbered}
 use Rattle.labels.proofs.Numbers.{label-in, roots-all, numbers-are, labels-stay}
 use Rattle.labels.proofs.label.Tie as tie

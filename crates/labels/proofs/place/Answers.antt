@@ -2,7 +2,6 @@
 -- Assumes nothing.
 use mathlib.Core.Path.{refl}
 use mathlib.Core.Logic.{inl, inr}
-use borrow.Author.Rules.{rules}
 use Rattle.labels.specs.steps.Trees.{dark, fresh, from-above, from-left, from-both}
 use Rattle.labels.proofs.Forests.{positive}
 use Rattle.labels.proofs.place.Goals as goal

@@ -1,12 +1,11 @@
 -- `labels::rename` meets its contract. The loop's invariant: the labels before i are renamed.
 -- Assumes nothing.
 use mathlib.Core.Path.{ap}
-use Prim.Native.Nat.{ℕ, ◌-◌, ◌≤◌, ◌<◌}
+use Prim.Native.Nat.{ℕ, ◌<◌}
 use native.Mathlib.Nat.{le_refl}
 use native.Mathlib.Omega.{arith}
 use lib.ListN.{length, get_or}
-use Rattle.plane.proofs.InPlace.{Changed, changed-none, changed-more, changed-end}
-use Rattle.labels.proofs.rename.Tie as tie
+use Rattle.plane.proofs.InPlace.{changed-none, changed-more, changed-end}
 use Rattle.labels.proofs.rename.Reads as reads
 use Rattle.labels.proofs.rename.Lts as lts
 use Rattle.labels.proofs.rename.Goals as goal

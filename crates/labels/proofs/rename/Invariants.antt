@@ -1,11 +1,8 @@
 -- `labels::rename` meets its contract. The loop's invariant: the labels before i are renamed.
 -- Assumes nothing.
-use mathlib.Core.Path.{ap}
-use Prim.Native.Nat.{ℕ, ◌-◌, ◌≤◌, ◌<◌}
-use native.Mathlib.Nat.{le_refl}
-use native.Mathlib.Omega.{arith}
+use Prim.Native.Nat.{ℕ, ◌-◌, ◌≤◌}
 use lib.ListN.{length, get_or}
-use Rattle.plane.proofs.InPlace.{Changed, changed-none, changed-more, changed-end}
+use Rattle.plane.proofs.InPlace.{Changed}
 use Rattle.labels.proofs.rename.Given as goal
 
 abbrev pub invariant-loop-i : goal.invariant-loop-i

@@ -1,11 +1,10 @@
 -- `labels::scan` meets its contract.
 -- Assumes nothing.
 use mathlib.Core.Path.{◌≡◌, refl, sym, ap, ◌∙◌}
-use Prim.Native.Nat.{ℕ, ◌+◌, ◌*◌, ◌-◌, ◌≤◌}
+use Prim.Native.Nat.{ℕ, ◌+◌, ◌*◌}
 use native.Mathlib.Nat.{zero-mul, add-mul, one-mul}
 use native.Mathlib.Omega.{arith}
-use lib.ListN.{length, length-set}
-use Rattle.labels.specs.steps.Trees.{Scanned, Given}
+use lib.ListN.{length-set}
 use Rattle.labels.proofs.Scanning.{none-scanned}
 use Rattle.labels.proofs.scan.Goals as goal
 

@@ -1,12 +1,9 @@
 -- `labels::scan` meets its contract.
 -- Assumes nothing.
-use mathlib.Core.Path.{◌≡◌, refl, sym, ap, ◌∙◌}
-use Prim.Native.Nat.{ℕ, ◌+◌, ◌*◌, ◌-◌, ◌≤◌}
-use native.Mathlib.Nat.{zero-mul, add-mul, one-mul}
-use native.Mathlib.Omega.{arith}
-use lib.ListN.{length, length-set}
+use mathlib.Core.Path.{◌≡◌}
+use Prim.Native.Nat.{◌*◌, ◌-◌, ◌≤◌}
+use lib.ListN.{length}
 use Rattle.labels.specs.steps.Trees.{Scanned, Given}
-use Rattle.labels.proofs.Scanning.{none-scanned}
 use Rattle.labels.proofs.scan.Given as goal
 
 abbrev pub invariant-loop-y : goal.invariant-loop-y

@@ -1,11 +1,11 @@
 -- `labels::scan_row` meets its contract.
 -- Assumes nothing.
 use mathlib.Core.Path.{◌≡◌, refl, sym, ◌∙◌}
-use Prim.Native.Nat.{◌+◌, ◌*◌, ◌-◌, ◌≤◌, ◌<◌}
+use Prim.Native.Nat.{◌+◌, ◌*◌, ◌<◌}
 use native.Mathlib.Omega.{arith}
 use lib.ListN.{length, length-set}
 use Rattle.plane.proofs.Plane.{row_in, pixel-in}
-use Rattle.labels.specs.steps.Trees.{left_at, diag_at, larger, Scanned, Given}
+use Rattle.labels.specs.steps.Trees.{left_at, diag_at, larger}
 use Rattle.labels.proofs.Scanning.{placeable, row_next}
 use Rattle.labels.proofs.scan_row.Tie as tie
 use Rattle.labels.proofs.scan_row.Reads as reads

@@ -1,12 +1,9 @@
 -- `labels::scan_row` meets its contract.
 -- Assumes nothing.
-use mathlib.Core.Path.{◌≡◌, refl, sym, ◌∙◌}
-use Prim.Native.Nat.{◌+◌, ◌*◌, ◌-◌, ◌≤◌, ◌<◌}
-use native.Mathlib.Omega.{arith}
-use lib.ListN.{length, length-set}
-use Rattle.plane.proofs.Plane.{row_in, pixel-in}
-use Rattle.labels.specs.steps.Trees.{left_at, diag_at, larger, Scanned, Given}
-use Rattle.labels.proofs.Scanning.{placeable, row_next}
+use mathlib.Core.Path.{◌≡◌}
+use Prim.Native.Nat.{◌+◌, ◌*◌, ◌-◌, ◌≤◌}
+use lib.ListN.{length}
+use Rattle.labels.specs.steps.Trees.{left_at, diag_at, Scanned, Given}
 use Rattle.labels.proofs.scan_row.Given as goal
 
 abbrev pub invariant-loop-x : goal.invariant-loop-x

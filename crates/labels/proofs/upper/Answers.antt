@@ -2,7 +2,6 @@
 -- Assumes nothing.
 use borrow.Author.Tests.{lt-ltb, le-ltb}
 use Rattle.labels.specs.steps.Trees.{up_at}
-use borrow.Author.Rules.{rules}
 use Rattle.labels.proofs.upper.Goals as goal
 
 pub returns-then-i-w : goal.returns-then-i-w

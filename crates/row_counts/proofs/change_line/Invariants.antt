@@ -1,11 +1,9 @@
 -- `row_counts::change_line` meets its contract. The loop's invariant: the steps before x are written.
 -- Assumes nothing.
-use Rattle.std.proofs.Common.{◌≡◌, ℕ, ◌-◌, ◌≤◌, cond, length, ◌∙◌, ⊎_elim, arith, rules, ne_eqb}
-use Rattle.plane.specs.Plane.{on, bit}
+use Rattle.std.proofs.Common.{ℕ, ◌-◌, ◌≤◌, length}
 use Rattle.plane.specs.Mask.{is_on}
-use Rattle.counts.specs.steps.Parts.{changed, step_of}
-use Rattle.counts.proofs.Begun.{Begun, begun-none, begun_more, begun-end}
-use Rattle.row_counts.specs.steps.Rows.{change_line}
+use Rattle.counts.specs.steps.Parts.{step_of}
+use Rattle.counts.proofs.Begun.{Begun}
 use Rattle.row_counts.proofs.change_line.Given as goal
 
 abbrev pub invariant-loop-x : goal.invariant-loop-x

@@ -1,6 +1,6 @@
 -- `row_counts::count` meets its contract. The loop's invariant: the on-pixels before x are counted.
 -- Assumes nothing.
-use Rattle.std.proofs.Common.{◌≡◌, ◌-◌, ◌≤◌, length, refl, ◌∙◌, arith, rules}
+use Rattle.std.proofs.Common.{◌≡◌, ◌≤◌, length, refl, ◌∙◌, arith}
 use Rattle.plane.specs.Search.{count_below}
 use Rattle.plane.specs.Plane.{on}
 use Rattle.plane.specs.Mask.{is_on}

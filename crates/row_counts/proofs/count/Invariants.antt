@@ -1,11 +1,8 @@
 -- `row_counts::count` meets its contract. The loop's invariant: the on-pixels before x are counted.
 -- Assumes nothing.
-use Rattle.std.proofs.Common.{◌≡◌, ◌-◌, ◌≤◌, length, refl, ◌∙◌, arith, rules}
+use Rattle.std.proofs.Common.{◌≡◌, ◌-◌, ◌≤◌, length}
 use Rattle.plane.specs.Search.{count_below}
-use Rattle.plane.specs.Plane.{on}
 use Rattle.plane.specs.Mask.{is_on}
-use Rattle.plane.proofs.Search.{count_most}
-use Rattle.counts.proofs.Counting.{bit-most, count-more}
 use Rattle.row_counts.proofs.count.Given as goal
 
 abbrev pub invariant-loop-x : goal.invariant-loop-x

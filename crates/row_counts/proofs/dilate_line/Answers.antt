@@ -1,13 +1,11 @@
 -- `row_counts::dilate_line` meets its contract. The loop's invariant: n is the running value before column c, and the pixels before c are
 -- written.
 -- Assumes nothing.
-use Rattle.std.proofs.Common.{◌≡◌, ℕ, ◌+◌, ◌-◌, ◌<◌, ◌≤◌, List, length, get_or, take, drop, sym, ap, ◌∙◌, arith, rules}
-use Rattle.plane.specs.Plane.{bit}
+use Rattle.std.proofs.Common.{◌≡◌, ℕ, ◌+◌, ◌-◌, ◌<◌, ◌≤◌, List, length, get_or, take, drop, sym, ap, ◌∙◌, arith}
 use Rattle.plane.specs.Mask.{is_on, mask_of}
 use Rattle.counts.specs.Running.{running}
-use Rattle.counts.specs.steps.Window.{in_window}
 use Rattle.row_counts.specs.steps.Rows.{dilated_row}
-use Rattle.counts.proofs.Begun.{Begun, begun-none, begun-end}
+use Rattle.counts.proofs.Begun.{begun-none, begun-end}
 use Rattle.counts.proofs.Put.{part_length, begun-part}
 use Rattle.row_counts.proofs.RowLaws.{value-first, part-window, part-counted}
 use Rattle.row_counts.proofs.dilate_line.Tie as tie

@@ -1,15 +1,12 @@
 -- `row_counts::dilate_line` meets its contract. The loop's invariant: n is the running value before column c, and the pixels before c are
 -- written.
 -- Assumes nothing.
-use Rattle.std.proofs.Common.{◌≡◌, ℕ, ◌+◌, ◌-◌, ◌<◌, ◌≤◌, List, length, get_or, take, drop, sym, ap, ◌∙◌, arith, rules}
+use Rattle.std.proofs.Common.{◌≡◌, ℕ, ◌-◌, ◌≤◌, length}
 use Rattle.plane.specs.Plane.{bit}
-use Rattle.plane.specs.Mask.{is_on, mask_of}
+use Rattle.plane.specs.Mask.{is_on}
 use Rattle.counts.specs.Running.{running}
 use Rattle.counts.specs.steps.Window.{in_window}
-use Rattle.row_counts.specs.steps.Rows.{dilated_row}
-use Rattle.counts.proofs.Begun.{Begun, begun-none, begun-end}
-use Rattle.counts.proofs.Put.{part_length, begun-part}
-use Rattle.row_counts.proofs.RowLaws.{value-first, part-window, part-counted}
+use Rattle.counts.proofs.Begun.{Begun}
 use Rattle.row_counts.proofs.dilate_line.Given as goal
 
 abbrev pub invariant-loop-c : goal.invariant-loop-c

@@ -1,10 +1,9 @@
 -- `row_counts::dilate_rows` meets its contract. The loop's invariant: the buffer holds the first y rows, and then what it held before.
 -- Assumes nothing.
-use Rattle.std.proofs.Common.{◌≡◌, ℕ, ◌+◌, ◌-◌, ◌*◌, ◌≤◌, List, ◌++◌, length, drop, sym, refl, ap, ◌∙◌, zero-mul, arith}
+use Rattle.std.proofs.Common.{◌≡◌, ℕ, ◌+◌, ◌-◌, ◌*◌, ◌≤◌, ◌++◌, drop, sym, refl, ap, ◌∙◌, zero-mul, arith}
 use borrow.Rule.Slice.PartMut.{same_len_mid}
-use Rattle.plane.specs.Plane.{bit, on_at, table, rows_upto, plane_of}
+use Rattle.plane.specs.Plane.{rows_upto, plane_of}
 use Rattle.plane.proofs.Plane.{row_in, table-length, put-row}
-use Rattle.counts.specs.steps.Window.{in_window}
 use Rattle.row_counts.specs.steps.Rows.{dilated_rows}
 use Rattle.counts.proofs.Put.{part_length}
 use Rattle.row_counts.proofs.RowLaws.{row_is}

@@ -1,6 +1,6 @@
 -- `row_counts::end_steps` meets its contract: the pixels that enter move the first steps, and then those that leave the last.
 -- Assumes nothing.
-use Rattle.std.proofs.Common.{refl, arith, rules}
+use Rattle.std.proofs.Common.{refl, arith}
 use Rattle.row_counts.proofs.RowLaws.{entered-length, entered, leaves-inside, leaves-long, stepped}
 use Rattle.row_counts.proofs.end_steps.Goals as goal
 

@@ -1,7 +1,7 @@
 -- `row_counts::fill` meets its contract. The loop's invariant: the pixels before x are written.
 -- Assumes nothing.
-use Rattle.std.proofs.Common.{ℕ, ◌-◌, ◌≤◌, length, refl, arith}
-use Rattle.counts.proofs.Begun.{Begun, begun-none, begun_more, begun-end}
+use Rattle.std.proofs.Common.{ℕ, ◌-◌, ◌≤◌, length}
+use Rattle.counts.proofs.Begun.{Begun}
 use Rattle.row_counts.proofs.fill.Given as goal
 
 abbrev pub invariant-loop-x : goal.invariant-loop-x

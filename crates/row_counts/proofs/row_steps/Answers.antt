@@ -1,6 +1,6 @@
 -- `row_counts::row_steps` meets its contract.
 -- Assumes nothing.
-use Rattle.std.proofs.Common.{refl, arith, rules}
+use Rattle.std.proofs.Common.{refl, arith}
 use Rattle.row_counts.proofs.RowLaws.{change-stepped}
 use Rattle.row_counts.proofs.row_steps.Goals as goal
 

@@ -1,11 +1,11 @@
 -- `row_counts::run` meets its contract. The loop's invariant: v is the byte after x steps, and the pixels before x are written.
 -- Assumes nothing.
-use Rattle.std.proofs.Common.{◌≡◌, ℕ, ◌+◌, ◌-◌, ◌%◌, ◌≤◌, length, get_or, sym, ap, ◌∙◌, ⊎_elim, add-one, arith, rules}
+use Rattle.std.proofs.Common.{◌≡◌, ℕ, ◌+◌, ◌%◌, length, get_or, sym, ap, ◌∙◌, add-one, arith}
 use Rattle.plane.specs.Plane.{on, bit}
 use Rattle.plane.specs.Mask.{mask_of}
 use Rattle.counts.specs.steps.Parts.{full_byte}
 use Rattle.row_counts.specs.steps.Rows.{tally, ran_line}
-use Rattle.counts.proofs.Begun.{Begun, begun-none, begun_more, begun-end}
+use Rattle.counts.proofs.Begun.{begun-none, begun_more, begun-end}
 use Rattle.row_counts.proofs.run.Tie as tie
 use Rattle.row_counts.proofs.run.Reads as reads
 use Rattle.row_counts.proofs.run.Lts as lts

@@ -3,7 +3,6 @@
 use Prim.Native.Nat.{◌*◌, ◌≤◌}
 use native.Mathlib.Omega.{arith}
 use lib.ListN.{drop}
-use borrow.Author.Rules.{rules}
 use Rattle.plane.specs.steps.Sides.{longest_side}
 use Rattle.squares.proofs.Laws.{larger-least, radius-most}
 use Rattle.squares.proofs.Passes.{passes-are, work-kept}

@@ -1,11 +1,9 @@
 -- `squares::radius` meets its contract.
 -- Assumes nothing.
 use mathlib.Core.Path.{◌≡◌, sym, ap, ◌∙◌}
-use mathlib.Core.Logic.{⊎_elim}
 use native.Mathlib.Omega.{arith}
 use Rattle.squares.specs.Squares.{larger, reach}
 use Rattle.squares.proofs.Laws.{larger-wide, larger-tall, reach-none, reach-some, radius-near, radius-far}
-use Rattle.squares.proofs.radius.Tie as tie
 use Rattle.squares.proofs.radius.Reads as reads
 use Rattle.squares.proofs.radius.Lts as lts
 use Rattle.squares.proofs.radius.Goals as goal

@@ -1,0 +1,17 @@
+-- `keying::copy` meets its contract.
+-- Assumes nothing.
+use mathlib.Core.Path.{◌≡◌, refl, sym, ◌∙◌}
+use Prim.Native.Nat.{ℕ, ◌-◌, ◌≤◌, ◌<◌}
+use native.Mathlib.Nat.{not-suc-le-zero}
+use lib.ListN.{length, get_or, length-set}
+use lib.Seq.{ext_get_or}
+use Rattle.plane.proofs.Plane.{filled}
+use native.Mathlib.Omega.{arith}
+use Rattle.keying.proofs.copy.Given as goal
+
+abbrev pub invariant-loop-i : goal.invariant-loop-i
+invariant-loop-i l =
+    (l.i ≤ length l.initial.to) × (length l.to ≡ length l.initial.to) × ((k : ℕ) → k < l.i → get_or l.to k 0 ≡ get_or l.from k 0)
+
+abbrev pub decreases-loop-i : goal.decreases-loop-i
+decreases-loop-i l = length l.initial.to - l.i
