@@ -1,7 +1,7 @@
 -- The nearest on-pixel of a pixel, by one walk over the plane: column by column, each column from the top.
 -- Of equally near on-pixels the first of the walk stays: the least column, and in it the least row.
 -- Assumes nothing.
-use Rattle.std.specs.Prelude.{ℕ, suc, ◌+◌, ◌*◌, ◌-◌, cond, List, ltb, ℤ, pos, negsuc}
+use Rattle.std.specs.Prelude.{ℕ, suc, ◌+◌, ◌*◌, cond, List, ℤ, pos, negsuc}
 use Rattle.std.proofs.Math.Option.{Option, none, some}
 use Rattle.plane.specs.Plane.{on_at, apart, plane_of}
 use Rattle.line.specs.Grid.{walk, upto, grid, plus}

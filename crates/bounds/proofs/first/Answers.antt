@@ -1,14 +1,10 @@
 -- `bounds::first` meets its contract. The loop's invariant: no pixel before i is on.
 -- Assumes nothing.
 use mathlib.Core.Path.{◌≡◌, sym, ◌∙◌}
-use mathlib.Core.Bool.{false}
-use Prim.Native.Nat.{ℕ, ◌-◌, ◌≤◌, ◌<◌}
 use native.Mathlib.Omega.{arith}
 use lib.ListN.{length}
 use borrow.Author.Rules.{rules}
 use borrow.Author.Count.{below_none, below_more}
-use borrow.Author.Tests.{not-true}
-use Rattle.plane.specs.Mask.{is_on}
 use Rattle.plane.proofs.Search.{none_found}
 use Rattle.plane.proofs.Bounds.{first-is, first-none}
 use Rattle.bounds.proofs.Rows.{byte-on, byte-off}

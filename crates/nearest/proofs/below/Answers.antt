@@ -8,7 +8,6 @@ use native.Mathlib.Omega.{arith}
 use Rattle.plane.proofs.Plane.{row_in, area-most}
 use Rattle.nearest.specs.steps.Room.{IndexRoom}
 use Rattle.nearest.proofs.Stages.{BelowFrom, below-start, below_next, swept-start}
-use borrow.Author.Rules.{rules}
 use Rattle.nearest.proofs.below.Tie as tie
 use Rattle.nearest.proofs.below.Reads as reads
 use Rattle.nearest.proofs.below.Lts as lts

@@ -2,13 +2,11 @@
 -- Assumes nothing.
 use mathlib.Core.Path.{ap, ◌∙◌}
 use mathlib.Core.Bool.{cond}
-use Prim.Native.Nat.{◌+◌, ◌-◌}
+use Prim.Native.Nat.{◌+◌}
 use lib.ListN.{get_or}
 use native.Mathlib.Omega.{arith}
-use borrow.Author.Rules.{rules}
 use Rattle.plane.specs.Plane.{on}
-use Rattle.line.proofs.Part.{Filling, filling-none, filling-more, filling-end}
-use Rattle.nearest.specs.steps.Stages.{below_in}
+use Rattle.line.proofs.Part.{filling-none, filling-more, filling-end}
 use Rattle.nearest.proofs.below_line.Goals as goal
 
 pub loop-x-preserved : goal.loop-x-preserved

@@ -1,13 +1,7 @@
 -- `nearest::below_line` meets its contract.
 -- Assumes nothing.
-use mathlib.Core.Path.{ap, ◌∙◌}
-use mathlib.Core.Bool.{cond}
-use Prim.Native.Nat.{◌+◌, ◌-◌}
-use lib.ListN.{get_or}
-use native.Mathlib.Omega.{arith}
-use borrow.Author.Rules.{rules}
-use Rattle.plane.specs.Plane.{on}
-use Rattle.line.proofs.Part.{Filling, filling-none, filling-more, filling-end}
+use Prim.Native.Nat.{◌-◌}
+use Rattle.line.proofs.Part.{Filling}
 use Rattle.nearest.specs.steps.Stages.{below_in}
 use Rattle.nearest.proofs.below_line.Given as goal
 

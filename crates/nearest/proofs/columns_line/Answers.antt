@@ -1,15 +1,10 @@
 -- `nearest::columns_line` meets its contract.
 -- Assumes nothing.
 use mathlib.Core.Path.{◌∙◌}
-use Prim.Native.Nat.{ℕ, ◌+◌, ◌-◌}
-use lib.IntN.{pos}
 use native.Mathlib.Omega.{arith}
-use borrow.Author.Rules.{rules}
 use mir.Syntax.{w32}
 use mir.Facts.{to_z-of_z}
-use Rattle.line.proofs.Part.{Filling, filling-none, filling-more, filling-end}
-use Rattle.nearest.specs.Nearest.{column_of}
-use Rattle.nearest.specs.steps.Stages.{from, pixel_at}
+use Rattle.line.proofs.Part.{filling-none, filling-more, filling-end}
 use Rattle.nearest.proofs.columns_line.Goals as goal
 
 pub loop-x-preserved : goal.loop-x-preserved

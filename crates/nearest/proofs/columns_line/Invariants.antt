@@ -1,13 +1,8 @@
 -- `nearest::columns_line` meets its contract.
 -- Assumes nothing.
-use mathlib.Core.Path.{◌∙◌}
-use Prim.Native.Nat.{ℕ, ◌+◌, ◌-◌}
+use Prim.Native.Nat.{ℕ, ◌-◌}
 use lib.IntN.{pos}
-use native.Mathlib.Omega.{arith}
-use borrow.Author.Rules.{rules}
-use mir.Syntax.{w32}
-use mir.Facts.{to_z-of_z}
-use Rattle.line.proofs.Part.{Filling, filling-none, filling-more, filling-end}
+use Rattle.line.proofs.Part.{Filling}
 use Rattle.nearest.specs.Nearest.{column_of}
 use Rattle.nearest.specs.steps.Stages.{from, pixel_at}
 use Rattle.nearest.proofs.columns_line.Given as goal

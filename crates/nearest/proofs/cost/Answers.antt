@@ -1,14 +1,11 @@
 -- `nearest::cost` meets its contract.
 -- Assumes nothing.
 use mathlib.Core.Path.{◌≡◌}
-use mathlib.Core.Logic.{⊎_elim}
 use native.Mathlib.Omega.{arith}
 use borrow.Author.Tests.{lt-ltb, le-ltb}
 use Rattle.plane.specs.Plane.{apart}
 use Rattle.line.proofs.Squares.{gap-fits}
 use Rattle.nearest.specs.steps.Stages.{square_cost}
-use borrow.Author.Rules.{rules}
-use Rattle.nearest.proofs.cost.Tie as tie
 use Rattle.nearest.proofs.cost.Reads as reads
 use Rattle.nearest.proofs.cost.Lts as lts
 use Rattle.nearest.proofs.cost.Goals as goal

@@ -1,11 +1,10 @@
 -- `nearest::costs_line` meets its contract.
 -- Assumes nothing.
 use mathlib.Core.Path.{ap, ◌∙◌}
-use Prim.Native.Nat.{◌+◌, ◌-◌}
+use Prim.Native.Nat.{◌+◌}
 use native.Mathlib.Omega.{arith}
-use borrow.Author.Rules.{rules}
-use Rattle.line.proofs.Part.{Filling, filling-none, filling-more, filling-end}
-use Rattle.nearest.specs.steps.Stages.{square_cost, cost_in}
+use Rattle.line.proofs.Part.{filling-none, filling-more, filling-end}
+use Rattle.nearest.specs.steps.Stages.{square_cost}
 use Rattle.nearest.proofs.costs_line.Goals as goal
 
 pub loop-x-preserved : goal.loop-x-preserved

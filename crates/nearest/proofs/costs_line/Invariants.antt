@@ -1,11 +1,8 @@
 -- `nearest::costs_line` meets its contract.
 -- Assumes nothing.
-use mathlib.Core.Path.{ap, ◌∙◌}
-use Prim.Native.Nat.{◌+◌, ◌-◌}
-use native.Mathlib.Omega.{arith}
-use borrow.Author.Rules.{rules}
-use Rattle.line.proofs.Part.{Filling, filling-none, filling-more, filling-end}
-use Rattle.nearest.specs.steps.Stages.{square_cost, cost_in}
+use Prim.Native.Nat.{◌-◌}
+use Rattle.line.proofs.Part.{Filling}
+use Rattle.nearest.specs.steps.Stages.{cost_in}
 use Rattle.nearest.proofs.costs_line.Given as goal
 
 abbrev pub invariant-loop-x : goal.invariant-loop-x

@@ -5,9 +5,7 @@ use Prim.Native.Nat.{ℕ, ◌+◌, ◌*◌, ◌≤◌}
 use lib.ListN.{length}
 use native.Mathlib.Numerals.{add-one}
 use native.Mathlib.Omega.{arith}
-use borrow.Author.Rules.{rules}
 use borrow.Author.Tests.{lt-ltb, le-ltb}
-use Rattle.plane.specs.Plane.{apart}
 use Rattle.line.proofs.Squares.{gap-fits}
 use Rattle.nearest.specs.steps.Stages.{elements, distance_at}
 use Rattle.nearest.proofs.distance_at.Tie as tie

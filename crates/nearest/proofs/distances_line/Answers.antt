@@ -5,9 +5,8 @@ use mathlib.Core.List.{List}
 use Prim.Native.Nat.{ℕ, ◌+◌, ◌-◌}
 use lib.ListN.{length}
 use native.Mathlib.Omega.{arith}
-use borrow.Author.Rules.{rules}
 use Rattle.line.specs.steps.Part.{part}
-use Rattle.line.proofs.Part.{Filling, filling-none, filling-more, filling-end}
+use Rattle.line.proofs.Part.{filling-none, filling-more, filling-end}
 use Rattle.nearest.specs.steps.Stages.{elements, from, distance_at, distance_in}
 use Rattle.nearest.proofs.Stages.{part-long, part-distance}
 use Rattle.nearest.proofs.distances_line.Tie as tie

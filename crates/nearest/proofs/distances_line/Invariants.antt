@@ -1,15 +1,8 @@
 -- `nearest::distances_line` meets its contract.
 -- Assumes nothing.
-use mathlib.Core.Path.{◌≡◌, ap, ◌∙◌}
-use mathlib.Core.List.{List}
-use Prim.Native.Nat.{ℕ, ◌+◌, ◌-◌}
-use lib.ListN.{length}
-use native.Mathlib.Omega.{arith}
-use borrow.Author.Rules.{rules}
-use Rattle.line.specs.steps.Part.{part}
-use Rattle.line.proofs.Part.{Filling, filling-none, filling-more, filling-end}
-use Rattle.nearest.specs.steps.Stages.{elements, from, distance_at, distance_in}
-use Rattle.nearest.proofs.Stages.{part-long, part-distance}
+use Prim.Native.Nat.{◌-◌}
+use Rattle.line.proofs.Part.{Filling}
+use Rattle.nearest.specs.steps.Stages.{distance_in}
 use Rattle.nearest.proofs.distances_line.Given as goal
 
 abbrev pub invariant-loop-x : goal.invariant-loop-x

@@ -2,15 +2,14 @@
 -- Assumes nothing.
 use mathlib.Core.Path.{◌≡◌, sym, ap, ◌∙◌, subst}
 use mathlib.Core.List.{List}
-use Prim.Native.Nat.{ℕ, ◌+◌, ◌-◌, ◌<◌}
+use Prim.Native.Nat.{ℕ, ◌+◌, ◌<◌}
 use lib.ListN.{length}
 use native.Mathlib.Omega.{arith}
-use borrow.Author.Rules.{rules}
 use Rattle.plane.specs.Plane.{index_of}
 use Rattle.line.specs.steps.Line.{most_length}
-use Rattle.line.proofs.Part.{Filling, filling-none, filling-more, filling-end}
+use Rattle.line.proofs.Part.{filling-none, filling-more, filling-end}
 use Rattle.nearest.specs.steps.Room.{PixelRoom}
-use Rattle.nearest.specs.steps.Stages.{from, pixel_at, pixel_in}
+use Rattle.nearest.specs.steps.Stages.{from, pixel_at}
 use Rattle.nearest.proofs.Stages.{pixel-same}
 use Rattle.nearest.proofs.index_line.Tie as tie
 use Rattle.nearest.proofs.index_line.Reads as reads

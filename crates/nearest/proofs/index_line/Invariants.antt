@@ -1,17 +1,9 @@
 -- `nearest::index_line` meets its contract.
 -- Assumes nothing.
-use mathlib.Core.Path.{◌≡◌, sym, ap, ◌∙◌, subst}
-use mathlib.Core.List.{List}
-use Prim.Native.Nat.{ℕ, ◌+◌, ◌-◌, ◌<◌}
-use lib.ListN.{length}
-use native.Mathlib.Omega.{arith}
-use borrow.Author.Rules.{rules}
+use Prim.Native.Nat.{ℕ, ◌-◌}
 use Rattle.plane.specs.Plane.{index_of}
-use Rattle.line.specs.steps.Line.{most_length}
-use Rattle.line.proofs.Part.{Filling, filling-none, filling-more, filling-end}
-use Rattle.nearest.specs.steps.Room.{PixelRoom}
-use Rattle.nearest.specs.steps.Stages.{from, pixel_at, pixel_in}
-use Rattle.nearest.proofs.Stages.{pixel-same}
+use Rattle.line.proofs.Part.{Filling}
+use Rattle.nearest.specs.steps.Stages.{pixel_in}
 use Rattle.nearest.proofs.index_line.Given as goal
 
 abbrev pub invariant-loop-x : goal.invariant-loop-x

@@ -1,11 +1,11 @@
 -- `nearest::nearer_line` meets its contract.
 -- Assumes nothing.
 use mathlib.Core.Path.{◌≡◌, ap, ◌∙◌}
-use Prim.Native.Nat.{ℕ, ◌+◌, ◌-◌, ◌<◌}
+use Prim.Native.Nat.{ℕ, ◌+◌, ◌<◌}
 use lib.ListN.{length, get_or}
 use native.Mathlib.Omega.{arith}
-use Rattle.line.proofs.Part.{Filling, filling-none, filling-more, filling-end}
-use Rattle.nearest.specs.steps.Stages.{nearer, nearer_in}
+use Rattle.line.proofs.Part.{filling-none, filling-more, filling-end}
+use Rattle.nearest.specs.steps.Stages.{nearer}
 use Rattle.nearest.specs.steps.Room.{NearRoom}
 use Rattle.nearest.proofs.nearer_line.Tie as tie
 use Rattle.nearest.proofs.nearer_line.Reads as reads

@@ -1,12 +1,8 @@
 -- `nearest::nearer_line` meets its contract.
 -- Assumes nothing.
-use mathlib.Core.Path.{◌≡◌, ap, ◌∙◌}
-use Prim.Native.Nat.{ℕ, ◌+◌, ◌-◌, ◌<◌}
-use lib.ListN.{length, get_or}
-use native.Mathlib.Omega.{arith}
-use Rattle.line.proofs.Part.{Filling, filling-none, filling-more, filling-end}
-use Rattle.nearest.specs.steps.Stages.{nearer, nearer_in}
-use Rattle.nearest.specs.steps.Room.{NearRoom}
+use Prim.Native.Nat.{◌-◌}
+use Rattle.line.proofs.Part.{Filling}
+use Rattle.nearest.specs.steps.Stages.{nearer_in}
 use Rattle.nearest.proofs.nearer_line.Given as goal
 
 abbrev pub invariant-loop-x : goal.invariant-loop-x

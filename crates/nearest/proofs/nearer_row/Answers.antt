@@ -2,7 +2,6 @@
 -- Assumes nothing.
 use mathlib.Core.Path.{sym, ap}
 use mathlib.Core.Bool.{Bool, cond}
-use borrow.Author.Rules.{rules}
 use Rattle.nearest.specs.steps.Stages.{nearer}
 use Rattle.nearest.proofs.nearer_row.Goals as goal
 

@@ -1,12 +1,10 @@
 -- `nearest::nearest_distances` meets its contract.
 -- Assumes nothing.
 use mathlib.Core.Path.{refl, ◌∙◌}
-use Prim.Native.Nat.{◌-◌}
 use native.Mathlib.Omega.{arith}
-use borrow.Author.Rules.{rules}
-use Rattle.nearest.specs.Nearest.{distance, distance_plane}
-use Rattle.nearest.proofs.Rows.{Rows, rows_none, rows_next, rows_end}
-use Rattle.nearest.proofs.Rows.{Passing, passing-none, Row, row_at, row_room, passing-next, distances, distance-room}
+use Rattle.nearest.specs.Nearest.{distance_plane}
+use Rattle.nearest.proofs.Rows.{rows_none, rows_next, rows_end}
+use Rattle.nearest.proofs.Rows.{passing-none, Row, row_at, row_room, passing-next, distances, distance-room}
 use Rattle.nearest.proofs.nearest_distances.Tie as tie
 use Rattle.nearest.proofs.nearest_distances.Reads as reads
 use Rattle.nearest.proofs.nearest_distances.Lts as lts

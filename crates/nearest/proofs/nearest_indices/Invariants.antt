@@ -1,13 +1,10 @@
 -- `nearest::nearest_indices` meets its contract.
 -- Assumes nothing.
-use mathlib.Core.Path.{ap, ◌∙◌}
 use Prim.Native.Nat.{ℕ, ◌-◌}
-use native.Mathlib.Omega.{arith}
 use Rattle.plane.specs.Plane.{index_of}
 use Rattle.nearest.specs.Nearest.{nearest}
-use Rattle.nearest.specs.steps.Indices.{indices_plane}
-use Rattle.nearest.proofs.Rows.{Rows, rows_none, rows-kept, rows_next, rows-front}
-use Rattle.nearest.proofs.Rows.{Passing, passing-none, Row, row_at, row_room, passing-next, pixels, pixel-room}
+use Rattle.nearest.proofs.Rows.{Rows}
+use Rattle.nearest.proofs.Rows.{Passing}
 use Rattle.nearest.proofs.nearest_indices.Given as goal
 
 abbrev pub invariant-loop-y : goal.invariant-loop-y

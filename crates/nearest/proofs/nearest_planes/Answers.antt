@@ -1,14 +1,12 @@
 -- `nearest::nearest_planes` meets its contract.
 -- Assumes nothing.
 use mathlib.Core.Path.{refl, ap, ◌∙◌}
-use Prim.Native.Nat.{ℕ, ◌*◌, ◌-◌}
-use lib.IntN.{pos}
+use Prim.Native.Nat.{◌*◌}
 use native.Mathlib.Omega.{arith}
-use borrow.Author.Rules.{rules}
-use Rattle.nearest.specs.Nearest.{nearest, row_of, column_of, rows_plane, columns_plane}
+use Rattle.nearest.specs.Nearest.{row_of, column_of, rows_plane, columns_plane}
 use Rattle.nearest.specs.steps.Stages.{from}
-use Rattle.nearest.proofs.Rows.{Rows, rows_none, rows_next, rows_end}
-use Rattle.nearest.proofs.Rows.{Passing, passing-none, Row, row_at, row_room, passing-next, pixels, pixel-room}
+use Rattle.nearest.proofs.Rows.{rows_none, rows_next, rows_end}
+use Rattle.nearest.proofs.Rows.{passing-none, Row, row_at, row_room, passing-next, pixels, pixel-room}
 use Rattle.nearest.proofs.nearest_planes.Tie as tie
 use Rattle.nearest.proofs.nearest_planes.Reads as reads
 use Rattle.nearest.proofs.nearest_planes.Lts as lts

@@ -1,14 +1,10 @@
 -- `nearest::nearest_planes` meets its contract.
 -- Assumes nothing.
-use mathlib.Core.Path.{refl, ap, ◌∙◌}
-use Prim.Native.Nat.{ℕ, ◌*◌, ◌-◌}
+use Prim.Native.Nat.{ℕ, ◌-◌}
 use lib.IntN.{pos}
-use native.Mathlib.Omega.{arith}
-use borrow.Author.Rules.{rules}
-use Rattle.nearest.specs.Nearest.{nearest, row_of, column_of, rows_plane, columns_plane}
-use Rattle.nearest.specs.steps.Stages.{from}
-use Rattle.nearest.proofs.Rows.{Rows, rows_none, rows_next, rows_end}
-use Rattle.nearest.proofs.Rows.{Passing, passing-none, Row, row_at, row_room, passing-next, pixels, pixel-room}
+use Rattle.nearest.specs.Nearest.{nearest, row_of, column_of}
+use Rattle.nearest.proofs.Rows.{Rows}
+use Rattle.nearest.proofs.Rows.{Passing}
 use Rattle.nearest.proofs.nearest_planes.Given as goal
 
 abbrev pub invariant-loop-y : goal.invariant-loop-y

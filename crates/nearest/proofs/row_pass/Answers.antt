@@ -1,7 +1,6 @@
 -- `nearest::row_pass` meets its contract.
 -- Assumes nothing.
 use mathlib.Core.Path.{◌∙◌}
-use borrow.Author.Rules.{rules}
 use Rattle.nearest.proofs.Stages.{row_done}
 use Rattle.nearest.proofs.row_pass.Goals as goal
 

@@ -3,15 +3,13 @@
 use mathlib.Core.Path.{sym, ap, ◌∙◌, subst}
 use mathlib.Core.List.{List}
 use Prim.Native.Nat.{ℕ, ◌+◌, ◌-◌, ◌<◌}
-use lib.IntN.{pos}
 use native.Mathlib.Omega.{arith}
-use borrow.Author.Rules.{rules}
 use mir.Syntax.{w32}
 use mir.Facts.{to_z-of_z}
 use Rattle.line.specs.steps.Line.{most_length}
-use Rattle.line.proofs.Part.{part_at, Filling, filling-none, filling-more, filling-end}
+use Rattle.line.proofs.Part.{part_at, filling-none, filling-more, filling-end}
 use Rattle.nearest.specs.Nearest.{row_of}
-use Rattle.nearest.specs.steps.Stages.{from, pixel_at, pixel_in}
+use Rattle.nearest.specs.steps.Stages.{from, pixel_at}
 use Rattle.nearest.proofs.Stages.{part-long, part-pixel}
 use Rattle.nearest.proofs.rows_line.Tie as tie
 use Rattle.nearest.proofs.rows_line.Reads as reads

@@ -1,8 +1,8 @@
 -- `text::copy` meets its contract.
 -- Assumes nothing.
 use mathlib.Core.Path.{◌≡◌, refl, ap, ◌∙◌}
-use Prim.Native.Nat.{◌+◌, ◌-◌, ◌≤◌}
-use lib.ListN.{length, get_or, take, length-set}
+use Prim.Native.Nat.{◌+◌}
+use lib.ListN.{length, get_or, length-set}
 use lib.Seq.{sets, take_all}
 use native.Mathlib.Omega.{arith}
 use Rattle.text.proofs.Written.{copy_more}

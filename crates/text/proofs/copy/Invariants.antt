@@ -1,11 +1,9 @@
 -- `text::copy` meets its contract.
 -- Assumes nothing.
-use mathlib.Core.Path.{◌≡◌, refl, ap, ◌∙◌}
-use Prim.Native.Nat.{◌+◌, ◌-◌, ◌≤◌}
-use lib.ListN.{length, get_or, take, length-set}
-use lib.Seq.{sets, take_all}
-use native.Mathlib.Omega.{arith}
-use Rattle.text.proofs.Written.{copy_more}
+use mathlib.Core.Path.{◌≡◌}
+use Prim.Native.Nat.{◌-◌, ◌≤◌}
+use lib.ListN.{length, take}
+use lib.Seq.{sets}
 use Rattle.text.proofs.copy.Given as goal
 
 abbrev pub invariant-loop-i : goal.invariant-loop-i

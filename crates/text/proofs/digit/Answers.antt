@@ -1,7 +1,6 @@
 -- `text::digit` meets its contract.
 -- Assumes nothing.
 use native.Mathlib.Omega.{arith}
-use borrow.Author.Rules.{rules}
 use Rattle.text.proofs.Decimal.{digit-is}
 use Rattle.text.proofs.digit.Goals as goal
 

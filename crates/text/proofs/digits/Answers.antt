@@ -1,12 +1,9 @@
 -- `text::digits` meets its contract.
 -- Assumes nothing.
-use mathlib.Core.Path.{◌≡◌, sym, ap, ◌∙◌}
-use Prim.Native.Nat.{◌+◌, ◌-◌, ◌≤◌}
+use mathlib.Core.Path.{sym, ap, ◌∙◌}
+use Prim.Native.Nat.{◌+◌, ◌-◌}
 use native.Mathlib.Omega.{arith}
-use lib.ListN.{length}
-use borrow.Author.Tests.{not-true, not-false}
-use borrow.Author.Rules.{rules}
-use Rattle.text.specs.Decimal.{is_digit, digits_upto}
+use Rattle.text.specs.Decimal.{is_digit}
 use Rattle.text.proofs.Decimal.{digit-inside, digits_more, digits-end, digits-most, digits-past, digits-start}
 use Rattle.text.proofs.digits.Goals as goal
 

@@ -5,7 +5,6 @@ use mathlib.Core.List.{List}
 use Prim.Native.Nat.{ℕ, ◌+◌, ◌-◌, ◌≤◌}
 use native.Mathlib.Omega.{arith}
 use lib.ListN.{length, take, drop, length-take}
-use borrow.Author.Rules.{rules}
 use Rattle.text.specs.Decimal.{value_from, value_of, digits_upto, number_upto}
 use Rattle.text.proofs.Decimal.{stand, digits-most}
 use Rattle.text.proofs.read_number.Tie as tie

@@ -1,14 +1,9 @@
 -- `text::value` meets its contract.
 -- Assumes nothing.
-use mathlib.Core.Path.{◌≡◌, refl, ap, ◌∙◌}
-use Prim.Native.Nat.{ℕ, ◌+◌, ◌-◌, ◌*◌, ◌^◌, ◌≤◌, ◌<◌}
-use native.Mathlib.Nat.{pow-succ', pow-le-pow_right}
-use native.Mathlib.Numerals.{add-one}
-use native.Mathlib.Omega.{arith}
+use mathlib.Core.Path.{◌≡◌}
+use Prim.Native.Nat.{◌-◌, ◌^◌, ◌≤◌, ◌<◌}
 use lib.ListN.{length, take}
-use lib.Seq.{take_all}
-use Rattle.text.specs.Decimal.{value_from, value_of}
-use Rattle.text.proofs.Decimal.{digit-is, digit_at, value-more}
+use Rattle.text.specs.Decimal.{value_of}
 use Rattle.text.proofs.value.Given as goal
 
 abbrev pub invariant-loop-i : goal.invariant-loop-i

@@ -1,0 +1,28 @@
+-- `cutfile::write_answer` meets its contract.
+-- Assumes nothing.
+use mathlib.Core.Path.{sym, ap}
+use borrow.Author.Rules.{rules}
+use Rattle.text.proofs.Written.{wrote_as}
+use Rattle.cutfile.specs.steps.Room.{answer_text}
+use Rattle.cutfile.proofs.write_answer.Goals as goal
+
+pub write_mask-requires : goal.write_mask-requires
+write_mask-requires c =
+    record {
+      w_nonzero = c.requires.w_nonzero;
+      w_in_bounds = rw c.answer-1.given.1 at c.requires.answer_in_bounds;
+    }
+
+pub write_refusal-requires : goal.write_refusal-requires
+write_refusal-requires c =
+    rw c.answer-in-Refused-1.given.1 at c.requires.answer_in_bounds
+
+pub returns-in-Done : goal.returns-in-Done
+returns-in-Done c =
+    let a = c.args in
+    wrote_as (sym (ap (answer_text a.mask.now a.h a.w) c.answer-1.given.1)) c.write_mask.ensures
+
+pub returns-in-Refused : goal.returns-in-Refused
+returns-in-Refused c =
+    let a = c.args in
+    wrote_as (sym (ap (answer_text a.mask.now a.h a.w) c.answer-in-Refused-1.given.1)) c.write_refusal.ensures

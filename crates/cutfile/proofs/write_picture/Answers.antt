@@ -1,0 +1,97 @@
+-- `cutfile::write_picture` meets its contract.
+-- Assumes nothing.
+use Prim.Native.Nat.{◌*◌, ◌≤◌}
+use native.Mathlib.Omega.{arith}
+use mir.Facts.{Fits-le, Fits-lit}
+use Rattle.pam_header.specs.declared.Header.{Header}
+use Rattle.pam.specs.Picture.{most_pixels}
+use Rattle.cutfile.proofs.Pictures.{room_most}
+use Rattle.pam_header.proofs.Sizes.{Small, header-small}
+use Rattle.pam.proofs.Files.{FileOk, file-ok, SidesOk, sides-of}
+use Rattle.cutfile.proofs.Texts.{part-long}
+use borrow.Author.Rules.{rules}
+use Rattle.cutfile.proofs.write_picture.Tie as tie
+use Rattle.cutfile.proofs.write_picture.Reads as reads
+use Rattle.cutfile.proofs.write_picture.Lts as lts
+use Rattle.cutfile.proofs.write_picture.Goals as goal
+
+abbrev At-After-alpha : Type 0
+At-After-alpha = lts.After-alpha tie.the-claims reads.Pre reads.Post tie.handed_clauses
+
+abbrev At-Start : Type 0
+At-Start = lts.Start tie.the-claims reads.Pre reads.Post tie.handed_clauses
+
+-- the header, from where the call began: its pixels are few, and its sides accepted
+module _ (c : At-Start) where
+  abbrev header : Header
+  header = c.args.header
+
+  known : Small header
+  known = rw c.requires.0 (header-small c.args.input.now)
+
+  passed : FileOk header c.args.input.now
+  passed = file-ok header c.args.input.now c.requires.1
+
+  few : header.height * header.width ≤ most_pixels
+  few = passed.few
+
+  sides : SidesOk header.height header.width
+  sides = sides-of header known passed.header_ok passed.few
+
+-- where the call began, from where the parts of the buffers are taken
+begun : At-After-alpha → At-Start
+begun c = c.before.before.before.before
+
+pub slice_bounds-mask-end : goal.slice_bounds-mask-end
+unfolding begun
+slice_bounds-mask-end c = omega (arith, few (begun c.before.before.before.before.before))
+
+pub slice_bounds-weights-end : goal.slice_bounds-weights-end
+unfolding begun
+slice_bounds-weights-end c = omega (arith, few (begun c.before.before.before.before.before.before))
+
+pub read_and_cut-requires : goal.read_and_cut-requires
+unfolding begun
+read_and_cut-requires c =
+    let b = begun c.before.before.before.before.before.before.before.before in
+    let r = sides b in
+    let n = few b in
+    let room = room_most (header b).height (header b).width r.some-rows r.some-columns n in record {
+      body_le_most_header = (known b).body-most;
+      room = record {
+        some-rows = r.some-rows;
+        some-columns = r.some-columns;
+        tall = r.tall;
+        wide = r.wide;
+        few = n;
+        colours-long = part-long _ _ (omega (arith, n));
+        alpha-long = part-long _ _ n;
+        nearest-long = room;
+        shallow-long = room;
+        deep_long = room;
+        marks-long = room;
+        mask-long = part-long _ _ n;
+        weights-long = part-long _ _ n;
+        out-long = b.requires.2;
+      };
+    }
+
+pub overflow_mul-n : goal.overflow_mul-n
+overflow_mul-n c =
+    Fits-le (few c.before.before.before) (Fits-lit tt)
+
+pub overflow_mul-m : goal.overflow_mul-m
+overflow_mul-m c =
+    omega (arith, few c.before.before.before)
+
+pub slice_bounds-colours-end : goal.slice_bounds-colours-end
+slice_bounds-colours-end c =
+    omega (arith, few c.before.before.before)
+
+pub slice_bounds-alpha-end : goal.slice_bounds-alpha-end
+slice_bounds-alpha-end c =
+    omega (arith, few c.before.before.before.before)
+
+pub returns : goal.returns
+returns c =
+    c.read_and_cut.ensures
