@@ -10,19 +10,19 @@ pub write_mask-requires : goal.write_mask-requires
 write_mask-requires c =
     record {
       w_nonzero = c.requires.w_nonzero;
-      w_in_bounds = rw c.answer-1.given.1 at c.requires.answer_in_bounds;
+      w_in_bounds = rw c.in-Done.is at c.requires.answer_in_bounds;
     }
 
 pub write_refusal-requires : goal.write_refusal-requires
 write_refusal-requires c =
-    rw c.answer-in-Refused-1.given.1 at c.requires.answer_in_bounds
+    rw c.in-Refused.is at c.requires.answer_in_bounds
 
 pub returns-in-Done : goal.returns-in-Done
 returns-in-Done c =
     let a = c.args in
-    wrote_as (sym (ap (answer_text a.mask.now a.h a.w) c.answer-1.given.1)) c.write_mask.ensures
+    wrote_as (sym (ap (answer_text a.mask.now a.h a.w) c.in-Done.is)) c.write_mask.ensures
 
 pub returns-in-Refused : goal.returns-in-Refused
 returns-in-Refused c =
     let a = c.args in
-    wrote_as (sym (ap (answer_text a.mask.now a.h a.w) c.answer-in-Refused-1.given.1)) c.write_refusal.ensures
+    wrote_as (sym (ap (answer_text a.mask.now a.h a.w) c.in-Refused.is)) c.write_refusal.ensures
