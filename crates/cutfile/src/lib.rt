@@ -13,7 +13,7 @@ ghost use Rattle.cutfile.specs.steps.Room.{Room, picture_text, answer_text, answ
 use outline::Outcome;
 use pam::{MOST_INPUT, MOST_PIXELS};
 use pam_header::Header;
-use std::io::{ErrorKind, Input, Read};
+use std::io::Input;
 
 // How many colours the largest picture has, and how many numbers a work buffer for it holds at least.
 const MOST_COLOURS: usize = 6912;
@@ -155,35 +155,13 @@ pub fn cutcard(input: &[u8], out: &mut [u8]) -> usize
     write_picture(header, input, out)
 }
 
-// Bytes from a reader, until it ends, a read fails or buf is full; how many. A read that a signal cuts short is made again.
-fn read_full<R: Read>(reader: &mut R, buf: &mut [u8]) -> usize
-    ensures { result ≤ length buf.new }
-{
-    let mut done = 0usize;
-    for _ in 0..u64::MAX {
-        if buf.len() <= done {
-            break;
-        }
-        match reader.read(&mut buf[done..]) {
-            Ok(0) => break,
-            Ok(n) => done += n,
-            Err(e) => {
-                if e.kind() != ErrorKind::Interrupted {
-                    break;
-                }
-            }
-        }
-    }
-    done
-}
-
 // From standard input, until it ends or MOST_INPUT bytes are read, to standard output: what the programs run. No byte after
 // these matters (`first-bytes` in proofs/Laws.antt). A read that fails counts as the end. A text that standard output does not
 // take whole is said on standard error. It has no result, and so no contract.
 pub fn run<R: Input + Print + Eprint>(rt: &R) {
     let mut input = [0u8; MOST_INPUT];
     let mut out = [0u8; MOST_TEXT];
-    let n = read_full(&mut rt.reader(), &mut input);
+    let n = text::read_full(&mut rt.reader(), &mut input);
     let r = cutcard(&input[..n], &mut out);
     if rt.write_all(&out[..r]).is_err() {
         let _ = eprintln!(rt;

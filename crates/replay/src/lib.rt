@@ -26,7 +26,7 @@ use geometry::Labelled;
 use next_pass::NextPass;
 use outline::{Ground, Outcome};
 use std::io;
-use std::io::{Input, Read};
+use std::io::Input;
 
 const MOST_INPUT: usize = 262144;
 
@@ -1090,9 +1090,9 @@ fn cases<R: Print>(rt: &R, input: &[u8]) -> io::Result<()> {
     Ok(())
 }
 
-// All of standard input, up to MOST_INPUT bytes. A read or a write that fails ends the run.
-pub fn run<R: Input + Print + AllocGlobal>(rt: &R) -> io::Result<()> {
-    let mut input = Vec::new(rt.alloc());
-    rt.reader().take(MOST_INPUT as u64).read_to_end(&mut input)?;
-    cases(rt, &input)
+// All of standard input, up to MOST_INPUT bytes. A read that fails counts as the end; a write that fails ends the run.
+pub fn run<R: Input + Print>(rt: &R) -> io::Result<()> {
+    let mut input = [0u8; MOST_INPUT];
+    let n = text::read_full(&mut rt.reader(), &mut input);
+    cases(rt, &input[..n])
 }

@@ -1,10 +1,12 @@
-// Text in a buffer of bytes: decimal numbers read and written, and bytes put at a place. A function that writes does so from a
-// place on and answers the place after what it wrote.
+// Text in a buffer of bytes: decimal numbers read and written, bytes put at a place, and a buffer filled from a reader. A function
+// that writes does so from a place on and answers the place after what it wrote.
 #![tactic(auto)]
 
 ghost use Rattle.std.specs.Prelude.{◌≡◌, true, [], ◌∷◌, ◌+◌, ◌<◌, ◌≤◌, length, get_or};
 ghost use Rattle.text.specs.Decimal.{is_digit, all_digits, digits_upto, value_of, number_upto, decimal};
 ghost use Rattle.text.specs.steps.Writing.{Wrote};
+
+use std::io::{ErrorKind, Read};
 
 // The byte at a place, 0 past the end.
 pub fn byte_at(text: &[u8], at: usize) -> u8
@@ -102,4 +104,26 @@ pub fn write_number(out: &mut [u8], at: usize, n: u64) -> usize
     }
     let last = write_number(out, at, n / 10);
     put(out, last, b'0' + (n % 10) as u8)
+}
+
+// Bytes from a reader, until it ends, a read fails or buf is full; how many. A read that a signal cuts short is made again.
+pub fn read_full<R: Read>(reader: &mut R, buf: &mut [u8]) -> usize
+    ensures { result ≤ length buf.new }
+{
+    let mut done = 0usize;
+    for _ in 0..u64::MAX {
+        if buf.len() <= done {
+            break;
+        }
+        match reader.read(&mut buf[done..]) {
+            Ok(0) => break,
+            Ok(n) => done += n,
+            Err(e) => {
+                if e.kind() != ErrorKind::Interrupted {
+                    break;
+                }
+            }
+        }
+    }
+    done
 }

@@ -3,8 +3,7 @@
 use mathlib.Core.Path.{◌≡◌, sym, ◌∙◌}
 use mathlib.Core.Bool.{true}
 use native.Mathlib.Omega.{arith}
-use borrow.Author.Rules.{rules}
-use borrow.Author.Tests.{ne_eqb, eq-eqb, not-true, not-false}
+use borrow.Author.Tests.{ne_eqb, eq-eqb}
 use Rattle.card.specs.Card.{is_colour_text, text_colour, card_of}
 use Rattle.card.proofs.card_of.Tie as tie
 use Rattle.card.proofs.card_of.Reads as reads

@@ -3,7 +3,6 @@
 use mathlib.Core.Path.{◌∙◌}
 use Prim.Native.Nat.{◌+◌, ◌*◌, ◌≤◌}
 use native.Mathlib.Omega.{arith}
-use borrow.Author.Rules.{rules}
 use Rattle.card.specs.Card.{text_channel}
 use Rattle.card.proofs.Texts.{six-long, digit}
 use Rattle.card.proofs.channel.Tie as tie

@@ -5,11 +5,9 @@ use mathlib.Core.Bool.{true}
 use Prim.Native.Nat.{ℕ, ◌≤◌}
 use native.Mathlib.Omega.{arith}
 use lib.Dec.{leb}
-use borrow.Author.Rules.{rules}
 use borrow.Author.Tests.{leb-true}
 use Rattle.plane.proofs.Refusal.{and-true}
 use Rattle.card.specs.Hex.{is_from, hex_of}
-use Rattle.card.proofs.hex.Tie as tie
 use Rattle.card.proofs.hex.Reads as reads
 use Rattle.card.proofs.hex.Lts as lts
 use Rattle.card.proofs.hex.Goals as goal

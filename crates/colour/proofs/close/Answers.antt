@@ -1,6 +1,5 @@
 -- `colour::close` meets its contract.
 -- Assumes nothing.
-use borrow.Author.Rules.{rules}
 use Rattle.colour.proofs.Range.{close-tests}
 use Rattle.colour.proofs.close.Goals as goal
 

@@ -1,7 +1,6 @@
 -- `colour::difference` meets its contract.
 -- Assumes nothing.
 use Rattle.colour.specs.Colour.{difference_of}
-use borrow.Author.Rules.{rules}
 use Rattle.colour.proofs.difference.Goals as goal
 
 pub returns : goal.returns

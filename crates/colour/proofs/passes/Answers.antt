@@ -4,7 +4,6 @@
 use mathlib.Core.Path.{ap, ◌∙◌}
 use mir.Syntax.{w64}
 use mir.Facts.{to_z-of_z}
-use borrow.Author.Rules.{rules}
 use Rattle.colour.specs.Settings.{at_least_zero, passes_of}
 use Rattle.colour.proofs.passes.Goals as goal
 

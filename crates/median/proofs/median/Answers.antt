@@ -5,7 +5,6 @@ use mathlib.Core.List.{List}
 use Prim.Native.Nat.{ℕ, ◌+◌, ◌-◌, ◌/◌, ◌≤◌}
 use native.Mathlib.Omega.{arith}
 use lib.ListN.{length}
-use borrow.Author.Rules.{rules}
 use Rattle.colour.specs.Number.{plus_zero, half_of}
 use Rattle.median.specs.Median.{placed, lower_middle, upper_middle, median_of}
 use Rattle.median.specs.steps.Values.{floats_of}

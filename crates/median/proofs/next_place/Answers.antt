@@ -4,7 +4,6 @@ use mathlib.Core.Path.{◌≡◌, ap, ◌∙◌}
 use Prim.Native.Nat.{suc, ◌≤◌, ◌<◌}
 use native.Mathlib.Numerals.{add-one}
 use native.Mathlib.Omega.{arith}
-use borrow.Author.Rules.{rules}
 use Rattle.colour.specs.Number.{plus_zero}
 use Rattle.median.specs.steps.Values.{floats_of}
 use Rattle.median.specs.steps.Select.{at_most, least_above}

@@ -9,7 +9,6 @@ use lib.Ieee.Bits.{to_bits-lt}
 use borrow.Author.Rules.{rules}
 use Rattle.median.specs.steps.Values.{half}
 use Rattle.median.proofs.Values.{floats-length, floats-put, ok-number}
-use Rattle.median.proofs.put.Tie as tie
 use Rattle.median.proofs.put.Reads as reads
 use Rattle.median.proofs.put.Lts as lts
 use Rattle.median.proofs.put.Goals as goal

@@ -6,7 +6,6 @@ use native.Mathlib.Omega.{arith}
 use lib.ListN.{length}
 use Rattle.median.specs.steps.Values.{float_at}
 use Rattle.median.proofs.Values.{floats-length, bits-number}
-use Rattle.median.proofs.value.Tie as tie
 use Rattle.median.proofs.value.Reads as reads
 use Rattle.median.proofs.value.Lts as lts
 use Rattle.median.proofs.value.Goals as goal

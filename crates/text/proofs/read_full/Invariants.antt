@@ -1,7 +1,7 @@
--- `cutfile::read_full` stays within its buffer: no more is read than it holds.
+-- `text::read_full` stays within its buffer: no more is read than it holds.
 -- Assumes nothing.
 use Rattle.std.proofs.Common.{◌≤◌, length}
-use Rattle.cutfile.proofs.read_full.Given as goal
+use Rattle.text.proofs.read_full.Given as goal
 
 abbrev pub invariant-loop : goal.invariant-loop
 invariant-loop g l = l.done ≤ length l.buf
