@@ -4,16 +4,20 @@
 usage: python3 tools/respell.py        at the top of the repository, once, after the toolchain's port.py
 
 A name in camel case that begins with a small letter (someBelow) becomes one in snake case (some_below), in crates/ (.antt, .rt,
-.edit), and in the pages and comments that cite it. Names of types, of functions in src/ and of C exports are in their spelling
-already and stay. Where two names would fall together, TAKEN says what is written.
+.edit), and in the pages and comments that cite it. So does a record's field with dashes (mask-is), and each lemma of that name. Names
+of types, of functions in src/ and of C exports are in their spelling already and stay. Where two names would fall together, TAKEN,
+FIELDS and LEMMAS say what is written.
 """
 import os
 import re
 import sys
 
+IDENT = re.compile(r"[^\W\d][\w'-]*")
 WORD = re.compile(r"(?<![\w'\\-])[a-z][a-z0-9]*(?:[A-Z][a-z0-9]*)+(?![\w'])")
 # Pairs that would fall together: a definition beside a lemma, a field or a module of its name.
 TAKEN = {"linesOk": "are_lines_ok", "nextPass": "next_pass_is"}
+# A field that would have a definition's name.
+FIELDS = {"is-on": "pixel_on", "fields-ok": "fields_are_ok", "first-text": "text_first"}
 # A lemma that would have its definition's name.
 LEMMAS = {"first_below": "first_below_lem", "is_digit": "is_digit_lem"}
 LEMMA_FILES = {
@@ -45,9 +49,8 @@ def write(path, old, new):
             f.write(new)
 
 
-def main():
-    if not os.path.isfile("crates.txt"):
-        sys.exit("run it at the top of the repository")
+def definitions():
+    """Names in camel case."""
     for name, paths in LEMMA_FILES.items():
         for path in paths:
             old = read(path)
@@ -58,22 +61,58 @@ def main():
     for path in files("crates", (".antt", ".rt", ".edit")):
         old = read(path)
         write(path, old, WORD.sub(lambda m: snake(m.group()) if m.group() in names else m.group(), old))
+    known = idents()
+    for path in pages((".md", ".rs", ".h", ".py")):
+        old = read(path)
+        write(path, old, WORD.sub(lambda m: snake(m.group()) if m.group() in names or snake(m.group()) in known else m.group(), old))
+
+
+def fields():
+    """Fields of records: words joined by underscores, where port.py left some with dashes."""
+    names = set()
+    for path in files("crates", (".antt",)):
+        text = read(path)
+        for head in re.finditer(r"^( *)(?:pub )?record ", text, re.M):
+            at = text.find("where\n", head.start())
+            if at < 0 or "\n\n" in text[head.start() : at]:
+                continue
+            for line in text[at + len("where\n") :].split("\n"):
+                if not line.startswith(head.group(1) + "  "):
+                    break
+                found = re.match(r" *(?:pub )?([^\W\d][\w'-]*) :", line)
+                if found and "-" in found.group(1):
+                    names.add(found.group(1))
+    plain = lambda name: FIELDS.get(name, name.replace("-", "_"))
+    for path in files("crates", (".antt", ".edit")):
+        old = read(path)
+        write(path, old, IDENT.sub(lambda m: plain(m.group()) if m.group() in names else m.group(), old))
+    known = idents()
+    for path in pages((".md",)):
+        old = read(path)
+        write(path, old, re.sub(r"`([a-z][\w'-]*-[\w'-]+)`", lambda m: turned(m.group(1), known), old))
+
+
+def idents():
     known = set()
     for path in files("crates", (".antt",)):
-        known |= set(re.findall(r"[^\W\d][\w'-]*", read(path)))
-    pages = ["README.md"] + [p for d in ("docs", "host", "include", "examples") for p in files(d, (".md", ".rs", ".h", ".py"))]
-    for path in pages:
-        old = read(path)
-        new = WORD.sub(lambda m: snake(m.group()) if m.group() in names or snake(m.group()) in known else m.group(), old)
-        if path.endswith(".md"):
-            new = re.sub(r"`([a-z][\w'-]*-[\w'-]+)`", lambda m: turned(m.group(1), known), new)
-        write(path, old, new)
+        known |= set(IDENT.findall(read(path)))
+    return known
+
+
+def pages(ends):
+    return ["README.md"] + [p for d in ("docs", "host", "include", "examples") for p in files(d, ends)]
 
 
 def turned(name, known):
     """A name with dashes in a page: with underscores where only that form is left."""
     other = name.replace("-", "_")
+    other = FIELDS.get(name, other)
     return "`" + (other if name not in known and other in known else name) + "`"
 
 
-main()
+
+if __name__ == "__main__":
+    if not os.path.isfile("crates.txt"):
+        sys.exit("run it at the top of the repository")
+    definitions()
+    fields()

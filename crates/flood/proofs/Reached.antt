@@ -1,6 +1,6 @@
 -- The flood begins at the border, and ends with the ground marked.
 -- Assumes nothing.
-use Rattle.std.proofs.Common.{◌≡◌, ℕ, ◌-◌, ◌*◌, ◌<◌, ◌≤◌, true, false, not, eqb, ◌⊎◌, List, [], ◌∷◌, length, get_or, sym, refl, ap, ◌∙◌, inl, ⊎_elim, arith, eq-eqb, ne_eqb, eqb-true}
+use Rattle.std.proofs.Common.{◌≡◌, ℕ, ◌-◌, ◌*◌, ◌<◌, ◌≤◌, true, false, not, eqb, List, [], ◌∷◌, length, get_or, sym, refl, ap, ◌∙◌, inl, ⊎_elim, arith, eq-eqb, ne_eqb, eqb-true}
 use Rattle.plane.specs.Plane.{on}
 use Rattle.plane.proofs.Search.{which, not-both, or-true, or_left, or_right}
 use Rattle.plane.specs.Mask.{is_on, mask_of}

@@ -18,7 +18,7 @@ use Rattle.pam_header.specs.declared.Fields.{Fields}
 use Rattle.pam_header.specs.Header.{in_front, lines_of, count_of, starts_at, is_text, is_side, is_other}
 use Rattle.pam_header.specs.Header.{first_text, width_name, height_name, depth_text, maxval_text, tupltype_text, end_text}
 use Rattle.pam_header.specs.Header.{field_lines, fields_ok, side_in, bytes_of, are_lines_ok, declined, header_by}
-use Rattle.pam_header.specs.steps.Reading.{line_long, no_fields, more, with_line, Few, seen_ok, header_from, read_from}
+use Rattle.pam_header.specs.steps.Reading.{line_long, no_fields, with_line, Few, seen_ok, header_from, read_from}
 use Rattle.pam_header.specs.HeaderText.{text_of}
 use Rattle.pam_header.proofs.Comparing.{no_zero, starts_is, starts-split, text-long, text-is}
 

@@ -3,7 +3,6 @@
 use mathlib.Core.Path.{◌≡◌, ◌∙◌}
 use Prim.Native.Nat.{◌≤◌}
 use lib.ListN.{length}
-use borrow.Author.Rules.{rules}
 use Rattle.text.proofs.Written.{wrote_as}
 use Rattle.cutfile.specs.steps.Room.{picture_text, answer_text, answer_length}
 use Rattle.cutfile.proofs.Pictures.{text-is, text-fits}

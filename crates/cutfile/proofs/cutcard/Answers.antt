@@ -7,7 +7,6 @@ use Rattle.cutfile.specs.Cutcard.{most_text, text_under}
 use Rattle.cutfile.proofs.Texts.{card-declined, card-picture, file-small, whole}
 use native.Mathlib.Omega.{arith}
 use Rattle.pbm.proofs.Lengths.{refusal-short}
-use borrow.Author.Rules.{rules}
 use Rattle.cutfile.proofs.cutcard.Goals as goal
 
 pub returns-then-out-lt-MOST_TEXT : goal.returns-then-out-lt-MOST_TEXT

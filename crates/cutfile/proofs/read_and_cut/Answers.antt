@@ -1,7 +1,6 @@
 -- `cutfile::read_and_cut` meets its contract.
 -- Assumes nothing.
 use mathlib.Core.Path.{◌∙◌}
-use borrow.Author.Rules.{rules}
 use Rattle.text.proofs.Written.{wrote_as}
 use Rattle.cutfile.proofs.read_and_cut.Goals as goal
 

@@ -1,7 +1,6 @@
 -- `cutfile::write_answer` meets its contract.
 -- Assumes nothing.
 use mathlib.Core.Path.{sym, ap}
-use borrow.Author.Rules.{rules}
 use Rattle.text.proofs.Written.{wrote_as}
 use Rattle.cutfile.specs.steps.Room.{answer_text}
 use Rattle.cutfile.proofs.write_answer.Goals as goal

@@ -9,7 +9,6 @@ use Rattle.cutfile.proofs.Pictures.{room_most}
 use Rattle.pam_header.proofs.Sizes.{Small, header-small}
 use Rattle.pam.proofs.Files.{FileOk, file-ok, SidesOk, sides-of}
 use Rattle.cutfile.proofs.Texts.{part-long}
-use borrow.Author.Rules.{rules}
 use Rattle.cutfile.proofs.write_picture.Tie as tie
 use Rattle.cutfile.proofs.write_picture.Reads as reads
 use Rattle.cutfile.proofs.write_picture.Lts as lts

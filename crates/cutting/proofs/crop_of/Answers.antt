@@ -4,7 +4,6 @@ use mathlib.Core.Path.{◌≡◌, sym, ap, ◌∙◌}
 use mathlib.Core.Bool.{Bool, ◌&&◌}
 use Prim.Native.Nat.{◌*◌}
 use native.Mathlib.Omega.{arith}
-use borrow.Author.Rules.{rules}
 use Rattle.plane.specs.Mask.{some_off}
 use Rattle.plane.specs.Box.{whole_of}
 use Rattle.outline.specs.Cut.{crop_of}
@@ -22,10 +21,10 @@ asked c = ap (λ (b : Bool). c.args.cropping && b) (c.some_off.ensures ∙ rw c.
 
 pub box_of-requires : goal.box_of-requires
 box_of-requires c = record {
-      sides = c.requires.0;
-      mask_len = c.requires.1;
-      margin_le_longest_side = omega arith;
-    }
+  sides = c.requires.0;
+  mask_len = c.requires.1;
+  margin_le_longest_side = omega arith;
+}
 
 pub returns-then-asked : goal.returns-then-asked
 unfolding crop_of

@@ -5,7 +5,6 @@ use mathlib.Core.Bool.{not}
 use Prim.Native.Nat.{ℕ, ◌*◌}
 use native.Mathlib.Omega.{arith}
 use lib.ListN.{length}
-use borrow.Author.Rules.{rules}
 use Rattle.plane.specs.Mask.{is_on, mask_of}
 use Rattle.plane.specs.steps.Complement.{complement_of}
 use Rattle.plane.proofs.Refusal.{three-lines}

@@ -1,7 +1,7 @@
 -- `flood::reach` meets its contract.
 -- Assumes nothing.
-use Rattle.std.proofs.Common.{◌≡◌, ℕ, ◌+◌, ◌-◌, List, length, refl, ap, ◌∙◌, arith, rules}
-use Rattle.flood.specs.steps.Flood.{State, state, spread_top, waiting, Spreads, Closed}
+use Rattle.std.proofs.Common.{◌≡◌, ℕ, List, refl, ap, ◌∙◌, arith}
+use Rattle.flood.specs.steps.Flood.{State, state, spread_top, Spreads, Closed}
 use Rattle.flood.proofs.Room.{total, spread-total}
 use Rattle.flood.proofs.Reached.{Going, first-going, spread-ready, spread-going, ground-marked}
 use Rattle.flood.proofs.reach.Tie as tie

@@ -1,9 +1,8 @@
 -- `flood::reach` meets its contract.
 -- Assumes nothing.
-use Rattle.std.proofs.Common.{◌≡◌, ℕ, ◌+◌, ◌-◌, List, length, refl, ap, ◌∙◌, arith, rules}
-use Rattle.flood.specs.steps.Flood.{State, state, spread_top, waiting, Spreads, Closed}
-use Rattle.flood.proofs.Room.{total, spread-total}
-use Rattle.flood.proofs.Reached.{Going, first-going, spread-ready, spread-going, ground-marked}
+use Rattle.std.proofs.Common.{◌≡◌, ℕ, ◌+◌, List, length}
+use Rattle.flood.specs.steps.Flood.{state, waiting, Closed}
+use Rattle.flood.proofs.Reached.{Going}
 use Rattle.flood.proofs.reach.Given as goal
 
 abbrev pub invariant-loop-top : goal.invariant-loop-top

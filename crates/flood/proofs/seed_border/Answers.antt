@@ -1,6 +1,6 @@
 -- `flood::seed_border` meets its contract. The loop's invariant: what is left of the border list is still to be visited.
 -- Assumes nothing.
-use Rattle.std.proofs.Common.{◌≡◌, ℕ, ◌+◌, ◌-◌, ◌<◌, ◌≤◌, true, List, length, get_or, drop, sym, refl, ◌∙◌, add-one, arith, drop_of_length-le, drop-cons, rules}
+use Rattle.std.proofs.Common.{◌≡◌, ℕ, ◌+◌, ◌<◌, ◌≤◌, true, List, length, get_or, drop, sym, refl, ◌∙◌, add-one, arith, drop_of_length-le, drop-cons, rules}
 use Rattle.outline.specs.Border.{border_list}
 use Rattle.flood.specs.steps.Flood.{State, state, visit_if, seeded}
 use Rattle.flood.proofs.Border.{border-in}

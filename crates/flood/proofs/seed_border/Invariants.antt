@@ -1,10 +1,9 @@
 -- `flood::seed_border` meets its contract. The loop's invariant: what is left of the border list is still to be visited.
 -- Assumes nothing.
-use Rattle.std.proofs.Common.{◌≡◌, ℕ, ◌+◌, ◌-◌, ◌<◌, ◌≤◌, true, List, length, get_or, drop, sym, refl, ◌∙◌, add-one, arith, drop_of_length-le, drop-cons, rules}
+use Rattle.std.proofs.Common.{◌≡◌, ◌-◌, ◌≤◌, length, drop}
 use Rattle.outline.specs.Border.{border_list}
-use Rattle.flood.specs.steps.Flood.{State, state, visit_if, seeded}
-use Rattle.flood.proofs.Border.{border-in}
-use Rattle.flood.proofs.Room.{Kept, first-room, if_kept, if-same}
+use Rattle.flood.specs.steps.Flood.{state, seeded}
+use Rattle.flood.proofs.Room.{Kept}
 use Rattle.flood.proofs.seed_border.Given as goal
 
 abbrev pub invariant-loop-k : goal.invariant-loop-k

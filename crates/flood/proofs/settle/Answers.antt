@@ -1,8 +1,8 @@
 -- `flood::settle` meets its contract.
 -- Assumes nothing.
-use Rattle.std.proofs.Common.{◌≡◌, ℕ, ◌-◌, ◌≤◌, eqb, List, length, get_or, refl, ap, ◌∙◌, arith, rules}
+use Rattle.std.proofs.Common.{ℕ, eqb, refl, ap, ◌∙◌, arith, rules}
 use Rattle.plane.specs.Plane.{bit}
-use Rattle.plane.proofs.InPlace.{Changed, changed-none, changed-more, changed-end}
+use Rattle.plane.proofs.InPlace.{changed-none, changed-more, changed-end}
 use Rattle.flood.specs.steps.Flood.{marked}
 use Rattle.flood.proofs.settle.Invariants.{mark}
 use Rattle.flood.proofs.settle.Goals as goal

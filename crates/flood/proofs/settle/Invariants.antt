@@ -1,9 +1,8 @@
 -- `flood::settle` meets its contract.
 -- Assumes nothing.
-use Rattle.std.proofs.Common.{◌≡◌, ℕ, ◌-◌, ◌≤◌, eqb, List, length, get_or, refl, ap, ◌∙◌, arith, rules}
+use Rattle.std.proofs.Common.{◌≡◌, ℕ, ◌-◌, ◌≤◌, eqb, List, length, get_or}
 use Rattle.plane.specs.Plane.{bit}
-use Rattle.plane.proofs.InPlace.{Changed, changed-none, changed-more, changed-end}
-use Rattle.flood.specs.steps.Flood.{marked}
+use Rattle.plane.proofs.InPlace.{Changed}
 use Rattle.flood.proofs.settle.Given as goal
 
 -- what is written for pixel k

@@ -1,7 +1,6 @@
 -- `flood::visit` meets its contract.
 -- Assumes nothing.
 use Rattle.std.proofs.Common.{◌≡◌, ◌<◌, true, length, get_or, arith, rules, eq-eqb, ne_eqb}
-use borrow.Author.Tests.{not-true, not-false}
 use Rattle.flood.specs.steps.Flood.{state, pushed, visited, visit_if}
 use Rattle.flood.proofs.Room.{room_for}
 use Rattle.flood.proofs.visit.Tie as tie

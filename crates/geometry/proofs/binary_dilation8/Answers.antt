@@ -3,7 +3,6 @@
 use mathlib.Core.Path.{refl, sym, ◌∙◌}
 use mathlib.Core.Logic.{inr}
 use native.Mathlib.Omega.{arith}
-use borrow.Author.Rules.{rules}
 use Rattle.geometry.proofs.Accepted.{plane-refused, plane-made, plane-ok}
 use Rattle.geometry.proofs.binary_dilation8.Goals as goal
 

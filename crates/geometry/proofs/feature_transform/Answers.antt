@@ -1,7 +1,6 @@
 -- `geometry::feature_transform` meets its contract.
 -- Assumes nothing.
 use mathlib.Core.Path.{refl, sym, ap, ◌∙◌}
-use borrow.Author.Rules.{rules}
 use Rattle.plane.proofs.Refusal.{written, kept}
 use Rattle.geometry.specs.declared.Answer.TheVariants as answer
 use Rattle.geometry.proofs.Accepted.{done, declined, nearest-ok}

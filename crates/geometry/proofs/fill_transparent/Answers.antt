@@ -2,7 +2,6 @@
 -- Assumes nothing.
 use mathlib.Core.Path.{sym, ◌∙◌}
 use native.Mathlib.Omega.{arith}
-use borrow.Author.Rules.{rules}
 use Rattle.plane.proofs.Refusal.{three-lines}
 use Rattle.nearest.proofs.Indexed.{front-inside}
 use Rattle.geometry.proofs.Accepted.{plane-refused, plane-made, fill-ok}

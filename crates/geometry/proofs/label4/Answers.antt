@@ -2,7 +2,6 @@
 -- Assumes nothing.
 use mathlib.Core.Path.{◌≡◌, refl, sym, ap, ◌∙◌}
 use native.Mathlib.Omega.{arith}
-use borrow.Author.Rules.{rules}
 use Rattle.plane.proofs.Refusal.{written, kept}
 use Rattle.geometry.specs.declared.Labelled.TheVariants as labelled
 use Rattle.geometry.proofs.Accepted.{counted, not-counted, plane-ok, few-pixels}

@@ -1,7 +1,6 @@
 -- `geometry::square_distance` meets its contract.
 -- Assumes nothing.
 use mathlib.Core.Path.{sym, ◌∙◌}
-use borrow.Author.Rules.{rules}
 use Rattle.plane.proofs.Refusal.{three-lines}
 use Rattle.geometry.proofs.Accepted.{plane-refused, plane-made, plane-ok, distances-fit}
 use Rattle.geometry.proofs.square_distance.Goals as goal

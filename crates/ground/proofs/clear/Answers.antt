@@ -1,10 +1,9 @@
 -- `ground::clear` meets its contract.
 -- Assumes nothing.
-use mathlib.Core.Path.{◌≡◌, refl}
-use Prim.Native.Nat.{ℕ, ◌-◌, ◌≤◌}
+use mathlib.Core.Path.{refl}
+use Prim.Native.Nat.{ℕ}
 use native.Mathlib.Omega.{arith}
-use lib.ListN.{length}
-use Rattle.plane.proofs.InPlace.{Changed, changed-none, changed-more, changed-end}
+use Rattle.plane.proofs.InPlace.{changed-none, changed-more, changed-end}
 use Rattle.ground.proofs.clear.Goals as goal
 
 pub loop-i-preserved : goal.loop-i-preserved

@@ -3,14 +3,13 @@
 use mathlib.Core.Path.{◌≡◌, refl, ap, ◌∙◌}
 use mathlib.Core.Bool.{true}
 use mathlib.Core.List.{List}
-use Prim.Native.Nat.{ℕ, ◌+◌, ◌*◌, ◌-◌, ◌≤◌, ◌<◌}
+use Prim.Native.Nat.{ℕ, ◌+◌, ◌*◌, ◌<◌}
 use native.Mathlib.Omega.{arith}
-use lib.ListN.{length, get_or}
-use lib.Ieee.{Float, nan}
-use borrow.Author.Rules.{rules}
+use lib.ListN.{length}
+use lib.Ieee.{Float}
 use Rattle.plane.specs.Plane.{bit}
 use Rattle.plane.specs.Mask.{mask_of}
-use Rattle.plane.proofs.InPlace.{Changed, changed-none, changed-more, changed-end}
+use Rattle.plane.proofs.InPlace.{changed-none, changed-more, changed-end}
 use Rattle.colour.specs.declared.Rgb.{Rgb}
 use Rattle.colour.specs.Colour.{close_to, rgb_ok}
 use Rattle.colour.proofs.Range.{colours-at, rgb-from}

@@ -1,22 +1,14 @@
 -- `ground::close_plane` meets its contract.
 -- Assumes nothing.
-use mathlib.Core.Path.{◌≡◌, refl, ap, ◌∙◌}
-use mathlib.Core.Bool.{true}
+use mathlib.Core.Path.{◌≡◌}
 use mathlib.Core.List.{List}
-use Prim.Native.Nat.{ℕ, ◌+◌, ◌*◌, ◌-◌, ◌≤◌, ◌<◌}
-use native.Mathlib.Omega.{arith}
+use Prim.Native.Nat.{ℕ, ◌+◌, ◌*◌, ◌-◌, ◌≤◌}
 use lib.ListN.{length, get_or}
 use lib.Ieee.{Float, nan}
-use borrow.Author.Rules.{rules}
 use Rattle.plane.specs.Plane.{bit}
-use Rattle.plane.specs.Mask.{mask_of}
-use Rattle.plane.proofs.InPlace.{Changed, changed-none, changed-more, changed-end}
+use Rattle.plane.proofs.InPlace.{Changed}
 use Rattle.colour.specs.declared.Rgb.{Rgb}
-use Rattle.colour.specs.Colour.{close_to, rgb_ok}
-use Rattle.colour.proofs.Range.{colours-at, rgb-from}
-use Rattle.outline.specs.Border.{channel_at, colour_at}
 use Rattle.outline.specs.Ground.{is_close}
-use Rattle.ground.specs.steps.Picture.{Closes}
 use Rattle.ground.proofs.close_plane.Given as goal
 
 -- the colour that is read

@@ -7,7 +7,6 @@ use native.Mathlib.Omega.{arith}
 use lib.Dec.{leb}
 use lib.ListN.{length}
 use borrow.Author.Rules.{rules}
-use borrow.Author.Tests.{not-true, not-false}
 use Rattle.plane.specs.Mask.{some_off}
 use Rattle.plane.proofs.Plane.{area-most}
 use Rattle.outline.specs.Border.{border_list}
@@ -76,8 +75,8 @@ pub returns-then-not-mostly : goal.returns-then-not-mostly
 returns-then-not-mostly c =
     let a = c.args in
     let both =
-      absent-few a.colours.now a.h a.w a.reference a.tolerance (close c.before.before.before.before.before.before.before.before.before) (length (close c.before.before.before.before.before.before.before.before.before)) c.clear.new.out
-      (close-pixels c.before.before.before.before.before.before.before.before.before) (sym (counted_is c.before.before.before.before.before.before) ∙ c.if-not-mostly.true) (close-long c.before.before.before.before.before.before.before.before.before, c.clear.ensures) in
+    absent-few a.colours.now a.h a.w a.reference a.tolerance (close c.before.before.before.before.before.before.before.before.before) (length (close c.before.before.before.before.before.before.before.before.before)) c.clear.new.out
+    (close-pixels c.before.before.before.before.before.before.before.before.before) (sym (counted_is c.before.before.before.before.before.before) ∙ c.if-not-mostly.true) (close-long c.before.before.before.before.before.before.before.before.before, c.clear.ensures) in
     record { value = both.0; out_after = both.1 }
 
 pub flood-requires : goal.flood-requires
@@ -93,16 +92,16 @@ pub returns-then-not-some_off : goal.returns-then-not-some_off
 returns-then-not-some_off c =
     let a = c.args in
     let both =
-      absent-full _ _ _ _ _ (close c.before.before.before.before.before.before.before.before.before.before.before.before.before.before.before.before.before.before) (ground c.before.before.before.before.before.before.before.before.before.before.before) (close-pixels c.before.before.before.before.before.before.before.before.before.before.before.before.before.before.before.before.before.before) c.flood.ensures (ground-long c.before.before.before.before.before.before.before.before.before.before.before) (length (ground c.before.before.before.before.before.before.before.before.before.before.before)) _
-      (sym (off-is c.before.before.before.before.before.before) ∙ c.if-not-some_off.true) (ground-long c.before.before.before.before.before.before.before.before.before.before.before, c.clear-then-not-some_off.ensures) in
+    absent-full _ _ _ _ _ (close c.before.before.before.before.before.before.before.before.before.before.before.before.before.before.before.before.before.before) (ground c.before.before.before.before.before.before.before.before.before.before.before) (close-pixels c.before.before.before.before.before.before.before.before.before.before.before.before.before.before.before.before.before.before) c.flood.ensures (ground-long c.before.before.before.before.before.before.before.before.before.before.before) (length (ground c.before.before.before.before.before.before.before.before.before.before.before)) _
+    (sym (off-is c.before.before.before.before.before.before) ∙ c.if-not-some_off.true) (ground-long c.before.before.before.before.before.before.before.before.before.before.before, c.clear-then-not-some_off.ensures) in
     record { value = both.0; out_after = both.1 }
 
 pub returns : goal.returns
 returns c =
     let a = c.args in
     let both =
-      found _ _ _ _ _ (close c.before.before.before.before.before.before.before.before.before.before.before.before.before.before) (ground c.before.before.before.before.before.before.before) (close-pixels c.before.before.before.before.before.before.before.before.before.before.before.before.before.before) c.flood.ensures (ground-long c.before.before.before.before.before.before.before)
-      (sym (counted_is c.before.before.before.before.before.before.before.before.before.before.before) ∙ c.if-not-mostly.false) (sym (off-is c.before.before) ∙ c.if-not-some_off.false) in
+    found _ _ _ _ _ (close c.before.before.before.before.before.before.before.before.before.before.before.before.before.before) (ground c.before.before.before.before.before.before.before) (close-pixels c.before.before.before.before.before.before.before.before.before.before.before.before.before.before) c.flood.ensures (ground-long c.before.before.before.before.before.before.before)
+    (sym (counted_is c.before.before.before.before.before.before.before.before.before.before.before) ∙ c.if-not-mostly.false) (sym (off-is c.before.before) ∙ c.if-not-some_off.false) in
     record { value = both.0; out_after = both.1 }
 
 pub shape_of-out-then-not-mostly : goal.shape_of-out-then-not-mostly

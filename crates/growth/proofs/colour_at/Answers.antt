@@ -1,7 +1,6 @@
 -- `growth::colour_at` meets its contract.
 -- Assumes nothing.
 use native.Mathlib.Nat.{add-zero}
-use borrow.Author.Rules.{rules}
 use Rattle.outline.specs.Border.{channel_at, colour_at}
 use Rattle.growth.proofs.colour_at.Goals as goal
 

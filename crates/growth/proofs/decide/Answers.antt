@@ -6,7 +6,6 @@ use Prim.Native.Nat.{ℕ, ◌*◌, ◌-◌}
 use native.Mathlib.Omega.{arith}
 use lib.ListN.{length, take}
 use borrow.Author.Rules.{rules}
-use borrow.Author.Tests.{not-true}
 use Rattle.plane.specs.Search.{some_below}
 use Rattle.plane.specs.Mask.{is_on}
 use Rattle.nearest.specs.steps.Indices.{indices_plane}

@@ -1,11 +1,8 @@
 -- `growth::decide_waiting` meets its contract.
 -- Assumes nothing.
-use mathlib.Core.Path.{◌≡◌}
 use Prim.Native.Nat.{◌-◌, ◌≤◌}
-use native.Mathlib.Omega.{arith}
-use lib.ListN.{length, get_or}
-use borrow.Author.Rules.{rules}
-use Rattle.plane.proofs.InPlace.{Changed, changed-none, changed-more, changed-end}
+use lib.ListN.{length}
+use Rattle.plane.proofs.InPlace.{Changed}
 use Rattle.growth.specs.steps.Marks.{last_mark}
 use Rattle.growth.proofs.decide_waiting.Given as goal
 

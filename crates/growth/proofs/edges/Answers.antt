@@ -1,14 +1,12 @@
 -- `growth::edges` meets its contract.
 -- Assumes nothing.
 use mathlib.Core.Path.{◌≡◌, ap, ◌∙◌}
-use Prim.Native.Nat.{ℕ, ◌-◌, ◌≤◌}
+use Prim.Native.Nat.{ℕ}
 use native.Mathlib.Omega.{arith}
-use lib.ListN.{length}
-use borrow.Author.Rules.{rules}
 use Rattle.plane.specs.Plane.{bit, table}
 use Rattle.plane.specs.Mask.{mask_of}
 use Rattle.plane.proofs.Mask.{off_byte}
-use Rattle.plane.proofs.InPlace.{Changed, changed-none, changed-more, changed-end}
+use Rattle.plane.proofs.InPlace.{changed-none, changed-more, changed-end}
 use Rattle.growth.specs.steps.Marks.{edge_test}
 use Rattle.growth.proofs.edges.Goals as goal
 

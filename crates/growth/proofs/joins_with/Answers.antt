@@ -1,6 +1,5 @@
 -- `growth::joins_with` meets its contract.
 -- Assumes nothing.
-use borrow.Author.Rules.{rules}
 use Rattle.growth.specs.steps.Marks.{joins_with}
 use Rattle.growth.proofs.joins_with.Goals as goal
 

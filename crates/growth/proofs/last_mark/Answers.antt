@@ -1,7 +1,6 @@
 -- `growth::last_mark` meets its contract.
 -- Assumes nothing.
 use borrow.Author.Tests.{eq-eqb, ne_eqb}
-use borrow.Author.Rules.{rules}
 use Rattle.growth.proofs.last_mark.Goals as goal
 
 pub returns-then-mark-ne-WAITS : goal.returns-then-mark-ne-WAITS

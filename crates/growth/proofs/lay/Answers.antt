@@ -4,7 +4,6 @@ use mathlib.Core.Path.{◌≡◌, ap, ◌∙◌}
 use mathlib.Core.List.{List}
 use Prim.Native.Nat.{ℕ, ◌*◌}
 use native.Mathlib.Omega.{arith}
-use borrow.Author.Rules.{rules}
 use Rattle.plane.specs.Mask.{mask_of}
 use Rattle.plane.specs.steps.Complement.{complement_of}
 use Rattle.outline.specs.Growth.{is_shallow}

@@ -2,7 +2,6 @@
 -- Assumes nothing.
 use mathlib.Core.Path.{refl, sym, ◌∙◌}
 use mathlib.Core.Bool.{false}
-use borrow.Author.Rules.{rules}
 use Rattle.plane.proofs.Search.{not-both}
 use Rattle.plane.proofs.Refusal.{and-true}
 use Rattle.growth.proofs.make_nearest.Goals as goal

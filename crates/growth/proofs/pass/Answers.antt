@@ -3,7 +3,6 @@
 use mathlib.Core.Path.{◌∙◌}
 use mathlib.Core.List.{List}
 use Prim.Native.Nat.{ℕ}
-use borrow.Author.Rules.{rules}
 use Rattle.growth.proofs.Marks.{joins-some, joins-pass}
 use Rattle.growth.proofs.pass.Goals as goal
 

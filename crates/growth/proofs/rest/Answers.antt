@@ -1,6 +1,5 @@
 -- `growth::rest` meets its contract.
 -- Assumes nothing.
-use borrow.Author.Rules.{rules}
 use Rattle.growth.proofs.rest.Goals as goal
 
 pub returns-then-joined : goal.returns-then-joined

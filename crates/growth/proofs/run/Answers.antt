@@ -4,10 +4,6 @@ use mathlib.Core.Path.{◌≡◌, refl, sym, ◌∙◌}
 use mathlib.Core.List.{List}
 use Prim.Native.Nat.{ℕ}
 use native.Mathlib.Omega.{arith}
-use lib.ListN.{length}
-use borrow.Author.Rules.{rules}
-use Rattle.outline.specs.Growth.{growth_of}
-use Rattle.growth.specs.steps.Marks.{Planes}
 use Rattle.growth.proofs.Passes.{rest-less, growth-step, growth-done}
 use Rattle.growth.proofs.run.Goals as goal
 

@@ -1,14 +1,9 @@
 -- `growth::run` meets its contract.
 -- Assumes nothing.
-use mathlib.Core.Path.{◌≡◌, refl, sym, ◌∙◌}
-use mathlib.Core.List.{List}
-use Prim.Native.Nat.{ℕ}
-use native.Mathlib.Omega.{arith}
+use mathlib.Core.Path.{◌≡◌}
 use lib.ListN.{length}
-use borrow.Author.Rules.{rules}
 use Rattle.outline.specs.Growth.{growth_of}
 use Rattle.growth.specs.steps.Marks.{Planes}
-use Rattle.growth.proofs.Passes.{rest-less, growth-step, growth-done}
 use Rattle.growth.proofs.run.Given as goal
 
 abbrev pub invariant-loop-left : goal.invariant-loop-left

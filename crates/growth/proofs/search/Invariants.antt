@@ -1,16 +1,10 @@
 -- `growth::search` meets its contract.
 -- Assumes nothing.
-use mathlib.Core.Path.{◌≡◌, refl, ap, ◌∙◌}
+use mathlib.Core.Path.{◌≡◌}
 use Prim.Native.Nat.{ℕ, ◌*◌, ◌-◌, ◌≤◌}
-use native.Mathlib.Omega.{arith}
 use lib.Dec.{eqb}
-use lib.ListN.{get_or}
-use borrow.Author.Rules.{rules}
-use Rattle.plane.specs.Plane.{table}
 use Rattle.plane.specs.Search.{some_below}
-use Rattle.plane.specs.Mask.{is_on}
-use Rattle.plane.proofs.Search.{some_more}
-use Rattle.plane.proofs.InPlace.{Changed, changed-none, changed-more, changed-end}
+use Rattle.plane.proofs.InPlace.{Changed}
 use Rattle.growth.specs.steps.Marks.{waits, search_mark}
 use Rattle.growth.proofs.search.Given as goal
 

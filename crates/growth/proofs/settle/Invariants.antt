@@ -1,16 +1,13 @@
 -- `growth::settle` meets its contract.
 -- Assumes nothing.
-use mathlib.Core.Path.{◌≡◌, refl, ap, ◌∙◌}
+use mathlib.Core.Path.{◌≡◌}
 use mathlib.Core.Bool.{◌||◌}
 use Prim.Native.Nat.{ℕ, ◌-◌, ◌≤◌}
-use native.Mathlib.Omega.{arith}
 use lib.ListN.{length}
-use borrow.Author.Rules.{rules}
-use Rattle.plane.specs.Plane.{on, bit}
+use Rattle.plane.specs.Plane.{bit}
 use Rattle.plane.specs.Search.{some_below}
-use Rattle.plane.specs.Mask.{is_on, mask_of}
-use Rattle.plane.proofs.Search.{some_more}
-use Rattle.plane.proofs.InPlace.{Changed, changed-none, changed-more, changed-end}
+use Rattle.plane.specs.Mask.{is_on}
+use Rattle.plane.proofs.InPlace.{Changed}
 use Rattle.growth.proofs.settle.Given as goal
 
 abbrev pub invariant-loop-i : goal.invariant-loop-i

@@ -1,13 +1,11 @@
 -- `growth::tidy` meets its contract.
 -- Assumes nothing.
 use mathlib.Core.Path.{ap, ◌∙◌}
-use Prim.Native.Nat.{ℕ, ◌-◌, ◌≤◌}
+use Prim.Native.Nat.{ℕ}
 use native.Mathlib.Omega.{arith}
-use lib.ListN.{length}
-use borrow.Author.Rules.{rules}
 use Rattle.plane.specs.Plane.{on, bit}
 use Rattle.plane.specs.Mask.{is_on, mask_of}
-use Rattle.plane.proofs.InPlace.{Changed, changed-none, changed-more, changed-end}
+use Rattle.plane.proofs.InPlace.{changed-none, changed-more, changed-end}
 use Rattle.growth.proofs.tidy.Goals as goal
 
 pub loop-i-preserved : goal.loop-i-preserved

@@ -1,9 +1,9 @@
 -- `keying::copy` meets its contract.
 -- Assumes nothing.
-use mathlib.Core.Path.{◌≡◌, refl, sym, ◌∙◌}
-use Prim.Native.Nat.{ℕ, ◌-◌, ◌≤◌, ◌<◌}
+use mathlib.Core.Path.{refl, sym, ◌∙◌}
+use Prim.Native.Nat.{ℕ}
 use native.Mathlib.Nat.{not-suc-le-zero}
-use lib.ListN.{length, get_or, length-set}
+use lib.ListN.{get_or, length-set}
 use lib.Seq.{ext_get_or}
 use Rattle.plane.proofs.Plane.{filled}
 use native.Mathlib.Omega.{arith}

@@ -1,12 +1,8 @@
 -- `keying::copy` meets its contract.
 -- Assumes nothing.
-use mathlib.Core.Path.{◌≡◌, refl, sym, ◌∙◌}
+use mathlib.Core.Path.{◌≡◌}
 use Prim.Native.Nat.{ℕ, ◌-◌, ◌≤◌, ◌<◌}
-use native.Mathlib.Nat.{not-suc-le-zero}
-use lib.ListN.{length, get_or, length-set}
-use lib.Seq.{ext_get_or}
-use Rattle.plane.proofs.Plane.{filled}
-use native.Mathlib.Omega.{arith}
+use lib.ListN.{length, get_or}
 use Rattle.keying.proofs.copy.Given as goal
 
 abbrev pub invariant-loop-i : goal.invariant-loop-i

@@ -3,7 +3,6 @@
 use mathlib.Core.Path.{◌≡◌, sym, ap, ◌∙◌}
 use Prim.Native.Nat.{◌*◌}
 use lib.ListN.{length}
-use borrow.Author.Rules.{rules}
 use Rattle.colour.proofs.Range.{is}
 use Rattle.outline.specs.Calls.{Buffers, refusal_in, HeldIn}
 use Rattle.outline.specs.Cut.{weights_of}
@@ -87,11 +86,10 @@ module _ (c : At-After-cut_mask) where
   alpha-long = (room c.before.before.before.before.before.before.before c.if-refusal-ne0.false).alpha-long
 
 pub weights-requires : goal.weights-requires
-weights-requires c =
-    (
-      mask-long c.before.before.before.before.before.before.before.before.before.before.before.before ∙ sym (weights-long c.before.before.before.before.before.before.before.before.before.before.before.before),
-      alpha-long c.before.before.before.before.before.before.before.before.before.before.before.before ∙ sym (weights-long c.before.before.before.before.before.before.before.before.before.before.before.before),
-    )
+weights-requires c = (
+  mask-long c.before.before.before.before.before.before.before.before.before.before.before.before ∙ sym (weights-long c.before.before.before.before.before.before.before.before.before.before.before.before),
+  alpha-long c.before.before.before.before.before.before.before.before.before.before.before.before ∙ sym (weights-long c.before.before.before.before.before.before.before.before.before.before.before.before),
+)
 
 pub crop_of-crop-requires : goal.crop_of-crop-requires
 crop_of-crop-requires c =

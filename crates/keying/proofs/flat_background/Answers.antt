@@ -1,6 +1,5 @@
 -- `keying::flat_background` meets its contract.
 -- Assumes nothing.
-use borrow.Author.Rules.{rules}
 use Rattle.keying.proofs.Accepted.{ground-wrong-lengths}
 use Rattle.keying.proofs.flat_background.Goals as goal
 

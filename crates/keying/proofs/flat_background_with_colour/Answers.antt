@@ -1,7 +1,6 @@
 -- `keying::flat_background_with_colour` meets its contract.
 -- Assumes nothing.
 use mathlib.Core.Path.{sym, ◌∙◌}
-use borrow.Author.Rules.{rules}
 use Rattle.card.proofs.Texts.{card-ok}
 use Rattle.keying.proofs.Accepted.{ground-wrong-lengths}
 use Rattle.keying.proofs.flat_background_with_colour.Goals as goal

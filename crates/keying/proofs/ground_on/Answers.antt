@@ -1,7 +1,6 @@
 -- `keying::ground_on` meets its contract.
 -- Assumes nothing.
 use mathlib.Core.Path.{◌≡◌, sym, ◌∙◌}
-use borrow.Author.Rules.{rules}
 use Rattle.plane.proofs.Refusal.{written}
 use Rattle.keying.specs.Calls.{ground_refusal_in}
 use Rattle.keying.proofs.Accepted.{ground-ok, ground-by-picture, ground-refused}

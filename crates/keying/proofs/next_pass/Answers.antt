@@ -1,7 +1,6 @@
 -- `keying::next_pass` meets its contract.
 -- Assumes nothing.
 use mathlib.Core.Path.{ap, ◌∙◌}
-use borrow.Author.Rules.{rules}
 use Rattle.next_pass.specs.declared.NextPass.TheVariants.{Joins}
 use Rattle.keying.proofs.NextPassLaws.{looked, as_long, declined, counted}
 use Rattle.keying.proofs.next_pass.Goals as goal

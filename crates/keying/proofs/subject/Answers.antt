@@ -1,6 +1,5 @@
 -- `keying::subject` meets its contract.
 -- Assumes nothing.
-use borrow.Author.Rules.{rules}
 use Rattle.colour.proofs.Range.{is}
 use Rattle.keying.proofs.Accepted.{cut-wrong-lengths}
 use Rattle.keying.proofs.subject.Goals as goal

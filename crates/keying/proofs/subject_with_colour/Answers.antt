@@ -1,7 +1,6 @@
 -- `keying::subject_with_colour` meets its contract.
 -- Assumes nothing.
 use mathlib.Core.Path.{sym, ◌∙◌}
-use borrow.Author.Rules.{rules}
 use Rattle.colour.proofs.Range.{is}
 use Rattle.card.proofs.Texts.{card-ok}
 use Rattle.keying.proofs.Accepted.{cut-wrong-lengths}

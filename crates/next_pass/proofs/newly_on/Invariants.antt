@@ -1,15 +1,9 @@
 -- `next_pass::newly_on` meets its contract.
 -- Assumes nothing.
-use mathlib.Core.Path.{◌≡◌, refl, sym, ap, ◌∙◌}
-use mathlib.Core.List.{List}
-use Prim.Native.Nat.{ℕ, ◌+◌, ◌-◌, ◌≤◌}
-use native.Mathlib.Omega.{arith}
-use lib.ListN.{length, take, drop}
-use borrow.Author.Rules.{rules}
-use Rattle.plane.specs.Search.{count_below}
-use Rattle.counts.proofs.Put.{part_length}
+use mathlib.Core.Path.{◌≡◌}
+use Prim.Native.Nat.{◌-◌, ◌≤◌}
+use lib.ListN.{length}
 use Rattle.next_pass.specs.NextPass.{newly_on}
-use Rattle.next_pass.proofs.Counts.{newly-then, newly-most}
 use Rattle.next_pass.proofs.newly_on.Given as goal
 
 abbrev pub invariant-loop-i : goal.invariant-loop-i

@@ -1,13 +1,9 @@
 -- `pam::alpha` meets its contract.
 -- Assumes nothing.
-use mathlib.Core.Path.{ap, ◌∙◌}
 use Prim.Native.Nat.{ℕ, ◌+◌, ◌*◌, ◌-◌, ◌≤◌}
-use native.Mathlib.Omega.{arith}
 use lib.ListN.{length}
-use borrow.Author.Rules.{rules}
-use Rattle.plane.specs.Plane.{table}
-use Rattle.plane.proofs.InPlace.{Changed, changed-none, changed-more, changed-end}
-use Rattle.pam.specs.Picture.{sample_at, alpha_from}
+use Rattle.plane.proofs.InPlace.{Changed}
+use Rattle.pam.specs.Picture.{sample_at}
 use Rattle.pam.proofs.alpha.Given as goal
 
 abbrev pub invariant-loop-i : goal.invariant-loop-i

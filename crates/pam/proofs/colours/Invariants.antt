@@ -1,19 +1,12 @@
 -- `pam::colours` meets its contract.
 -- Assumes nothing.
-use mathlib.Core.Path.{ap, ◌∙◌}
 use mathlib.Core.List.{List}
 use Prim.Native.Nat.{ℕ, ◌+◌, ◌*◌, ◌/◌, ◌%◌, ◌-◌, ◌≤◌}
-use native.Mathlib.Omega.{arith}
-use lib.ListN.{length, get_or}
+use lib.ListN.{length}
 use lib.Ieee.{Float, nan}
-use borrow.Author.Rules.{rules}
-use Rattle.plane.specs.Plane.{table}
-use Rattle.plane.proofs.InPlace.{Changed, changed-none, changed-more, changed-end}
-use Rattle.colour.specs.Colour.{colour_ok}
+use Rattle.plane.proofs.InPlace.{Changed}
 use Rattle.colour.specs.Weight.{weight_of}
-use Rattle.colour.proofs.Range.{colours-all}
-use Rattle.pam.specs.Picture.{sample_at, colours_from}
-use Rattle.colour.proofs.Bytes.{byte-ok}
+use Rattle.pam.specs.Picture.{sample_at}
 use Rattle.pam.proofs.colours.Given as goal
 
 -- number k of the colours

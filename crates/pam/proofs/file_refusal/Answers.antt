@@ -6,11 +6,9 @@ use native.Mathlib.Nat.{mul-le-mul}
 use native.Mathlib.Omega.{arith}
 use mir.Facts.{Fits-le, Fits-lit}
 use borrow.Author.Tests.{not-true, not-false, eq-eqb, ne_eqb, le-leb, lt-leb}
-use borrow.Author.Rules.{rules}
 use Rattle.plane.specs.Refusal.{refusal_of}
 use Rattle.pam.specs.steps.File.{file_refusal}
 use Rattle.pam_header.proofs.Sizes.{Small, header-small}
-use Rattle.pam.proofs.file_refusal.Tie as tie
 use Rattle.pam.proofs.file_refusal.Reads as reads
 use Rattle.pam.proofs.file_refusal.Lts as lts
 use Rattle.pam.proofs.file_refusal.Goals as goal

@@ -1,7 +1,6 @@
 -- `pam_header::counted` meets its contract.
 -- Assumes nothing.
 use native.Mathlib.Omega.{arith}
-use borrow.Author.Rules.{rules}
 use Rattle.pam_header.proofs.counted.Goals as goal
 
 pub returns-then-t : goal.returns-then-t

@@ -2,8 +2,6 @@
 -- Assumes nothing.
 use mathlib.Core.Path.{◌≡◌, ◌∙◌}
 use mathlib.Core.Bool.{true, false}
-use borrow.Author.Tests.{not-true, not-false}
-use borrow.Author.Rules.{rules}
 use Rattle.pam_header.specs.steps.Reading.{seen_ok, header_from}
 use Rattle.pam_header.proofs.header_from.Goals as goal
 

@@ -1,8 +1,6 @@
 -- `pam_header::header_in` meets its contract.
 -- Assumes nothing.
 use mathlib.Core.Path.{sym, ◌∙◌}
-use borrow.Author.Tests.{not-true, not-false}
-use borrow.Author.Rules.{rules}
 use Rattle.pam_header.proofs.Lines.{header-not, first-long, header_is}
 use Rattle.pam_header.proofs.header_in.Goals as goal
 

@@ -4,7 +4,6 @@ use mathlib.Core.Path.{ap}
 use mathlib.Core.Bool.{Bool, not, ◌&&◌}
 use lib.Dec.{eqb, leb}
 use lib.ListN.{length, get_or}
-use borrow.Author.Rules.{rules}
 use Rattle.pam_header.specs.Header.{is_numeral}
 use Rattle.pam_header.proofs.Numbers.{digits-all}
 use Rattle.pam_header.proofs.is_numeral.Goals as goal

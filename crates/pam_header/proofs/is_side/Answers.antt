@@ -7,7 +7,6 @@ use Prim.Native.Nat.{◌-◌, ◌≤◌}
 use native.Mathlib.Omega.{arith}
 use lib.ListN.{length, drop, drop_of_length-le, length-drop}
 use lib.Seq.{take_all}
-use borrow.Author.Rules.{rules}
 use Rattle.plane.proofs.Search.{and_no}
 use Rattle.text.specs.Decimal.{all_digits}
 use Rattle.pam_header.specs.Header.{starts_at, is_numeral, is_side}

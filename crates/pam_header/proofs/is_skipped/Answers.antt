@@ -1,6 +1,5 @@
 -- `pam_header::is_skipped` meets its contract.
 -- Assumes nothing.
-use borrow.Author.Rules.{rules}
 use Rattle.pam_header.specs.Header.{is_skipped}
 use Rattle.pam_header.proofs.is_skipped.Goals as goal
 

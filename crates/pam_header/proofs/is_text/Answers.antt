@@ -1,6 +1,5 @@
 -- `pam_header::is_text` meets its contract.
 -- Assumes nothing.
-use borrow.Author.Rules.{rules}
 use Rattle.pam_header.specs.Header.{is_text}
 use Rattle.pam_header.proofs.is_text.Goals as goal
 

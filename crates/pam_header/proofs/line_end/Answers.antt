@@ -1,10 +1,7 @@
 -- `pam_header::line_end` meets its contract.
 -- Assumes nothing.
-use mathlib.Core.Path.{◌≡◌, refl}
-use Prim.Native.Nat.{◌+◌, ◌-◌, ◌≤◌}
+use mathlib.Core.Path.{refl}
 use native.Mathlib.Omega.{arith}
-use lib.ListN.{length, drop}
-use Rattle.pam_header.specs.steps.Reading.{line_long}
 use Rattle.pam_header.proofs.Lines.{long-more, long-here, long-past}
 use Rattle.pam_header.proofs.line_end.Goals as goal
 

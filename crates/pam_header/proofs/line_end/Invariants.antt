@@ -1,11 +1,9 @@
 -- `pam_header::line_end` meets its contract.
 -- Assumes nothing.
-use mathlib.Core.Path.{◌≡◌, refl}
+use mathlib.Core.Path.{◌≡◌}
 use Prim.Native.Nat.{◌+◌, ◌-◌, ◌≤◌}
-use native.Mathlib.Omega.{arith}
 use lib.ListN.{length, drop}
 use Rattle.pam_header.specs.steps.Reading.{line_long}
-use Rattle.pam_header.proofs.Lines.{long-more, long-here, long-past}
 use Rattle.pam_header.proofs.line_end.Given as goal
 
 abbrev pub invariant-loop-i : goal.invariant-loop-i

@@ -6,7 +6,6 @@ use Prim.Native.Nat.{ℕ}
 use native.Mathlib.Omega.{arith}
 use lib.ListN.{length, take}
 use lib.Seq.{take_all, length-take-le}
-use borrow.Author.Rules.{rules}
 use Rattle.pam_header.specs.Header.{lines_of, most_header, header_by, header_of}
 use Prim.Native.Nat.{◌≤◌}
 use Rattle.pam_header.proofs.read_header.Goals as goal

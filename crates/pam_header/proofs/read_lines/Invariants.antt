@@ -1,14 +1,10 @@
 -- `pam_header::read_lines` meets its contract.
 -- Assumes nothing.
-use mathlib.Core.Path.{◌≡◌, refl, sym, ◌∙◌}
-use mathlib.Core.List.{List}
-use Prim.Native.Nat.{ℕ, ◌+◌, ◌-◌, ◌≤◌, ◌<◌}
-use native.Mathlib.Omega.{arith}
-use lib.ListN.{length, take, drop}
-use borrow.Author.Rules.{rules}
+use mathlib.Core.Path.{◌≡◌}
+use Prim.Native.Nat.{◌-◌, ◌≤◌}
+use lib.ListN.{length, drop}
 use Rattle.pam_header.specs.Header.{lines_of}
-use Rattle.pam_header.specs.steps.Reading.{Few, no_fields, with_line, read_from}
-use Rattle.pam_header.proofs.Lines.{few-more, end-most, read_past, read_none, read-end, read_next}
+use Rattle.pam_header.specs.steps.Reading.{Few, no_fields, read_from}
 use Rattle.pam_header.proofs.read_lines.Given as goal
 
 abbrev pub invariant-loop-at : goal.invariant-loop-at

@@ -3,8 +3,6 @@
 use mathlib.Core.Path.{◌≡◌, sym, ◌∙◌}
 use mathlib.Core.Bool.{true}
 use lib.ListN.{length, drop}
-use borrow.Author.Tests.{not-true, not-false}
-use borrow.Author.Rules.{rules}
 use Rattle.plane.proofs.Refusal.{and-true}
 use Rattle.pam_header.specs.Header.{starts_at, is_numeral, is_side, side_from}
 use Rattle.pam_header.proofs.Numbers.{number-last}

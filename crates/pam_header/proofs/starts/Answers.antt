@@ -1,12 +1,8 @@
 -- `pam_header::starts` meets its contract.
 -- Assumes nothing.
-use mathlib.Core.Path.{◌≡◌, refl, sym, ◌∙◌}
-use Prim.Native.Nat.{◌-◌, ◌≤◌}
+use mathlib.Core.Path.{refl, sym, ◌∙◌}
 use native.Mathlib.Omega.{arith}
-use lib.ListN.{length, drop}
-use Rattle.pam_header.specs.Header.{starts_at}
 use Rattle.pam_header.proofs.Comparing.{starts_more, starts-not, starts-end}
-use borrow.Author.Rules.{rules}
 use Rattle.pam_header.proofs.starts.Goals as goal
 
 pub returns-then-b-text : goal.returns-then-b-text

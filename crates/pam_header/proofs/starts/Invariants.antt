@@ -1,12 +1,9 @@
 -- `pam_header::starts` meets its contract.
 -- Assumes nothing.
-use mathlib.Core.Path.{◌≡◌, refl, sym, ◌∙◌}
+use mathlib.Core.Path.{◌≡◌}
 use Prim.Native.Nat.{◌-◌, ◌≤◌}
-use native.Mathlib.Omega.{arith}
 use lib.ListN.{length, drop}
 use Rattle.pam_header.specs.Header.{starts_at}
-use Rattle.pam_header.proofs.Comparing.{starts_more, starts-not, starts-end}
-use borrow.Author.Rules.{rules}
 use Rattle.pam_header.proofs.starts.Given as goal
 
 abbrev pub invariant-loop-i : goal.invariant-loop-i

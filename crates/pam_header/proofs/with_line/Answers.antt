@@ -4,7 +4,6 @@ use mathlib.Core.Path.{◌≡◌}
 use mathlib.Core.Bool.{Bool, not, ◌||◌}
 use mathlib.Core.List.{List}
 use Prim.Native.Nat.{ℕ}
-use borrow.Author.Rules.{rules}
 use Rattle.pam_header.specs.declared.Fields.{Fields}
 use Rattle.pam_header.specs.Header.{is_text, is_side, side_from, is_skipped, is_other}
 use Rattle.pam_header.specs.Header.{width_name, height_name, depth_text, maxval_text, tupltype_text}

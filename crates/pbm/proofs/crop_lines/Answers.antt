@@ -1,7 +1,6 @@
 -- `pbm::crop_lines` meets its contract.
 -- Assumes nothing.
 use native.Mathlib.Omega.{arith}
-use borrow.Author.Rules.{rules}
 use Rattle.text.proofs.Written.{wrote-more}
 use Rattle.pbm.specs.Text.{crop_lines}
 use Rattle.pbm.proofs.Lengths.{crop-long}

@@ -2,7 +2,6 @@
 -- Assumes nothing.
 use mathlib.Core.Path.{refl}
 use Rattle.pbm.specs.Text.{ends_line}
-use borrow.Author.Rules.{rules}
 use Rattle.pbm.proofs.ends_line.Goals as goal
 
 pub returns : goal.returns

@@ -1,6 +1,5 @@
 -- `pbm::keyed_end` meets its contract.
 -- Assumes nothing.
-use borrow.Author.Rules.{rules}
 use Rattle.text.proofs.Written.{wrote-more, wrote_as}
 use Rattle.pbm.specs.Text.{keyed_end}
 use Rattle.pbm.proofs.keyed_end.Goals as goal

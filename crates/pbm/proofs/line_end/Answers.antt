@@ -1,7 +1,6 @@
 -- `pbm::line_end` meets its contract.
 -- Assumes nothing.
 use Rattle.text.proofs.Written.{wrote_none, wrote_as}
-use borrow.Author.Rules.{rules}
 use Rattle.pbm.proofs.line_end.Goals as goal
 
 pub returns-then-ends : goal.returns-then-ends

@@ -1,7 +1,6 @@
 -- `pbm::pair` meets its contract.
 -- Assumes nothing.
 use native.Mathlib.Omega.{arith}
-use borrow.Author.Rules.{rules}
 use Rattle.text.proofs.Written.{wrote-more}
 use Rattle.pbm.specs.Text.{pair_text}
 use Rattle.pbm.proofs.Lengths.{pair-long}

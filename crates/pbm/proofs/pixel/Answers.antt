@@ -5,7 +5,6 @@ use Rattle.plane.specs.Plane.{on}
 use Rattle.plane.specs.Mask.{is_on}
 use Rattle.pbm.specs.Text.{pixel_text}
 use Rattle.text.proofs.Written.{wrote-more, wrote_as}
-use borrow.Author.Rules.{rules}
 use Rattle.pbm.proofs.pixel.Goals as goal
 
 pub ends_line-requires : goal.ends_line-requires

@@ -1,11 +1,9 @@
 -- `pbm::pixels` meets its contract.
 -- Assumes nothing.
 use mathlib.Core.Path.{◌≡◌, refl, ap, ◌∙◌}
-use Prim.Native.Nat.{◌-◌, ◌≤◌}
 use lib.ListN.{length}
 use native.Mathlib.Omega.{arith}
 use Rattle.pbm.specs.Text.{pixels_text}
-use Rattle.text.specs.steps.Writing.{Wrote}
 use Rattle.text.proofs.Written.{wrote_none, wrote-more, wrote_as}
 use Rattle.pbm.proofs.Lengths.{pixels-more, pixels-short}
 use Rattle.pbm.proofs.pixels.Goals as goal

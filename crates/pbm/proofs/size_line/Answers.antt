@@ -1,7 +1,6 @@
 -- `pbm::size_line` meets its contract.
 -- Assumes nothing.
 use native.Mathlib.Omega.{arith}
-use borrow.Author.Rules.{rules}
 use Rattle.text.proofs.Written.{wrote-more}
 use Rattle.pbm.specs.Text.{size_line}
 use Rattle.pbm.proofs.Lengths.{size-long}

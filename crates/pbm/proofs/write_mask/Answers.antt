@@ -1,6 +1,5 @@
 -- `pbm::write_mask` meets its contract.
 -- Assumes nothing.
-use borrow.Author.Rules.{rules}
 use Rattle.text.proofs.Written.{wrote-more, wrote_as}
 use Rattle.pbm.specs.Text.{mask_text}
 use Rattle.pbm.proofs.write_mask.Goals as goal

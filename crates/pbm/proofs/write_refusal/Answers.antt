@@ -1,7 +1,6 @@
 -- `pbm::write_refusal` meets its contract.
 -- Assumes nothing.
 use native.Mathlib.Omega.{arith}
-use borrow.Author.Rules.{rules}
 use Rattle.text.proofs.Written.{wrote-more}
 use Rattle.pbm.specs.Text.{refusal_text}
 use Rattle.pbm.proofs.Lengths.{refusal-long}

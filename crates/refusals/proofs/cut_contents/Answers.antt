@@ -6,8 +6,6 @@ use lib.ListN.{length}
 use mir.Syntax.{w64}
 use mir.Val.{to_z, of_z}
 use mir.Facts.{to_z-of_z}
-use borrow.Author.Rules.{rules}
-use borrow.Author.Tests.{not-true, not-false}
 use Rattle.plane.specs.Refusal.{Test, refusal_of}
 use Rattle.plane.specs.Search.{some_below}
 use Rattle.plane.specs.Mask.{is_on}

@@ -1,7 +1,6 @@
 -- `refusals::growth_refusal` meets its contract.
 -- Assumes nothing.
 use mathlib.Core.Path.{sym, ◌∙◌}
-use borrow.Author.Rules.{rules}
 use Rattle.plane.specs.Refusal.{refusal_of}
 use Rattle.plane.proofs.Refusal.{joined, declined-first}
 use Rattle.outline.specs.Refusal.{growth_refusal}

@@ -1,8 +1,6 @@
 -- `refusals::picture_refusal` meets its contract.
 -- Assumes nothing.
 use mathlib.Core.Path.{sym, ◌∙◌}
-use borrow.Author.Rules.{rules}
-use borrow.Author.Tests.{not-true, not-false}
 use Rattle.plane.specs.Refusal.{refusal_of}
 use Rattle.outline.specs.Refusal.{picture_tests}
 use Rattle.refusals.proofs.picture_refusal.Goals as goal

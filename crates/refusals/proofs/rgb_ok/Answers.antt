@@ -1,6 +1,5 @@
 -- `refusals::rgb_ok` meets its contract.
 -- Assumes nothing.
-use borrow.Author.Rules.{rules}
 use Rattle.colour.specs.Colour.{rgb_ok}
 use Rattle.refusals.proofs.rgb_ok.Goals as goal
 

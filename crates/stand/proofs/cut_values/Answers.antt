@@ -1,6 +1,5 @@
 -- `stand::cut_values` meets its contract.
 -- Assumes nothing.
-use borrow.Author.Rules.{rules}
 use Rattle.stand.proofs.cut_values.Goals as goal
 
 pub returns-in-Done : goal.returns-in-Done

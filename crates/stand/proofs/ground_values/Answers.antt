@@ -1,7 +1,6 @@
 -- `stand::ground_values` meets its contract.
 -- Assumes nothing.
 use lib.Ieee.{of_bits}
-use borrow.Author.Rules.{rules}
 use Rattle.stand.proofs.ground_values.Goals as goal
 
 pub returns-in-Found : goal.returns-in-Found

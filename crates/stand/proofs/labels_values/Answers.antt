@@ -1,6 +1,5 @@
 -- `stand::labels_values` meets its contract.
 -- Assumes nothing.
-use borrow.Author.Rules.{rules}
 use Rattle.stand.proofs.labels_values.Goals as goal
 
 pub returns-in-Parts : goal.returns-in-Parts

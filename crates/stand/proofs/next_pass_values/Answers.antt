@@ -1,6 +1,5 @@
 -- `stand::next_pass_values` meets its contract.
 -- Assumes nothing.
-use borrow.Author.Rules.{rules}
 use Rattle.stand.proofs.next_pass_values.Goals as goal
 
 pub returns-in-Joins : goal.returns-in-Joins

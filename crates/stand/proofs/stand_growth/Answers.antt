@@ -7,7 +7,6 @@ use lib.IntN.{ℤ}
 use lib.Ieee.{Float}
 use mir.Syntax.{w64}
 use mir.Facts.{to_z-of_z}
-use borrow.Author.Rules.{rules}
 use Rattle.geometry.specs.declared.Answer.{Answer}
 use Rattle.colour.specs.declared.Rgb.{Rgb}
 use Rattle.keying.specs.Calls.{GrowthBuffers, GrowthCalled}

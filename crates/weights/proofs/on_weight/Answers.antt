@@ -1,7 +1,6 @@
 -- `weights::on_weight` meets its contract.
 -- Assumes nothing.
 use mathlib.Core.Path.{◌∙◌}
-use borrow.Author.Rules.{rules}
 use borrow.Author.Tests.{eq-eqb, ne_eqb}
 use Rattle.weights.specs.steps.Weight.{on_weight}
 use Rattle.weights.proofs.on_weight.Goals as goal

@@ -1,13 +1,11 @@
 -- `weights::on_weights` meets its contract.
 -- Assumes nothing.
-use mathlib.Core.Path.{◌≡◌, refl, ◌∙◌}
-use Prim.Native.Nat.{ℕ, ◌-◌, ◌≤◌, ◌<◌}
+use mathlib.Core.Path.{refl, ◌∙◌}
 use native.Mathlib.Nat.{not-suc-le-zero}
-use lib.ListN.{length, get_or, length-set}
+use lib.ListN.{length-set}
 use lib.Ieee.{nan}
 use Rattle.plane.proofs.Plane.{filled, table_is}
 use Rattle.weights.specs.steps.Weight.{on_weight}
-use borrow.Author.Rules.{rules}
 use native.Mathlib.Omega.{arith}
 use Rattle.weights.proofs.on_weights.Goals as goal
 

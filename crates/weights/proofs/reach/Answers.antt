@@ -1,19 +1,15 @@
 -- `weights::reach` meets its contract.
 -- Assumes nothing.
 use mathlib.Core.Path.{◌≡◌, refl, ap, ◌∙◌}
-use mathlib.Core.List.{List}
-use Prim.Native.Nat.{ℕ, ◌-◌, ◌≤◌, ◌<◌}
 use native.Mathlib.Nat.{not-suc-le-zero}
 use lib.IntN.{ℤ}
-use lib.ListN.{length, get_or, length-set}
+use lib.ListN.{length, length-set}
 use Rattle.plane.specs.Plane.{bit}
 use Rattle.plane.proofs.Plane.{filled, table_is}
 use mir.Syntax.{w64}
 use mir.Val.{to_z, of_z}
 use mir.Facts.{to_z-of_z}
-use Rattle.colour.specs.Settings.{on_of}
 use Rattle.plane.specs.Mask.{mask_of}
-use borrow.Author.Rules.{rules}
 use native.Mathlib.Omega.{arith}
 use Rattle.weights.proofs.reach.Invariants.{reached}
 use Rattle.weights.proofs.reach.Goals as goal

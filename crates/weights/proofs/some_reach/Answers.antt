@@ -1,15 +1,12 @@
 -- `weights::some_reach` meets its contract.
 -- Assumes nothing.
 use mathlib.Core.Path.{◌≡◌, refl, ◌∙◌}
-use Prim.Native.Nat.{ℕ, ◌-◌, ◌≤◌}
-use lib.ListN.{length, get_or}
+use lib.ListN.{length}
 use Rattle.plane.specs.Search.{some_below}
 use mir.Syntax.{w64}
 use mir.Val.{to_z, of_z}
 use mir.Facts.{to_z-of_z}
-use Rattle.colour.specs.Settings.{on_of}
 use Rattle.plane.proofs.Search.{some_more}
-use borrow.Author.Rules.{rules}
 use native.Mathlib.Omega.{arith}
 use Rattle.weights.proofs.some_reach.Goals as goal
 

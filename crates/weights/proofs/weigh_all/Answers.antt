@@ -1,15 +1,13 @@
 -- `weights::weigh_all` meets its contract.
 -- Assumes nothing.
-use mathlib.Core.Path.{◌≡◌, refl, ◌∙◌}
-use Prim.Native.Nat.{ℕ, ◌-◌, ◌≤◌, ◌<◌}
+use mathlib.Core.Path.{refl, ◌∙◌}
 use native.Mathlib.Nat.{not-suc-le-zero}
-use lib.ListN.{length, get_or, length-set}
+use lib.ListN.{length, length-set}
 use lib.Ieee.{nan}
 use Rattle.plane.proofs.Plane.{filled, table_is}
 use Rattle.plane.specs.Mask.{is_on}
 use Rattle.outline.specs.Cut.{weight_at, weights_of}
 use Rattle.weights.specs.steps.Weight.{on_weight, weight_for}
-use borrow.Author.Rules.{rules}
 use native.Mathlib.Omega.{arith}
 use Rattle.weights.proofs.weigh_all.Goals as goal
 

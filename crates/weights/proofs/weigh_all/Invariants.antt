@@ -1,16 +1,10 @@
 -- `weights::weigh_all` meets its contract.
 -- Assumes nothing.
-use mathlib.Core.Path.{◌≡◌, refl, ◌∙◌}
+use mathlib.Core.Path.{◌≡◌}
 use Prim.Native.Nat.{ℕ, ◌-◌, ◌≤◌, ◌<◌}
-use native.Mathlib.Nat.{not-suc-le-zero}
-use lib.ListN.{length, get_or, length-set}
+use lib.ListN.{length, get_or}
 use lib.Ieee.{nan}
-use Rattle.plane.proofs.Plane.{filled, table_is}
-use Rattle.plane.specs.Mask.{is_on}
-use Rattle.outline.specs.Cut.{weight_at, weights_of}
-use Rattle.weights.specs.steps.Weight.{on_weight, weight_for}
-use borrow.Author.Rules.{rules}
-use native.Mathlib.Omega.{arith}
+use Rattle.outline.specs.Cut.{weight_at}
 use Rattle.weights.proofs.weigh_all.Given as goal
 
 abbrev pub invariant-loop-i : goal.invariant-loop-i

@@ -1,12 +1,8 @@
 -- `window::gap` meets its contract. The loop's invariant: column i has no on-pixel less than e rows from row y.
 -- Assumes nothing.
 use mathlib.Core.Path.{◌≡◌}
-use mathlib.Core.Bool.{true, false, ◌||◌}
-use Prim.Native.Nat.{ℕ, ◌*◌, ◌-◌, ◌≤◌, ◌<◌}
-use native.Mathlib.Omega.{arith}
-use borrow.Author.Rules.{rules}
-use borrow.Author.Count.{below_more}
-use Rattle.line.proofs.Squares.{square_le, root-lt}
+use mathlib.Core.Bool.{false}
+use Prim.Native.Nat.{ℕ, ◌-◌, ◌≤◌, ◌<◌}
 use Rattle.window.specs.steps.Window.{level_on}
 use Rattle.window.proofs.gap.Given as goal
 

@@ -5,7 +5,6 @@ use mathlib.Core.List.{List}
 use Prim.Native.Nat.{ℕ, ◌/◌, ◌%◌}
 use native.Mathlib.Omega.{arith}
 use lib.ListN.{get_or}
-use borrow.Author.Rules.{rules}
 use Rattle.plane.proofs.Plane.{row_of, column-of, area-most}
 use Rattle.nearest.specs.steps.Indices.{indices_plane}
 use Rattle.window.proofs.Searching.{near-index}

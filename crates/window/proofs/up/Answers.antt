@@ -7,7 +7,6 @@ use borrow.Author.Tests.{lt-leb, le-leb}
 use Rattle.plane.specs.Plane.{on, on_at}
 use Rattle.plane.proofs.Plane.{pixel-in}
 use Rattle.window.specs.steps.Window.{up_on}
-use Rattle.window.proofs.up.Tie as tie
 use Rattle.window.proofs.up.Reads as reads
 use Rattle.window.proofs.up.Lts as lts
 use Rattle.window.proofs.up.Goals as goal

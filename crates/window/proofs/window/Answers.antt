@@ -1,11 +1,10 @@
 -- `window::window` meets its contract. The loop's invariant: the columns before i are searched.
 -- Assumes nothing.
 use mathlib.Core.Path.{◌≡◌}
-use mathlib.Core.Logic.{◌⊎◌, inl, inr, ⊎_elim}
-use Prim.Native.Nat.{ℕ, ◌+◌, ◌-◌, ◌≤◌, ◌<◌}
+use mathlib.Core.Logic.{inl, inr}
+use Prim.Native.Nat.{◌+◌, ◌-◌, ◌≤◌}
 use native.Mathlib.Omega.{arith}
 use Rattle.plane.proofs.Plane.{area-most}
-use Rattle.window.specs.steps.Window.{Searched}
 use Rattle.window.proofs.Searching.{started, finished}
 use Rattle.window.proofs.window.Tie as tie
 use Rattle.window.proofs.window.Reads as reads
@@ -28,8 +27,8 @@ end : (c : At-Joined2) → let a = c.args in Ends a.x a.w c.if-x-w.to
 end c =
     let o = c.requires.column in
     elim c.if-x-w.branch [
-      then-x-w u ↦ (inr (omega arith), omega arith, omega arith, omega arith)
-    | else-x-w u ↦ (inl (omega arith), omega arith, omega arith, omega arith)
+      | then-x-w u ↦ (inr (omega arith), omega arith, omega arith, omega arith)
+      | else-x-w u ↦ (inl (omega arith), omega arith, omega arith, omega arith)
     ]
 
 pub loop-i-init : goal.loop-i-init

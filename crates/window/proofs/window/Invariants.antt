@@ -1,12 +1,9 @@
 -- `window::window` meets its contract. The loop's invariant: the columns before i are searched.
 -- Assumes nothing.
 use mathlib.Core.Path.{◌≡◌}
-use mathlib.Core.Logic.{◌⊎◌, inl, inr, ⊎_elim}
+use mathlib.Core.Logic.{◌⊎◌}
 use Prim.Native.Nat.{ℕ, ◌+◌, ◌-◌, ◌≤◌, ◌<◌}
-use native.Mathlib.Omega.{arith}
-use Rattle.plane.proofs.Plane.{area-most}
 use Rattle.window.specs.steps.Window.{Searched}
-use Rattle.window.proofs.Searching.{started, finished}
 use Rattle.window.proofs.window.Given as goal
 
 -- where the window ends

@@ -1,6 +1,5 @@
 -- `geometry::fill::copy_colour` meets its contract.
 -- Assumes nothing.
-use borrow.Author.Rules.{rules}
 use Rattle.geometry.proofs.Filling.{three-stores}
 use Rattle.geometry.proofs.fill.copy_colour.Goals as goal
 

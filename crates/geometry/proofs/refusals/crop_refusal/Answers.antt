@@ -3,8 +3,7 @@
 use mathlib.Core.Path.{◌≡◌, sym, ◌∙◌}
 use mathlib.Core.Bool.{true}
 use native.Mathlib.Omega.{arith}
-use borrow.Author.Rules.{rules}
-use borrow.Author.Tests.{not-true, not-false, eq-eqb, ne_eqb}
+use borrow.Author.Tests.{eq-eqb, ne_eqb}
 use Rattle.plane.specs.Refusal.{refusal_of, sides_ok}
 use Rattle.plane.proofs.Refusal.{joined, accepted-area}
 use Rattle.geometry.specs.Refusal.{crop_refusal}
