@@ -16,7 +16,7 @@ use Rattle.plane.specs.Mask.{is_on}
 use Rattle.plane.specs.Box.{row_has, column_has}
 use Rattle.plane.proofs.Search.{either, some_same, some_is, some-found, none_is, none_found}
 use Rattle.plane.proofs.Plane.{row_in}
-use Rattle.plane.proofs.Bounds.{first_below_lem, first-none, first-most, first-or, first-same, none_before}
+use Rattle.plane.proofs.Bounds.{first_below_lem, first-none, first-most, first-or, first_same, none_before}
 use Rattle.plane.proofs.Bounds.{last_none, last-most, last_or, last-same}
 
 -- a byte that is 0 is off, any other on
@@ -65,7 +65,7 @@ module _ {mask : List ℕ} {w y : ℕ} {row : List ℕ} (r : Row mask w y row) w
   row_first x m =
       let long = r.long in
       let e : length (take x row) ≡ x = simp length-take (omega arith) in
-      rw e (first-same _ _ x (λ i l. ap on (get_or-take x row i 0 l) ∙ r.pixel i (omega arith)))
+      rw e (first_same _ _ x (λ i l. ap on (get_or-take x row i 0 l) ∙ r.pixel i (omega arith)))
 
   pub row_last : (x n : ℕ) → x ≤ w → n ≡ length row - x
       → last_below (length (take n (drop x row))) (is_on (take n (drop x row))) ≡ last_below (w - x) (λ (i : ℕ). on_at mask w y (x + i))
@@ -115,7 +115,7 @@ module _ (mask : List ℕ) (w y : ℕ) where
 
   -- a row more: the first column is searched in front of the one found so far, the last from that on
   left-more : first_below (first_below w (column_has mask y w)) (on_at mask w y) ≡ first_below w (column_has mask (y + 1) w)
-  left-more = sym (first-same _ _ w (λ x l. column-or x) ∙ first-or (column_has mask y w) (on_at mask w y) w)
+  left-more = sym (first_same _ _ w (λ x l. column-or x) ∙ first-or (column_has mask y w) (on_at mask w y) w)
 
   right-more : (x : ℕ) → x ≡ last_below w (column_has mask y w)
       → x + last_below (w - x) (λ (i : ℕ). on_at mask w y (x + i)) ≡ last_below w (column_has mask (y + 1) w)

@@ -39,7 +39,7 @@ first-bytes input =
     let d = long-declined input l in
     let first = take most_input input in
     let number = file_refusal (header_of input) input in
-    sym (card-declined (header_of first) first number (sym d.first-same) d.declined)
+    sym (card-declined (header_of first) first number (sym d.first_same) d.declined)
     ∙ card-declined (header_of input) input number refl d.declined)
     (which (length input) most_input)
 
@@ -87,8 +87,8 @@ not-eight-header input n =
 -- ---- what was accepted at first
 
 pub record Kept (input : List ℕ) : Type 0 where
-  pub number-kept : card_refusal input ≡ earlier_refusal input
-  pub text-kept : card_text input ≡ earlier_text input
+  pub number_kept : card_refusal input ≡ earlier_refusal input
+  pub text_kept : card_text input ≡ earlier_text input
 
 -- every answer but 8 is as it was
 pub earlier-kept : (input : List ℕ) → (earlier_refusal input ≡ 8 → ⊥) → Kept input
@@ -97,12 +97,12 @@ earlier-kept input n =
     (λ (t : (earlier_of input).ok ≡ true).
     let same = earlier-same input t in
     record {
-      number-kept = ap (λ (h : Header). refusal_under h input) same;
-      text-kept = ap (λ (h : Header). text_under h input) same;
+      number_kept = ap (λ (h : Header). refusal_under h input) same;
+      text_kept = ap (λ (h : Header). text_under h input) same;
     })
     (λ (t : (earlier_of input).ok ≡ false). absurd (n (header-eight (earlier_of input) input t)))
     (either (earlier_of input).ok)
 
 -- so a file that was accepted prints the same bytes
 pub earlier-accepted : (input : List ℕ) → earlier_refusal input ≡ 0 → card_text input ≡ earlier_text input
-earlier-accepted input e = (earlier-kept input (λ n. let z : ◌≡◌ {A = ℕ} 0 8 = sym e ∙ n in omega arith)).text-kept
+earlier-accepted input e = (earlier-kept input (λ n. let z : ◌≡◌ {A = ℕ} 0 8 = sym e ∙ n in omega arith)).text_kept

@@ -62,18 +62,18 @@ number_is : (colours : List Float) (alpha : List ℕ) (h w nearest shallow deep 
 unfolding cut_refusal cut_lengths work_tests picture_tests cut_contents refusal_of alpha_refusal
 number_is colours alpha h w nearest shallow deep marks mask weights out r e =
     rw (
-      sides-accepted h w r.some-rows (omega (arith, r.tall)) r.some-columns (omega (arith, r.wide)),
-      eq-eqb _ _ r.colours-long,
-      eq-eqb _ _ r.alpha-long,
-      eq-eqb _ _ r.mask-long,
-      eq-eqb _ _ r.weights-long,
-      le-leb _ _ r.nearest-long,
-      le-leb _ _ r.shallow-long,
+      sides-accepted h w r.some_rows (omega (arith, r.tall)) r.some_columns (omega (arith, r.wide)),
+      eq-eqb _ _ r.colours_long,
+      eq-eqb _ _ r.alpha_long,
+      eq-eqb _ _ r.mask_long,
+      eq-eqb _ _ r.weights_long,
+      le-leb _ _ r.nearest_long,
+      le-leb _ _ r.shallow_long,
       le-leb _ _ r.deep_long,
-      le-leb _ _ r.marks-long,
+      le-leb _ _ r.marks_long,
       e,
       alpha-same alpha (h * w),
-      r.alpha-long,
+      r.alpha_long,
     )
 
 -- and its number is 6 or 0
@@ -112,13 +112,13 @@ crop-small mask h w added cropping tall wide =
     (λ (e : cropping && some_off mask (h * w) ≡ true).
     rw e
     (record {
-      y0-small = omega (arith, first-most h (row_has mask w));
-      y1-small = omega (arith, lesser-most h (last_below h (row_has mask w) + 1 + added));
-      x0-small = omega (arith, first-most w (column_has mask h w));
-      x1-small = omega (arith, lesser-most w (last_below w (column_has mask h w) + 1 + added));
+      y0_small = omega (arith, first-most h (row_has mask w));
+      y1_small = omega (arith, lesser-most h (last_below h (row_has mask w) + 1 + added));
+      x0_small = omega (arith, first-most w (column_has mask h w));
+      x1_small = omega (arith, lesser-most w (last_below w (column_has mask h w) + 1 + added));
     }))
     (λ (e : cropping && some_off mask (h * w) ≡ false).
-    rw e (record { y0-small = omega arith; y1-small = omega arith; x0-small = omega arith; x1-small = omega arith }))
+    rw e (record { y0_small = omega arith; y1_small = omega arith; x0_small = omega arith; x1_small = omega arith }))
     (either (cropping && some_off mask (h * w)))
 
 -- the lines before the pixels have at most 48 bytes
@@ -171,8 +171,8 @@ module _ (colours : List Float) (alpha : List ℕ) (h w : ℕ) (s : Settings) (b
   text-fits =
       rw (call.answer, given)
       (answer-short h w _ (cut_with colours alpha h w) out
-      (omega (arith, lines-short colours alpha h w (cut_with colours alpha h w).keyed room.tall room.wide, room.few, room.out-long))
-      (omega (arith, refusal-short (refusal_in colours alpha h w Border settings b) (rw given at small), room.out-long)))
+      (omega (arith, lines-short colours alpha h w (cut_with colours alpha h w).keyed room.tall room.wide, room.few, room.out_long))
+      (omega (arith, refusal-short (refusal_in colours alpha h w Border settings b) (rw given at small), room.out_long)))
     where
       small : refusal_in colours alpha h w Border s b < 10000
       small = rw number (alpha-small alpha)

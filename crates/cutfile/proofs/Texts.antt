@@ -24,7 +24,7 @@ use Rattle.pam.specs.steps.File.{file_refusal}
 use Rattle.pam_header.proofs.Sizes.{Small, header-small}
 use Rattle.pam.proofs.Files.{file-ok, sides-of}
 use Rattle.pbm.specs.Text.{refusal_text}
-use Rattle.pbm.proofs.Lengths.{mask-long, refusal-short}
+use Rattle.pbm.proofs.Lengths.{mask_long, refusal-short}
 use Rattle.cutfile.specs.Cutcard.{alpha_test, refusal_under, text_under, cut_with, cut_text, card_text, most_text, CardCalled}
 use Rattle.cutfile.specs.steps.Room.{alpha_refusal, picture_text}
 use Rattle.cutfile.proofs.Pictures.{lines-short}
@@ -77,7 +77,7 @@ module _ (header : Header) (input : List ℕ) where
       omega (
         arith,
         few,
-        mask-long c.mask header.height header.width c.box c.keyed,
+        mask_long c.mask header.height header.width c.box c.keyed,
         lines-short colours alpha header.height header.width c.keyed s.tall s.wide,
       )
 
@@ -115,5 +115,5 @@ whole input old new text r l e w =
     let n : 0 + length t ≤ length old = omega (arith, text-short input) in
     record {
       answer = rw (le-leb most_text (length old) l) (v.end_is ∙ k);
-      out-is = rw (le-leb most_text (length old) l) (v.bytes-are ∙ sets-eq t old 0 n ∙ ap (λ (j : ℕ). t ++ drop j old) k);
+      out_is = rw (le-leb most_text (length old) l) (v.bytes_are ∙ sets-eq t old 0 n ∙ ap (λ (j : ℕ). t ++ drop j old) k);
     }

@@ -52,4 +52,4 @@ over text old = text ++ drop (length text) old
 -- cutcard (R63): the length of the text, and the text at the front of the buffer; where the buffer is too short, 0 and nothing written
 pub record CardCalled (input out : List ℕ) (r : ℕ) (out' : List ℕ) : Type 0 where
   pub answer : r ≡ cond (leb most_text (length out)) (length (card_text input)) 0
-  pub out-is : out' ≡ cond (leb most_text (length out)) (over (card_text input) out) out
+  pub out_is : out' ≡ cond (leb most_text (length out)) (over (card_text input) out) out

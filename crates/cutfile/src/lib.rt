@@ -25,8 +25,8 @@ pub const MOST_TEXT: usize = 4656;
 
 // The text of an answer of the cut: the mask with its crop box and keyed flag, or the refusal.
 fn write_answer(out: &mut [u8], mask: &[u8], h: usize, w: usize, answer: Outcome) -> usize
-    requires w_nonzero { (0 < w) × (length mask.now ≡ h * w) }
-    requires answer_in_bounds { answer_length h w answer ≤ length out.old }
+    requires mask_len { (0 < w) × (length mask.now ≡ h * w) }
+    requires out_len { answer_length h w answer ≤ length out.old }
     ensures { Wrote (answer_text mask.now h w answer) out.old out.new 0 result }
 {
     match answer {
@@ -51,7 +51,7 @@ fn cut(
 ) -> usize
     requires room { Room h w (length colours.now) (length alpha.now) (length nearest.old) (length shallow.old)
         (length deep.old) (length marks.old) (length mask.old) (length weights.old) (length out.old) }
-    requires colours_value { colours_ok colours.now ≡ true }
+    requires colours_in_range { colours_ok colours.now ≡ true }
     ensures { Wrote (picture_text colours.now alpha.now h w)
         out.old out.new 0 result }
 {

@@ -64,7 +64,7 @@ pub fn cut_mask(
 ) -> bool
     requires key_room { KeyRoom colours.now h w nearest.old shallow.old deep.old marks.old mask.old }
     requires alpha_len { length alpha.now ≡ h * w }
-    requires card_value { card_ok card ≡ true }
+    requires card_in_range { card_ok card ≡ true }
     ensures value { result ≡ is_keyed colours.now alpha.now h w (reference_on card colours.now h w) s }
     ensures mask_after { mask.new ≡ cut_mask colours.now alpha.now h w
         (reference_on card colours.now h w) s }

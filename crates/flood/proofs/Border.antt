@@ -51,9 +51,9 @@ module _ (h w : ℕ) where
   border-length = simp (length-append left, left-length, column-length)
 
   -- pixel k, where it is in the first row, the last row, the first column, the last column
-  pub first-row : (k : ℕ) → k < w → get_or (border_list h w) k 0 ≡ k
+  pub first_row : (k : ℕ) → k < w → get_or (border_list h w) k 0 ≡ k
   unfolding border_list row_pixels
-  first-row k l =
+  first_row k l =
       in-front left (inner_column h w (w - 1)) _ k left-length (omega arith)
       ∙ in-front rows (inner_column h w 0) _ k rows-length (omega arith)
       ∙ in-front (row_pixels w 0) (row_pixels w (h - 1)) w k (row-length 0) l
@@ -66,9 +66,9 @@ module _ (h w : ℕ) where
       ∙ behind (row_pixels w 0) (row_pixels w (h - 1)) w k (row-length 0) m
       ∙ table-from (λ (x : ℕ). (h - 1) * w + x) 0 w (k - w) (omega arith) ∙ omega arith
 
-  pub first-column : (k : ℕ) → w + w ≤ k → k < w + w + (h - 2) → get_or (border_list h w) k 0 ≡ (k - (w + w) + 1) * w
+  pub first_column : (k : ℕ) → w + w ≤ k → k < w + w + (h - 2) → get_or (border_list h w) k 0 ≡ (k - (w + w) + 1) * w
   unfolding border_list inner_column
-  first-column k m l =
+  first_column k m l =
       in-front left (inner_column h w (w - 1)) _ k left-length l ∙ behind rows (inner_column h w 0) _ k rows-length m
       ∙ table-from (λ (y : ℕ). y * w + 0) 1 (h - 2) (k - (w + w)) (omega arith) ∙ add-zero _ ∙ ap (λ (y : ℕ). y * w) (omega arith)
 
@@ -82,7 +82,7 @@ module _ (h w : ℕ) where
 -- it lies in the plane, so its pixels are small numbers
 pub border-in : {h w : ℕ} (k : ℕ) → Sides h w → k < length (border_list h w) → get_or (border_list h w) k 0 < h * w
 unfolding on_border
-border-in {h} {w} k s l = border-inside h w s.some-rows s.some-columns _ (listed_at (border_list h w) k l)
+border-in {h} {w} k s l = border-inside h w s.some_rows s.some_columns _ (listed_at (border_list h w) k l)
 
 pub border-small : {h w : ℕ} (k : ℕ) → Sides h w → k < length (border_list h w) → get_or (border_list h w) k 0 < 4294967296
 border-small k s l = omega (arith, border-in k s l, area-most s.tall s.wide)

@@ -82,7 +82,7 @@ module _ (mask : List ℕ) (h w : ℕ) where
 
   module _ (g : Closed mask h w) (s : State) (f : Going s) where
     wide : 0 < w
-    wide = omega (arith, g.sides.some-columns)
+    wide = omega (arith, g.sides.some_columns)
 
     long : length s.plane ≡ h * w
     long = sym f.floods.kept.long ∙ g.output

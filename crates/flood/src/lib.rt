@@ -75,7 +75,7 @@ fn spread(w: usize, top: usize, stack: &mut [u32], out: &mut [u8]) -> usize
 // The pixels of the border list are visited; the height of the stack.
 fn seed_border(h: usize, w: usize, stack: &mut [u32], out: &mut [u8]) -> usize
     requires closed { Closed out.old h w }
-    requires w_in_bounds { h * w ≤ length stack.old }
+    requires stack_len { h * w ≤ length stack.old }
     ensures { state result stack.new out.new
         ≡ seeded (border_list h w) (state 0 stack.old out.old) }
 {
@@ -89,7 +89,7 @@ fn seed_border(h: usize, w: usize, stack: &mut [u32], out: &mut [u8]) -> usize
 // Every close pixel that the border reaches becomes 2.
 fn reach(h: usize, w: usize, stack: &mut [u32], out: &mut [u8])
     requires closed { Closed out.old h w }
-    requires w_in_bounds { h * w ≤ length stack.old }
+    requires stack_len { h * w ≤ length stack.old }
     ensures { marked out.new ≡ ground_from out.old h w }
 {
     let mut top = seed_border(h, w, stack, out);
@@ -110,7 +110,7 @@ fn settle(out: &mut [u8])
 // The ground of a plane of close pixels, in place: 1 where the border reaches a close pixel, else 0.
 pub fn flood(h: usize, w: usize, stack: &mut [u32], out: &mut [u8])
     requires closed { Closed out.old h w }
-    requires w_in_bounds { h * w ≤ length stack.old }
+    requires stack_len { h * w ≤ length stack.old }
     ensures { out.new ≡ ground_from out.old h w }
 {
     reach(h, w, stack, out);

@@ -41,12 +41,12 @@ pub plane-refused : (n : ℕ) {refusal : ℕ} {new work out : List ℕ} → n �
     → PlaneCalled refusal new work out (answer.Refused n) work out
 plane-refused n {refusal} e bad =
     let bad' : refusal ≡ 0 → ⊥ = λ q. bad (e ∙ q) in
-    record { answer = ap answer.Refused e ∙ declined _ bad'; out-is = sym (kept _ _ _ bad'); kept = λ _. refl }
+    record { answer = ap answer.Refused e ∙ declined _ bad'; out_is = sym (kept _ _ _ bad'); kept = λ _. refl }
 
 -- a call that is accepted has written its output
 pub plane-made : {refusal : ℕ} {new work out work' out' : List ℕ} → refusal ≡ 0 → out' ≡ new
     → PlaneCalled refusal new work out answer.Done work' out'
-plane-made z e = record { answer = done _ z; out-is = e ∙ sym (written _ _ _ z); kept = λ bad. absurd (bad z) }
+plane-made z e = record { answer = done _ z; out_is = e ∙ sym (written _ _ _ z); kept = λ bad. absurd (bad z) }
 
 -- ---- lengths
 
@@ -77,15 +77,15 @@ nearest-ok mask h w work rows cols e =
     let s = sides-are h w p.0 in
     record {
       sides = s;
-      mask-long = eqb-true _ _ p.1.0;
+      mask_long = eqb-true _ _ p.1.0;
       room = three-lines _ _ _ s (leb-true _ _ p.1.1.1.1.0);
       rows_long = eqb-true _ _ p.1.1.0;
-      cols-long = eqb-true _ _ p.1.1.1.0;
+      cols_long = eqb-true _ _ p.1.1.1.0;
     }
 
 pub record FillOk (h w colours mask out work : ℕ) : Type 0 where
   pub sides : Sides h w
-  pub colours-long : colours ≡ 3 * (h * w)
+  pub colours_long : colours ≡ 3 * (h * w)
   pub input : mask ≡ h * w
   pub output : out ≡ 3 * (h * w)
   pub room : room_for h w ≤ work
@@ -96,7 +96,7 @@ fill-ok h w colours mask out work e =
     let p = passed _ refl e in
     record {
       sides = sides-are h w p.0;
-      colours-long = eqb-true _ _ p.1.0;
+      colours_long = eqb-true _ _ p.1.0;
       input = eqb-true _ _ p.1.1.0;
       output = eqb-true _ _ p.1.1.1.0;
       room = leb-true _ _ p.1.1.1.1.0;

@@ -80,8 +80,8 @@ source-of mask h w y x none e a b = rw (none_is (is_on mask) (h * w) (λ i l. of
         sym (index_on mask w i) ∙ nearest-none mask h w y x e (i / w) (i % w) (row_of i h w (omega arith) l) (column-of i w (omega arith))
 source-of mask h w y x (some q) e a b =
     let n = nearest-some mask h w y x q.0 q.1 e in
-    let inside = pixel-in q.1 q.0 h w n.row_inside n.column-inside in
-    rw (some_is (is_on mask) (h * w) (q.1 * w + q.0) inside (sym (row_on mask w q.1 q.0) ∙ n.is-on))
+    let inside = pixel-in q.1 q.0 h w n.row_inside n.column_inside in
+    rw (some_is (is_on mask) (h * w) (q.1 * w + q.0) inside (sym (row_on mask w q.1 q.0) ∙ n.pixel_on))
 
 -- the loop's colours are those of the definition
 pub filled_is : (colours mask : List ℕ) (h w : ℕ) (work : List ℕ) → 0 < w → take (h * w) work ≡ indices_plane mask h w

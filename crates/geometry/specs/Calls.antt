@@ -28,19 +28,19 @@ pub record NearestCalled (mask : List ℕ) (h w : ℕ) (work : List ℕ) (rows c
     (r : Answer) (work' : List ℕ) (rows' cols' : List ℤ) : Type 0 where
   pub answer : r ≡ answer_for (nearest_refusal_in mask h w work rows cols)
   pub rows_are : rows' ≡ after (nearest_refusal_in mask h w work rows cols) (rows_plane mask h w) rows
-  pub cols-are : cols' ≡ after (nearest_refusal_in mask h w work rows cols) (columns_plane mask h w) cols
+  pub cols_are : cols' ≡ after (nearest_refusal_in mask h w work rows cols) (columns_plane mask h w) cols
   pub kept : (nearest_refusal_in mask h w work rows cols ≡ 0 → ⊥) → work' ≡ work
 
 -- label4: the labels of the mask's parts, and how many there are (R6, R7)
 pub record LabelsCalled (mask : List ℕ) (h w : ℕ) (parents labels : List ℕ) (r : Labelled) (parents' labels' : List ℕ) : Type 0 where
   pub answer : r ≡ labelled_for (plane_refusal_in mask h w parents labels) (parts mask h w)
-  pub labels-are : labels' ≡ after (plane_refusal_in mask h w parents labels) (labels_plane mask h w) labels
+  pub labels_are : labels' ≡ after (plane_refusal_in mask h w parents labels) (labels_plane mask h w) labels
   pub kept : (plane_refusal_in mask h w parents labels ≡ 0 → ⊥) → parents' ≡ parents
 
 -- a call with an answer, one output plane, which holds `new` where it is accepted, and one work buffer (R63)
 pub record PlaneCalled (refusal : ℕ) (new work out : List ℕ) (r : Answer) (work' out' : List ℕ) : Type 0 where
   pub answer : r ≡ answer_for refusal
-  pub out-is : out' ≡ after refusal new out
+  pub out_is : out' ≡ after refusal new out
   pub kept : (refusal ≡ 0 → ⊥) → work' ≡ work
 
 -- binary_dilation8: the mask dilated by a square (R8, R9); every place of the work buffer holds afterwards 0, 1 or its old number (R88)

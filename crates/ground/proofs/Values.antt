@@ -38,7 +38,7 @@ sides-sum (suc n) w a b = let z : n * 1 ≤ n * w = mul-le-mul_left n b in omega
 module _ {colours : List Float} {h w : ℕ} {work : List ℕ} (p : Picture colours h w work) where
   pub values-room : (v : List ℕ) → length v ≡ length work → length (border_list h w) ≤ length (floats_of v)
   values-room v e =
-      omega (arith, floats-length v, p.room, border-length h w, sides-sum h w p.sides.some-rows p.sides.some-columns)
+      omega (arith, floats-length v, p.room, border-length h w, sides-sum h w p.sides.some_rows p.sides.some_columns)
 
   module _ {c : ℕ} (channel : c < 3) where
     -- ---- they are in range, and binary64 numbers
@@ -57,6 +57,6 @@ module _ {colours : List Float} {h w : ℕ} {work : List ℕ} (p : Picture colou
     -- so the median of them is asked rightly
     pub border-channel : Channel values
     border-channel = record {
-      some = omega (arith, length-map (border_list h w) (channel_at colours c), border-length h w, p.sides.some-columns);
+      some = omega (arith, length-map (border_list h w) (channel_at colours c), border-length h w, p.sides.some_columns);
       ok = colours-all values (λ k l. (let z = entry k l in rw z.2 (colours-at colours p.range (3 * z.0 + c) z.1)));
     }

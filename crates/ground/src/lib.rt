@@ -22,7 +22,7 @@ fn channel(colours: &[f64], h: usize, w: usize, c: usize, work: &mut [u32]) -> f
     requires picture { Picture colours.now h w work.old }
     requires c_bound { c < 3 }
     ensures value { result ≡ reference_channel colours.now h w c }
-    ensures result_value { colour_ok result ≡ true }
+    ensures in_range { colour_ok result ≡ true }
 {
     let n = flood::border_count(h, w);
     for k in 0..n {
@@ -36,7 +36,7 @@ fn channel(colours: &[f64], h: usize, w: usize, c: usize, work: &mut [u32]) -> f
 pub fn reference(colours: &[f64], h: usize, w: usize, work: &mut [u32]) -> Rgb
     requires { Picture colours.now h w work.old }
     ensures value { result ≡ reference_of colours.now h w }
-    ensures result_value { rgb_ok result ≡ true }
+    ensures in_range { rgb_ok result ≡ true }
 {
     let r = channel(colours, h, w, 0, work);
     let g = channel(colours, h, w, 1, work);
@@ -47,9 +47,9 @@ pub fn reference(colours: &[f64], h: usize, w: usize, work: &mut [u32]) -> Rgb
 // The reference on a card: the colour that is given, or else that of the border.
 pub fn reference_on(colours: &[f64], h: usize, w: usize, card: Card, work: &mut [u32]) -> Rgb
     requires picture { Picture colours.now h w work.old }
-    requires card_value { card_ok card ≡ true }
+    requires card_in_range { card_ok card ≡ true }
     ensures value { result ≡ reference_on card colours.now h w }
-    ensures result_value { rgb_ok result ≡ true }
+    ensures in_range { rgb_ok result ≡ true }
 {
     let Card::Given(given) = card else {
         return reference(colours, h, w, work);
@@ -106,7 +106,7 @@ pub fn ground_from(
     out: &mut [u8],
 ) -> Ground
     requires given { Given colours.now h w work.old out.old }
-    requires reference_value { rgb_ok reference ≡ true }
+    requires reference_in_range { rgb_ok reference ≡ true }
     ensures value { result ≡ ground_for 0 colours.now h w reference tolerance }
     ensures out_after { out.new ≡ ground_plane colours.now h w reference tolerance }
 {
@@ -134,7 +134,7 @@ pub fn flat_ground(
     out: &mut [u8],
 ) -> Ground
     requires given { Given colours.now h w work.old out.old }
-    requires card_value { card_ok card ≡ true }
+    requires card_in_range { card_ok card ≡ true }
     ensures value { result ≡ ground_for 0 colours.now h w (reference_on card colours.now h w) tolerance }
     ensures out_after { out.new ≡ ground_plane colours.now h w (reference_on card colours.now h w) tolerance }
 {

@@ -56,22 +56,22 @@ module _ (back : List ℕ) (h w : ℕ) (wide : 0 < w) where
         row = i / w;
         column = i % w;
         row_in = row_of i h w wide l;
-        column-in = column-of i w wide;
+        column_in = column-of i w wide;
         lit = index_on back w i ∙ e;
         rows = omega arith;
         columns = omega arith;
       })
 
-  shallow-is : (i : ℕ) → i < h * w → far 1 i ≡ shallows i
+  shallow_is : (i : ℕ) → i < h * w → far 1 i ≡ shallows i
   unfolding is_shallow
-  shallow-is i l =
+  shallow_is i l =
       ⊎_elim {C = far 1 i ≡ not (is_on back i) && far 1 i}
       (λ (e : is_on back i ≡ true). rw (e, self-near i l e))
       (λ (e : is_on back i ≡ false). rw e)
       (either (is_on back i))
 
   pub shallow-laid : complement_of (squares_plane back h w 1) ≡ mask_of (h * w) shallows
-  shallow-laid = far_from 1 (omega arith) ∙ mask-same (h * w) (far 1) shallows shallow-is
+  shallow-laid = far_from 1 (omega arith) ∙ mask-same (h * w) (far 1) shallows shallow_is
 
   tests : (s a b : Bool) → s && not a && not (not a && not b) ≡ s && (not a && b)
   tests true true b = refl

@@ -114,11 +114,11 @@ module _ (colours : List Float) (reference : Rgb)
 
   edge_on : (i : ℕ) → i < h * w → is_on edges i ≡ some_below (h * w) (is_shallow back h w) && is_edge back h w i
   unfolding is_on edge_mark
-  edge_on i l = rw (laid.marks-are, table_at (edge_mark back h w) (h * w) i 0 l, on_bit)
+  edge_on i l = rw (laid.marks_are, table_at (edge_mark back h w) (h * w) i 0 l, on_bit)
 
   joining-is : (i : ℕ) → i < h * w → decided_mark colours reference deep shallow h w edges i ≡ bit (joining i)
   unfolding decided_mark is_joining joins_from joins_with
-  joining-is i l = rw (edge_on i l, laid.shallow-is, laid.deep_is, tests)
+  joining-is i l = rw (edge_on i l, laid.shallow_is, laid.deep_is, tests)
 
   module _ (marks : List ℕ) (decided : marks ≡ table (decided_mark colours reference deep shallow h w edges) 0 (h * w)) where
     -- the marks after the decision are the pixels that join

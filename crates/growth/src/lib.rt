@@ -221,7 +221,7 @@ fn make_nearest(
     nearest: &mut [u32],
 ) -> bool
     requires index_room { IndexRoom h w deep.now nearest.old }
-    requires some_value { some ≡ some_below (h * w) (is_on deep.now) }
+    requires some_is { some ≡ some_below (h * w) (is_on deep.now) }
     ensures { Made deep.now (take (h * w) nearest.new) result h w }
 {
     let made = some & many(marks);

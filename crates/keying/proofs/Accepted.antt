@@ -74,13 +74,13 @@ ground-ok colours h w card t out work e =
 
 pub record GrowthOk (colours : List Float) (background : List ℕ) (h w : ℕ) (b : GrowthBuffers) : Type 0 where
   pub sides : Sides h w
-  pub colours-long : length colours ≡ 3 * (h * w)
+  pub colours_long : length colours ≡ 3 * (h * w)
   pub back_long : length background ≡ h * w
-  pub out-long : length b.out ≡ h * w
-  pub nearest-long : room_for h w ≤ length b.nearest
-  pub shallow-long : room_for h w ≤ length b.shallow
+  pub out_long : length b.out ≡ h * w
+  pub nearest_long : room_for h w ≤ length b.nearest
+  pub shallow_long : room_for h w ≤ length b.shallow
   pub deep_long : room_for h w ≤ length b.deep
-  pub marks-long : room_for h w ≤ length b.marks
+  pub marks_long : room_for h w ≤ length b.marks
 
 pub growth-ok : (colours : List Float) (background : List ℕ) (h w : ℕ) (reference : Rgb) (b : GrowthBuffers)
     → growth_refusal_in colours background h w reference b ≡ 0 → GrowthOk colours background h w b
@@ -89,13 +89,13 @@ growth-ok colours background h w reference b e =
     let p = passed _ refl e in
     record {
       sides = sides-are h w p.0;
-      colours-long = eqb-true _ _ p.1.0;
+      colours_long = eqb-true _ _ p.1.0;
       back_long = eqb-true _ _ p.1.1.0;
-      out-long = eqb-true _ _ p.1.1.1.0;
-      nearest-long = leb-true _ _ p.1.1.1.1.0;
-      shallow-long = leb-true _ _ p.1.1.1.1.1.0;
+      out_long = eqb-true _ _ p.1.1.1.0;
+      nearest_long = leb-true _ _ p.1.1.1.1.0;
+      shallow_long = leb-true _ _ p.1.1.1.1.1.0;
       deep_long = leb-true _ _ p.1.1.1.1.1.1.0;
-      marks-long = leb-true _ _ p.1.1.1.1.1.1.1.0;
+      marks_long = leb-true _ _ p.1.1.1.1.1.1.1.0;
     }
 
 -- ---- the tests of ground and cut: the lengths, and where these are accepted, what stands in the buffers
@@ -123,15 +123,15 @@ module _ (colours : List Float) (alpha : List ℕ) (h w : ℕ) (card : Card) (s 
   unfolding cut_refusal
   cut-by-lengths bad = sym (declined-first cut-lengths _ bad)
 
-  alpha-long : refusal_of cut-lengths ≡ 0 → length alpha ≡ h * w
+  alpha_long : refusal_of cut-lengths ≡ 0 → length alpha ≡ h * w
   unfolding cut_lengths work_tests
-  alpha-long e = let p = passed _ refl e in eqb-true _ _ p.1.1.0
+  alpha_long e = let p = passed _ refl e in eqb-true _ _ p.1.1.0
 
   pub cut-by-contents : refusal_of cut-lengths ≡ 0
       → refusal_of (cut_contents card colours alpha (length alpha) s) ≡ refusal_in colours alpha h w card s b
   unfolding cut_refusal
   cut-by-contents e =
-      ap (λ (n : ℕ). refusal_of (cut_contents card colours alpha n s)) (alpha-long e)
+      ap (λ (n : ℕ). refusal_of (cut_contents card colours alpha n s)) (alpha_long e)
       ∙ sym (passed_first cut-lengths _ (unfold cut_lengths work_tests in refl) e)
 
 -- ---- what a call has done
@@ -141,7 +141,7 @@ pub ground-refused : (colours : List Float) (h w : ℕ) (card : Card) (t : Float
     → n ≡ ground_refusal_in colours h w card t work out → (n ≡ 0 → ⊥) → GroundCalled colours h w card t work out (ground.Refused n) work out
 ground-refused colours h w card t work out n e bad =
     let bad' : ground_refusal_in colours h w card t work out ≡ 0 → ⊥ = λ q. bad (e ∙ q) in
-    record { answer = ap ground.Refused e ∙ ground-declined _ _ _ _ _ _ bad'; out-is = sym (kept _ _ _ bad'); kept = λ _. refl }
+    record { answer = ap ground.Refused e ∙ ground-declined _ _ _ _ _ _ bad'; out_is = sym (kept _ _ _ bad'); kept = λ _. refl }
 
 -- so does one whose lengths are declined, whatever else it is lent
 pub ground-wrong-lengths : (colours : List Float) (h w : ℕ) (card : Card) (t : Float) (work out : List ℕ) (n : ℕ)
@@ -158,7 +158,7 @@ cut-refused colours alpha h w card s b n e bad held =
     record {
       answer = ap outcome.Refused e ∙ cut-declined _ (cut_in colours alpha h w card s) bad';
       mask_is = sym (kept _ _ _ bad');
-      weights-is = sym (kept _ _ _ bad');
+      weights_is = sym (kept _ _ _ bad');
       kept = λ _. refl;
       held = held;
     }
@@ -180,7 +180,7 @@ cut-made colours alpha h w card s b b' keyed box z k m v d held =
     record {
       answer = rw (eq-eqb _ 0 z, k, d, m);
       mask_is = m ∙ sym (written _ _ _ z);
-      weights-is = v ∙ ap (λ (q : List ℕ). weights_of q alpha (h * w)) m ∙ sym (written _ _ _ z);
+      weights_is = v ∙ ap (λ (q : List ℕ). weights_of q alpha (h * w)) m ∙ sym (written _ _ _ z);
       kept = λ bad. absurd (bad z);
       held = held;
     }
@@ -191,7 +191,7 @@ pub growth-refused : (colours : List Float) (background : List ℕ) (h w : ℕ) 
     → GrowthCalled colours background h w reference p b (answer.Refused n) b
 growth-refused colours background h w reference p b n e bad =
     let bad' : growth_refusal_in colours background h w reference b ≡ 0 → ⊥ = λ q. bad (e ∙ q) in
-    record { answer = ap answer.Refused e ∙ declined _ bad'; out-is = sym (kept _ _ _ bad'); kept = λ _. refl }
+    record { answer = ap answer.Refused e ∙ declined _ bad'; out_is = sym (kept _ _ _ bad'); kept = λ _. refl }
 
 -- growth that is accepted has carried a copy of the background through its passes
 pub growth-made : (colours : List Float) (background : List ℕ) (h w : ℕ) (reference : Rgb) (p : ℤ)
@@ -199,4 +199,4 @@ pub growth-made : (colours : List Float) (background : List ℕ) (h w : ℕ) (re
     → growth_refusal_in colours background h w reference b ≡ 0 → n ≡ at_least_zero p → copy ≡ background
     → b'.out ≡ growth_of colours reference h w n copy → GrowthCalled colours background h w reference p b answer.Done b'
 growth-made colours background h w reference p b b' n copy z e c o =
-    record { answer = done _ z; out-is = o ∙ rw (e, c) (sym (written _ _ _ z)); kept = λ bad. absurd (bad z) }
+    record { answer = done _ z; out_is = o ∙ rw (e, c) (sym (written _ _ _ z)); kept = λ bad. absurd (bad z) }

@@ -18,7 +18,7 @@ pub ground-as-before : (colours : List Float) (h w : ℕ) (t : Float) (work out 
     → GroundCalled colours h w Border t work out r work' out' → EarlierGround colours h w t work out r work' out'
 unfolding ground_refusal earlier_ground_refusal ground_lengths picture_tests refusal_of
 ground-as-before colours h w t work out r work' out' call =
-    record { answer = call.answer; out-is = call.out-is; kept = call.kept }
+    record { answer = call.answer; out_is = call.out_is; kept = call.kept }
 
 -- and so is all that subject ensures
 pub cut-as-before : (colours : List Float) (alpha : List ℕ) (h w : ℕ) (s : Settings) (b : Buffers) (r : Outcome) (b' : Buffers)
@@ -28,7 +28,7 @@ cut-as-before colours alpha h w s b r b' call =
     record {
       answer = call.answer;
       mask_is = call.mask_is;
-      weights-is = call.weights-is;
+      weights_is = call.weights_is;
       kept = call.kept;
       held = call.held;
     }

@@ -67,7 +67,7 @@ module _ (colours : List Float) (background : List ℕ) (h w : ℕ) (reference :
 
     next-is : refusal ≡ 0 → b'.out ≡ next_background colours reference h w background
     unfolding next_background
-    next-is z = grown.out-is ∙ written refusal _ _ z
+    next-is z = grown.out_is ∙ written refusal _ _ z
 
     -- its result is as long as the background
     pub as_long : (n : ℕ) → n ≡ refusal_of_answer a → n ≡ 0 → length b'.out ≡ length background
@@ -86,10 +86,10 @@ module _ (colours : List Float) (background : List ℕ) (h w : ℕ) (reference :
     looked n e r =
         record {
           answer = r ∙ ap (λ (k : ℕ). next_pass_for k counted-joins) (e ∙ refusal_is) ∙ joins-same refusal _ _ joins-are;
-          out-is = grown.out-is;
+          out_is = grown.out_is;
           kept = grown.kept;
-          picture-kept = refl;
-          background-kept = refl;
+          picture_kept = refl;
+          background_kept = refl;
         }
 
   -- ---- what a look has done
@@ -99,11 +99,11 @@ module _ (colours : List Float) (background : List ℕ) (h w : ℕ) (reference :
     -- a call of growth with one pass, on buffers that hold the same, would have left just this, and declined by the same number
     pub is-growth : GrowthCalled colours background h w reference (pos 1) b (answer_for refusal) b'
     unfolding next_background
-    is-growth = record { answer = refl; out-is = call.out-is; kept = call.kept }
+    is-growth = record { answer = refl; out_is = call.out_is; kept = call.kept }
 
     -- accepted, its number is that of the pixels on in its output and off in the background
     pub counts-output : refusal ≡ 0 → r ≡ next_pass_is.Joins (newly_on (h * w) background b'.out)
     unfolding joins_in
     counts-output z =
         call.answer ∙ sym (counted refusal _ z)
-        ∙ ap (λ (o : List ℕ). next_pass_is.Joins (newly_on (h * w) background o)) (sym (call.out-is ∙ written refusal _ _ z))
+        ∙ ap (λ (o : List ℕ). next_pass_is.Joins (newly_on (h * w) background o)) (sym (call.out_is ∙ written refusal _ _ z))

@@ -26,10 +26,10 @@ module _ (one two : List Float) (alpha : List ℕ) (h w : ℕ) (card card' : Car
     (calls : TwoCalls one two alpha h w card card' s t b c) (first : Called one alpha h w card s b r b')
     (second : Called two alpha h w card' t c q c') where
   refusals : refusal_in one alpha h w card s b ≡ refusal_in two alpha h w card' t c
-  refusals = (two-pictures one two alpha h w card card' s t b c calls).refusals-alike
+  refusals = (two-pictures one two alpha h w card card' s t b c calls).refusals_alike
 
   cuts : refusal_in one alpha h w card s b ≡ 0 → cut_in one alpha h w card s ≡ cut_in two alpha h w card' t
-  cuts z = (two-pictures one two alpha h w card card' s t b c calls).cuts-alike z first.held second.held
+  cuts z = (two-pictures one two alpha h w card card' s t b c calls).cuts_alike z first.held second.held
 
   answers : r ≡ q
   answers =
@@ -58,7 +58,7 @@ module _ (one two : List Float) (alpha : List ℕ) (h w : ℕ) (card card' : Car
         weights =
             λ e.
             let z = accepted e in
-            kept-alike _ _ z first.weights-is second.weights-is (ap (λ (x : Cut). x.weights) (cuts z));
+            kept-alike _ _ z first.weights_is second.weights_is (ap (λ (x : Cut). x.weights) (cuts z));
       }
     where
       -- two outputs of accepted calls are equal where what is written to them is

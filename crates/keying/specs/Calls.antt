@@ -30,7 +30,7 @@ ground_refusal_in colours h w card tolerance work out = ground_refusal colours h
 pub record GroundCalled (colours : List Float) (h w : ℕ) (card : Card) (tolerance : Float) (work out : List ℕ)
     (r : Ground) (work' out' : List ℕ) : Type 0 where
   pub answer : r ≡ ground_for (ground_refusal_in colours h w card tolerance work out) colours h w (reference_on card colours h w) tolerance
-  pub out-is : out' ≡ after (ground_refusal_in colours h w card tolerance work out)
+  pub out_is : out' ≡ after (ground_refusal_in colours h w card tolerance work out)
       (ground_plane colours h w (reference_on card colours h w) tolerance) out
   pub kept : (ground_refusal_in colours h w card tolerance work out ≡ 0 → ⊥) → work' ≡ work
 
@@ -54,7 +54,7 @@ growth_refusal_in colours background h w reference b =
 pub record GrowthCalled (colours : List Float) (background : List ℕ) (h w : ℕ) (reference : Rgb) (p : ℤ) (b : GrowthBuffers)
     (r : Answer) (b' : GrowthBuffers) : Type 0 where
   pub answer : r ≡ answer_for (growth_refusal_in colours background h w reference b)
-  pub out-is : b'.out ≡ after (growth_refusal_in colours background h w reference b)
+  pub out_is : b'.out ≡ after (growth_refusal_in colours background h w reference b)
       (growth_of colours reference h w (at_least_zero p) background) b.out
   pub kept : (growth_refusal_in colours background h w reference b ≡ 0 → ⊥) → b' ≡ b
 
@@ -64,12 +64,12 @@ pub record GrowthCalled (colours : List Float) (background : List ℕ) (h w : �
 pub record NextPassCalled (colours : List Float) (background : List ℕ) (h w : ℕ) (reference : Rgb) (b : GrowthBuffers)
     (r : NextPass) (colours' : List Float) (background' : List ℕ) (b' : GrowthBuffers) : Type 0 where
   pub answer : r ≡ next_pass_for (growth_refusal_in colours background h w reference b) (joins_in colours reference h w background)
-  pub out-is : b'.out ≡ after (growth_refusal_in colours background h w reference b)
+  pub out_is : b'.out ≡ after (growth_refusal_in colours background h w reference b)
       (next_background colours reference h w background) b.out
   pub kept : (growth_refusal_in colours background h w reference b ≡ 0 → ⊥) → b' ≡ b
   -- what the call is lent to read stays as it was (R91)
-  pub picture-kept : colours' ≡ colours
-  pub background-kept : background' ≡ background
+  pub picture_kept : colours' ≡ colours
+  pub background_kept : background' ≡ background
 
 -- ---- subject, subject_with_colour
 
@@ -78,7 +78,7 @@ pub record Called (colours : List Float) (alpha : List ℕ) (h w : ℕ) (card : 
     (r : Outcome) (b' : Buffers) : Type 0 where
   pub answer : r ≡ outcome_for (refusal_in colours alpha h w card s b) (cut_in colours alpha h w card s)
   pub mask_is : b'.mask ≡ after (refusal_in colours alpha h w card s b) (cut_in colours alpha h w card s).mask b.mask
-  pub weights-is : b'.weights ≡ after (refusal_in colours alpha h w card s b) (cut_in colours alpha h w card s).weights b.weights
+  pub weights_is : b'.weights ≡ after (refusal_in colours alpha h w card s b) (cut_in colours alpha h w card s).weights b.weights
   pub kept : (refusal_in colours alpha h w card s b ≡ 0 → ⊥) → b' ≡ b
   -- what is lent are binary64 numbers, as every f64 in memory is
   pub held : HeldIn colours s

@@ -40,7 +40,7 @@ earlier_cut colours alpha h w s = cut_of colours alpha h w (reference_of colours
 pub record EarlierGround (colours : List Float) (h w : ℕ) (tolerance : Float) (work out : List ℕ)
     (r : Ground) (work' out' : List ℕ) : Type 0 where
   pub answer : r ≡ ground_for (earlier_ground_refusal colours h w tolerance work out) colours h w (reference_of colours h w) tolerance
-  pub out-is : out' ≡ after (earlier_ground_refusal colours h w tolerance work out)
+  pub out_is : out' ≡ after (earlier_ground_refusal colours h w tolerance work out)
       (ground_plane colours h w (reference_of colours h w) tolerance) out
   pub kept : (earlier_ground_refusal colours h w tolerance work out ≡ 0 → ⊥) → work' ≡ work
 
@@ -49,6 +49,6 @@ pub record EarlierCalled (colours : List Float) (alpha : List ℕ) (h w : ℕ) (
     (r : Outcome) (b' : Buffers) : Type 0 where
   pub answer : r ≡ outcome_for (earlier_cut_refusal colours alpha h w s b) (earlier_cut colours alpha h w s)
   pub mask_is : b'.mask ≡ after (earlier_cut_refusal colours alpha h w s b) (earlier_cut colours alpha h w s).mask b.mask
-  pub weights-is : b'.weights ≡ after (earlier_cut_refusal colours alpha h w s b) (earlier_cut colours alpha h w s).weights b.weights
+  pub weights_is : b'.weights ≡ after (earlier_cut_refusal colours alpha h w s b) (earlier_cut colours alpha h w s).weights b.weights
   pub kept : (earlier_cut_refusal colours alpha h w s b ≡ 0 → ⊥) → b' ≡ b
   pub held : HeldIn colours s

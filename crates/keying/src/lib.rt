@@ -26,8 +26,8 @@ fn ground_on(
     work: &mut [u32],
     out: &mut [u8],
 ) -> Ground
-    requires work_value { refusal_of (ground_lengths h w (length colours.now) (length out.old) (length work.old)) ≡ 0 }
-    requires card_value { card_ok card ≡ true }
+    requires lengths { refusal_of (ground_lengths h w (length colours.now) (length out.old) (length work.old)) ≡ 0 }
+    requires card_in_range { card_ok card ≡ true }
     ensures { GroundCalled colours.now h w card tolerance
         work.old out.old result
         work.new out.new }
@@ -166,7 +166,7 @@ pub fn next_pass(
           shallow = shallow.old;
           deep = deep.old;
           marks = marks.old;
-        }) result colours.now background.now
+        }) result colours.exit.now background.exit.now
         (record {
           out = out.exit.now;
           nearest = nearest.new;
@@ -200,9 +200,9 @@ fn cut_on(
     mask: &mut [u8],
     weights: &mut [f64],
 ) -> Outcome
-    requires marks_value { refusal_of (cut_lengths h w (length colours.now) (length alpha.now) (length mask.old) (length weights.old)
+    requires lengths { refusal_of (cut_lengths h w (length colours.now) (length alpha.now) (length mask.old) (length weights.old)
         (length nearest.old) (length shallow.old) (length deep.old) (length marks.old)) ≡ 0 }
-    requires card_value { card_ok card ≡ true }
+    requires card_in_range { card_ok card ≡ true }
     ensures { Called colours.now alpha.now h w card s
         (record {
           mask = mask.entry.now;

@@ -230,9 +230,9 @@ module _ (mask : List ℕ) (h w : ℕ) (fits : length mask ≡ h * w) where
       (which j i)
 
   -- pixels that are joined have one first pixel
-  pub first-same : {i j : ℕ} → Joined mask w i j → first_pixel mask h w i ≡ first_pixel mask h w j
-  first-same (same e) = refl
-  first-same (onward {j = j} {k = k} r b e) = first-same r ∙ one-step j k (end_on r) e b
+  pub first_same : {i j : ℕ} → Joined mask w i j → first_pixel mask h w i ≡ first_pixel mask h w j
+  first_same (same e) = refl
+  first_same (onward {j = j} {k = k} r b e) = first_same r ∙ one-step j k (end_on r) e b
 
   -- and pixels that have one first pixel are joined
   pub same_first : (i j : ℕ) → is_on mask i ≡ true → is_on mask j ≡ true → first_pixel mask h w i ≡ first_pixel mask h w j → Joined mask w i j
@@ -240,7 +240,7 @@ module _ (mask : List ℕ) (h w : ℕ) (fits : length mask ≡ h * w) where
 
   -- a part's first pixel is its own first pixel
   pub first-first : (i : ℕ) → is_on mask i ≡ true → first_pixel mask h w (first_pixel mask h w i) ≡ first_pixel mask h w i
-  first-first i e = first-same (first-joined i e)
+  first-first i e = first_same (first-joined i e)
 
   pub is-first : (i : ℕ) → is_on mask i ≡ true → is_first mask h w (first_pixel mask h w i) ≡ true
   unfolding is_first

@@ -215,22 +215,22 @@ module _ {parents : List ℕ} {m : ℕ} {rep : ℕ → ℕ} (f : Forest parents 
 module _ {old one two : List ℕ} {m a b x y : ℕ} (g : Joinable old m a b) (p : Found old one m a x) (q : Found one two m b y) where
   module _ {rep : ℕ → ℕ} (f : Forest old m rep) where
     abbrev end : Forest two m rep
-    end = q.same-trees rep (p.same-trees rep f)
+    end = q.same_trees rep (p.same_trees rep f)
 
     x-is : x ≡ rep a
     x-is = p.root rep f
 
     y-is : y ≡ rep b
-    y-is = q.root rep (p.same-trees rep f)
+    y-is = q.root rep (p.same_trees rep f)
 
     linked-at : (z : ℕ) → (z ≡ rep a) ⊎ (z ≡ rep b) → rep a ≤ z → rep b ≤ z → z ≤ m
         → Forest (set two z (lesser_of (rep a) (rep b))) m (λ (l : ℕ). renamed (rep a) (rep b) (rep l))
-    linked-at z = link end (rep a) (rep b) z (f.again a) (f.again b) (f.some a g.a-some) (f.some b g.b-some)
+    linked-at z = link end (rep a) (rep b) z (f.again a) (f.again b) (f.some a g.a_some) (f.some b g.b_some)
 
   pub roots-in : (x ≤ m) × (y ≤ m) × (m < length two)
   roots-in =
       let f = g.trees.forest in
-      (omega (arith, x-is f, f.low a, g.a_in), omega (arith, y-is f, f.low b, g.b-in), (end f).room)
+      (omega (arith, x-is f, f.low a, g.a_in), omega (arith, y-is f, f.low b, g.b_in), (end f).room)
 
   pub linked-less : x < y → Linked old (set two y x) m a b x
   linked-less l = record {

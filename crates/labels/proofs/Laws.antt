@@ -14,7 +14,7 @@ use Rattle.plane.specs.Mask.{is_on}
 use Rattle.labels.specs.Labels.{Joined, first_pixel, is_first, parts, label_of}
 use Rattle.labels.proofs.Counts.{count-strict, count-reached}
 use Rattle.labels.proofs.Joined.{start-on, end_on}
-use Rattle.labels.proofs.Firsts.{first-same, same_first, is-first, first_on}
+use Rattle.labels.proofs.Firsts.{first_same, same_first, is-first, first_on}
 
 module _ (mask : List ℕ) (h w : ℕ) where
   -- an off-pixel has the label 0
@@ -40,7 +40,7 @@ module _ (mask : List ℕ) (h w : ℕ) where
     pub joined-label : {i j : ℕ} → Joined mask w i j → label_of mask h w i ≡ label_of mask h w j
     joined-label {i} {j} r =
         label-on i (start-on r)
-        ∙ ap (λ (n : ℕ). 1 + count_below n (is_first mask h w)) (first-same mask h w fits r)
+        ∙ ap (λ (n : ℕ). 1 + count_below n (is_first mask h w)) (first_same mask h w fits r)
         ∙ sym (label-on j (end_on r))
 
     -- the part that begins earlier has the lesser label

@@ -23,7 +23,7 @@ use Rattle.labels.specs.steps.Trees.{Forest, Trees, Scanned, is_root, Numbered}
 use Rattle.labels.proofs.Counts.{count-more, count-no-more, count-gap, count-slow}
 use Rattle.plane.proofs.Mask.{on-inside}
 use Rattle.labels.proofs.Joined.{start-on, spreads}
-use Rattle.labels.proofs.Firsts.{first-joined, first-least, first-same, is-first, first_on}
+use Rattle.labels.proofs.Firsts.{first-joined, first-least, first_same, is-first, first_on}
 use Rattle.labels.proofs.Laws.{label-on, label-off}
 use Rattle.labels.proofs.Forests.{set_cases, less-of}
 
@@ -186,7 +186,7 @@ module _ {mask labels parents : List ℕ} {h w m : ℕ} (fits : length mask ≡ 
       let r = s.rep (lab k) in
       let low : r ≤ m = omega (arith, s.forest.low (lab k), z.1) in
       sym (root-first r (s.forest.some (lab k) z.0) low (s.forest.again (lab k)))
-      ∙ first-same mask h w fits (s.joined k (in-plane k o) o)
+      ∙ first_same mask h w fits (s.joined k (in-plane k o) o)
 
   -- a label is a root exactly when its seed is a first pixel
   root-parent : (l : ℕ) → l ≤ m → s.rep l ≡ l → get_or parents l 0 ≡ l

@@ -20,7 +20,7 @@ use Rattle.plane.specs.Box.{lesser_of}
 use Rattle.labels.specs.steps.Trees.{Forest, Linked, Placeable, Placed, dark, fresh, from-above, from-left, from-both}
 use Rattle.labels.specs.steps.Trees.{up_at, left_at, diag_at, larger, Scanned, Given}
 use Rattle.labels.proofs.Joined.{beside_back, joined-trans, joined-sym}
-use Rattle.labels.proofs.Firsts.{first-least, first-same, first_on, renamed-left, renamed-right, Cases, renamed-cases}
+use Rattle.labels.proofs.Firsts.{first-least, first_same, first_on, renamed-left, renamed-right, Cases, renamed-cases}
 use Rattle.labels.proofs.Firsts.{lesser-cases, lesser-low}
 use Rattle.labels.proofs.Steps.{column-is, beside-above, beside-left, Sides4, beside-sides}
 use Rattle.labels.proofs.Forests.{positive, added, renamed-lesser}
@@ -83,18 +83,18 @@ module _ (mask : List ℕ) (h w : ℕ) (fits : length mask ≡ h * w) (wide : 0 
     on : is_on mask t ≡ true → (0 < r) × (r ≤ m)
     joined : is_on mask t ≡ true → Joined mask w (seed (rep r)) t
     above : is_on mask t ≡ true → w ≤ t → is_on mask (t - w) ≡ true → rep r ≡ rep (lab (t - w))
-    beside-it : is_on mask t ≡ true → 0 < t % w → is_on mask (t - 1) ≡ true → rep r ≡ rep (lab (t - 1))
+    beside_it : is_on mask t ≡ true → 0 < t % w → is_on mask (t - 1) ≡ true → rep r ≡ rep (lab (t - 1))
     starts : is_first mask h w t ≡ true → seed r ≡ t
 
   -- what one pixel more asks: the trees, the pixels before t, and the label r of pixel t
   record Grows (new : List ℕ) (m r : ℕ) (rep seed : ℕ → ℕ) : Type 0 where
     forest : Forest new m rep
     few : m ≤ t + 1
-    old-off : (k : ℕ) → k < t → is_on mask k ≡ false → lab k ≡ 0
-    old-on : (k : ℕ) → k < t → is_on mask k ≡ true → (0 < lab k) × (lab k ≤ m)
-    old-joined : (k : ℕ) → k < t → is_on mask k ≡ true → Joined mask w (seed (rep (lab k))) k
-    old-alike : (j k : ℕ) → j < t → k < t → is_on mask j ≡ true → is_on mask k ≡ true → beside w j k ≡ true → rep (lab j) ≡ rep (lab k)
-    old-starts : (k : ℕ) → k < t → is_first mask h w k ≡ true → seed (lab k) ≡ k
+    old_off : (k : ℕ) → k < t → is_on mask k ≡ false → lab k ≡ 0
+    old_on : (k : ℕ) → k < t → is_on mask k ≡ true → (0 < lab k) × (lab k ≤ m)
+    old_joined : (k : ℕ) → k < t → is_on mask k ≡ true → Joined mask w (seed (rep (lab k))) k
+    old_alike : (j k : ℕ) → j < t → k < t → is_on mask j ≡ true → is_on mask k ≡ true → beside w j k ≡ true → rep (lab j) ≡ rep (lab k)
+    old_starts : (k : ℕ) → k < t → is_first mask h w k ≡ true → seed (lab k) ≡ k
     rises : (a b : ℕ) → 0 < a → a < b → b ≤ m → seed a < seed b
     inside' : (l : ℕ) → 0 < l → l ≤ m → seed l < t + 1
     own : (l : ℕ) → 0 < l → l ≤ m → (is_on mask (seed l) ≡ true) × (get_or (set labels t r) (seed l) 0 ≡ l)
@@ -122,7 +122,7 @@ module _ (mask : List ℕ) (h w : ℕ) (fits : length mask ≡ h * w) (wide : 0 
         go : Sides4 w wide t k → rep r ≡ rep (lab k)
         go (inl z) = rw z.1 (g.pixel.above e z.0 (rw z.1 at o))
         go (inr (inl z)) = absurd (omega arith)
-        go (inr (inr (inl z))) = rw z.1 (g.pixel.beside-it e z.0 (rw z.1 at o))
+        go (inr (inr (inl z))) = rw z.1 (g.pixel.beside_it e z.0 (rw z.1 at o))
         go (inr (inr (inr z))) = absurd (omega (arith, z.1))
 
     -- pixels beside each other have one root
@@ -133,7 +133,7 @@ module _ (mask : List ℕ) (h w : ℕ) (fits : length mask ≡ h * w) (wide : 0 
     alike j k a b =
         both (λ (i : ℕ). Alike i k)
         (λ i l.
-        both (Alike i) (λ u v e o d. ap rep (at_old i l) ∙ g.old-alike i u l v e o d ∙ ap rep (sym (at_old u v)))
+        both (Alike i) (λ u v e o d. ap rep (at_old i l) ∙ g.old_alike i u l v e o d ∙ ap rep (sym (at_old u v)))
         (λ e o d. ap rep (at_old i l) ∙ sym (beside-new i l o e (beside_back w t i ∙ d)) ∙ ap rep (sym at_new)) k b)
         (both (Alike t) (λ u v e o d. ap rep at_new ∙ beside-new u v e o d ∙ ap rep (sym (at_old u v))) (λ e o d. refl) k b)
         j a
@@ -144,20 +144,20 @@ module _ (mask : List ℕ) (h w : ℕ) (fits : length mask ≡ h * w) (wide : 0 
       seed = seed;
       forest = g.forest;
       few = g.few;
-      off = both (λ (k : ℕ). is_on mask k ≡ false → lab' k ≡ 0) (λ k l e. at_old k l ∙ g.old-off k l e) (λ e. at_new ∙ g.pixel.off e);
+      off = both (λ (k : ℕ). is_on mask k ≡ false → lab' k ≡ 0) (λ k l e. at_old k l ∙ g.old_off k l e) (λ e. at_new ∙ g.pixel.off e);
       on =
           both (λ (k : ℕ). is_on mask k ≡ true → (0 < lab' k) × (lab' k ≤ m))
-          (λ k l e. rw (at_old k l) (g.old-on k l e)) (λ e. rw at_new (g.pixel.on e));
+          (λ k l e. rw (at_old k l) (g.old_on k l e)) (λ e. rw at_new (g.pixel.on e));
       joined =
           both (λ (k : ℕ). is_on mask k ≡ true → Joined mask w (seed (rep (lab' k))) k)
-          (λ k l e. rw (at_old k l) (g.old-joined k l e)) (λ e. rw at_new (g.pixel.joined e));
+          (λ k l e. rw (at_old k l) (g.old_joined k l e)) (λ e. rw at_new (g.pixel.joined e));
       alike = alike;
       rises = g.rises;
       inside = g.inside';
       own = g.own;
       starts =
           both (λ (k : ℕ). is_first mask h w k ≡ true → seed (lab' k) ≡ k)
-          (λ k l e. ap seed (at_old k l) ∙ g.old-starts k l e) (λ e. ap seed at_new ∙ g.pixel.starts e);
+          (λ k l e. ap seed (at_old k l) ∙ g.old_starts k l e) (λ e. ap seed at_new ∙ g.pixel.starts e);
     }
 
   module _ (parents : List ℕ) (m : ℕ) (s : Scanned mask labels parents h w t m) where
@@ -182,7 +182,7 @@ module _ (mask : List ℕ) (h w : ℕ) (fits : length mask ≡ h * w) (wide : 0 
     not_first : {C : Type 0} (k : ℕ) → k < t → is_on mask t ≡ true → is_on mask k ≡ true → beside w t k ≡ true → is_first mask h w t ≡ true → C
     not_first k l e o b f =
         let z = first_on mask h w fits t f in
-        absurd (omega (arith, z.1, first-same mask h w fits (onward (same e) b o), first-least mask h w fits k o))
+        absurd (omega (arith, z.1, first_same mask h w fits (onward (same e) b o), first-least mask h w fits k o))
 
     own-kept : (r l : ℕ) → 0 < l → l ≤ m → (is_on mask (s.seed l) ≡ true) × (get_or (set labels t r) (s.seed l) 0 ≡ l)
     own-kept r l a b =
@@ -194,11 +194,11 @@ module _ (mask : List ℕ) (h w : ℕ) (fits : length mask ≡ h * w) (wide : 0 
     keep {r} f = grown record {
       forest = s.forest;
       few = omega (arith, s.few);
-      old-off = s.off;
-      old-on = s.on;
-      old-joined = s.joined;
-      old-alike = s.alike;
-      old-starts = s.starts;
+      old_off = s.off;
+      old_on = s.on;
+      old_joined = s.joined;
+      old_alike = s.alike;
+      old_starts = s.starts;
       rises = s.rises;
       inside' = λ l p q. omega (arith, s.inside l p q);
       own = own-kept r;
@@ -212,7 +212,7 @@ module _ (mask : List ℕ) (h w : ℕ) (fits : length mask ≡ h * w) (wide : 0 
       on = λ e. not-both (is_on mask t) e o;
       joined = λ e. not-both (is_on mask t) e o;
       above = λ e. not-both (is_on mask t) e o;
-      beside-it = λ e. not-both (is_on mask t) e o;
+      beside_it = λ e. not-both (is_on mask t) e o;
       starts = λ f. not-both (is_on mask t) (first_on mask h w fits t f).0 o;
     }
 
@@ -235,7 +235,7 @@ module _ (mask : List ℕ) (h w : ℕ) (fits : length mask ≡ h * w) (wide : 0 
       on = λ e. s.on k i a;
       joined = λ e. onward (s.joined k i a) (beside_back w k t ∙ b) o;
       above = λ e. c;
-      beside-it = λ e. d;
+      beside_it = λ e. d;
       starts = λ f. not_first k i o a b f;
     }
 
@@ -289,11 +289,11 @@ module _ (mask : List ℕ) (h w : ℕ) (fits : length mask ≡ h * w) (wide : 0 
       put-new = grown {rep = s.rep} {seed = seed'} record {
         forest = added s.forest room;
         few = omega (arith, s.few);
-        old-off = s.off;
-        old-on = λ k l e. (let v = s.on k l e in (v.0, omega (arith, v.1)));
-        old-joined = λ k l e. rw (seed-old (s.rep (lab k)) (omega (arith, s.forest.low (lab k), (s.on k l e).1))) (s.joined k l e);
-        old-alike = s.alike;
-        old-starts = λ k l f. seed-old (lab k) (s.on k l (first_on mask h w fits k f).0).1 ∙ s.starts k l f;
+        old_off = s.off;
+        old_on = λ k l e. (let v = s.on k l e in (v.0, omega (arith, v.1)));
+        old_joined = λ k l e. rw (seed-old (s.rep (lab k)) (omega (arith, s.forest.low (lab k), (s.on k l e).1))) (s.joined k l e);
+        old_alike = s.alike;
+        old_starts = λ k l f. seed-old (lab k) (s.on k l (first_on mask h w fits k f).0).1 ∙ s.starts k l f;
         rises =
             λ a b i j k.
             by-label (λ (c : ℕ). a < c → seed' a < seed' c)
@@ -310,7 +310,7 @@ module _ (mask : List ℕ) (h w : ℕ) (fits : length mask ≡ h * w) (wide : 0 
           on = λ e. (omega arith, omega arith);
           joined = λ e. rw (s.forest.beyond (m + 1) (omega arith), seed-new) (same o);
           above = λ e l g. no-up y l g;
-          beside-it = λ e l g. no-left z l g;
+          beside_it = λ e l g. no-left z l g;
           starts = λ f. seed-new;
         };
       }
@@ -377,11 +377,11 @@ module _ (mask : List ℕ) (h w : ℕ) (fits : length mask ≡ h * w) (wide : 0 
       put_both = grown {rep = rep'} {seed = s.seed} record {
         forest = k.trees s.rep s.forest;
         few = omega (arith, s.few);
-        old-off = s.off;
-        old-on = s.on;
-        old-joined = λ i l e. still-joined i (s.joined i l e) (renamed-cases u v (s.rep (lab i)));
-        old-alike = λ i j a b c d e. ap (renamed u v) (s.alike i j a b c d e);
-        old-starts = s.starts;
+        old_off = s.off;
+        old_on = s.on;
+        old_joined = λ i l e. still-joined i (s.joined i l e) (renamed-cases u v (s.rep (lab i)));
+        old_alike = λ i j a b c d e. ap (renamed u v) (s.alike i j a b c d e);
+        old_starts = s.starts;
         rises = s.rises;
         inside' = λ l a b. omega (arith, s.inside l a b);
         own = own-kept r;
@@ -390,7 +390,7 @@ module _ (mask : List ℕ) (h w : ℕ) (fits : length mask ≡ h * w) (wide : 0 
           on = λ e. (omega (arith, r-is, least.some), r-low);
           joined = λ e. rw new-root least.from;
           above = λ e a b. new-root ∙ sym (ap rep' up-lab ∙ renamed-right u v);
-          beside-it = λ e a b. new-root ∙ sym (ap rep' left-lab ∙ renamed-left u v);
+          beside_it = λ e a b. new-root ∙ sym (ap rep' left-lab ∙ renamed-left u v);
           starts = λ f. not_first (t - 1) l-in o (left-on p).1 (left-on p).2 f;
         };
       }
@@ -453,8 +453,8 @@ module _ {mask parents labels : List ℕ} {h w : ℕ} (g : Given mask parents la
   pub placeable : {left up : ℕ} → left ≡ left_at labels pixel x → up ≡ up_at labels w pixel → Placeable parents m left up
   placeable a b = record {
     trees = record { rep = s.rep; forest = s.forest };
-    left_in = rw a (rw column-of at (left-low mask h w g.input g.sides.some-columns labels pixel in-labels parents m s));
-    up_in = rw b (up-low mask h w g.input g.sides.some-columns labels pixel in-labels parents m s);
+    left_in = rw a (rw column-of at (left-low mask h w g.input g.sides.some_columns labels pixel in-labels parents m s));
+    up_in = rw b (up-low mask h w g.input g.sides.some_columns labels pixel in-labels parents m s);
     room = omega (arith, s.few, pixel-inside, g.room);
     small = omega (arith, s.few, pixel-inside, g.few);
   }
@@ -476,7 +476,7 @@ module _ {mask parents labels : List ℕ} {h w : ℕ} (g : Given mask parents la
         ⊎_elim {C = up_at after w pixel ≡ up_at labels w pixel}
         (λ (l : pixel < w). rw (lt-ltb pixel w l))
         (λ (l : w ≤ pixel).
-        rw (le-ltb pixel w l) (get_or-set_other labels pixel (pixel - w) r 0 (λ q. omega (arith, g.sides.some-columns))))
+        rw (le-ltb pixel w l) (get_or-set_other labels pixel (pixel - w) r 0 (λ q. omega (arith, g.sides.some_columns))))
         (which pixel w)
 
     -- one pixel more, and the labels to the left, and above to the left, of the next
@@ -486,7 +486,7 @@ module _ {mask parents labels : List ℕ} {h w : ℕ} (g : Given mask parents la
     row_next {new} a b c p =
         let e : next ≡ pixel + 1 = omega arith in
         let room = (placeable a b).room in
-        let one_more = step mask h w g.input g.sides.some-columns labels pixel in-labels parents m s new r room in (
+        let one_more = step mask h w g.input g.sides.some_columns labels pixel in-labels parents m s new r room in (
           rw e (one_more (rw column-of (rw (a, b, c) at p))),
           sym (left_is after next (x + 1) (omega arith) ∙ ap (λ (k : ℕ). get_or after k 0) back ∙ get_or-set_same labels pixel r 0 in-labels),
           b ∙ sym (diag-is after w next (x + 1) (omega arith) ∙ ap (up_at after w) back ∙ up_same),

@@ -117,9 +117,9 @@ module _ {P : Type 0} (f : ℕ → P → Option ℕ) where
     chosen-cond n true b = refl
     chosen-cond n false b = refl
 
-    first-column : (n : ℕ) → walk over none (column n ps) ≡ attach n (column_best n)
+    first_column : (n : ℕ) → walk over none (column n ps) ≡ attach n (column_best n)
     unfolding attach
-    first-column n = walk-column n none ps
+    first_column n = walk-column n none ps
 
     next-column : (n : ℕ) (b : Option ℕ)
         → better over (chosen column_best b) (attach n (column_best n))
@@ -135,7 +135,7 @@ module _ {P : Type 0} (f : ℕ → P → Option ℕ) where
         walk-append over none (grid n ps) (column n ps)
         ∙ ap (λ (b : Option (ℕ × P)). walk over b (column n ps)) (compose n)
         ∙ walk_from over (chosen column_best (first_least column_cost n)) (column n ps)
-        ∙ ap (better over (chosen column_best (first_least column_cost n))) (first-column n)
+        ∙ ap (better over (chosen column_best (first_least column_cost n))) (first_column n)
         ∙ next-column n (first_least column_cost n)
 
 -- a number added to all of a walk changes no answer
@@ -190,9 +190,9 @@ module _ (f g : ℕ → Option ℕ) where
 offer-encoded : (costs : List ℕ) (c : ℕ → Option ℕ) (x : ℕ) → Encodes costs c → (i : ℕ) → i < length costs → (v : Option ℕ) → c i ≡ v
     → plus (apart x i * apart x i) v ≡ offer costs x i
 unfolding plus value_at
-offer-encoded costs c x e i l none q = sym (offer-none costs x i (e.no-cost i l q))
+offer-encoded costs c x e i l none q = sym (offer-none costs x i (e.no_cost i l q))
 offer-encoded costs c x e i l (some a) q =
-    let z = e.some-cost i a l q in
+    let z = e.some_cost i a l q in
     let y = z.0 in
     let w = z.1 in
     sym (offer-site costs x i (omega arith) ∙ rw y)

@@ -217,7 +217,7 @@ module _ {old mid : List ℕ} {out costs stack n count : ℕ} (base : ℕ) (r : 
         out_first = omega (arith, r);
         room = omega (arith, r.room);
         low = omega (arith, r.short);
-        some-site = p;
+        some_site = p;
         start = st.start p;
         inside = λ q g. (let z = st.inside q g in omega arith);
         rises = st.rises;

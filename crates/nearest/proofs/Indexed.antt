@@ -19,7 +19,7 @@ unfolding index_of
 index-inside mask h w y x none p e = p
 index-inside mask h w y x (some q) p e =
     let n = nearest-some mask h w y x q.0 q.1 e in
-    pixel-in q.1 q.0 h w n.row_inside n.column-inside
+    pixel-in q.1 q.0 h w n.row_inside n.column_inside
 
 module _ (mask : List ℕ) (h w : ℕ) (wide : 0 < w) (work : List ℕ) (e : take (h * w) work ≡ indices_plane mask h w) where
   pub front-index : (i : ℕ) → i < h * w → get_or work i 0 ≡ index_of w (nearest mask h w (i / w) (i % w))

@@ -83,12 +83,12 @@ module _ (mask : List ℕ) (h w y x : ℕ) where
       let v-is : u ≡ v = same (far i j) u v c.1.here e in
       record {
         row_inside = c.1.inside;
-        column-inside = a.inside;
-        is-on = d.0;
+        column_inside = a.inside;
+        pixel_on = d.0;
         least = λ k l g m t. (let z = bound l k g t in let n = a.least l z.0 m z.1 in let q = z.2 in omega arith);
-        first-column = λ k l g m t.
+        first_column = λ k l g m t.
             (let z = bound l k (omega arith) t in let n = a.first l z.0 m z.1 in let q = z.2 in omega arith);
-        first-row = λ k g t. (let n = c.1.first k (away y x k i) g (on-far i k t) in omega arith);
+        first_row = λ k g t. (let n = c.1.first k (away y x k i) g (on-far i k t) in omega arith);
       }
 
   answer-good : (b : Option ℕ) → Answers (column_cost far (upto h)) w b → Good (chosen (column_best far (upto h)) b)
@@ -113,13 +113,13 @@ module _ (mask : List ℕ) (h w y x : ℕ) where
   -- two answers are one
   column-le : {i j k l : ℕ} → IsNearest mask h w y x i j → IsNearest mask h w y x k l → i ≤ k
   column-le {i} {j} {k} {l} p q =
-      let m = q.least j i p.row_inside p.column-inside p.is-on in
-      ⊎_elim (λ (g : k < i). (let z = p.first-column l k q.row_inside g q.is-on in absurd (omega arith))) (λ g. g) (which k i)
+      let m = q.least j i p.row_inside p.column_inside p.pixel_on in
+      ⊎_elim (λ (g : k < i). (let z = p.first_column l k q.row_inside g q.pixel_on in absurd (omega arith))) (λ g. g) (which k i)
 
   row-le : {i j l : ℕ} → IsNearest mask h w y x i j → IsNearest mask h w y x i l → j ≤ l
   row-le {i} {j} {l} p q =
-      let m = q.least j i p.row_inside p.column-inside p.is-on in
-      ⊎_elim (λ (g : l < j). (let z = p.first-row l g q.is-on in absurd (omega arith))) (λ g. g) (which l j)
+      let m = q.least j i p.row_inside p.column_inside p.pixel_on in
+      ⊎_elim (λ (g : l < j). (let z = p.first_row l g q.pixel_on in absurd (omega arith))) (λ g. g) (which l j)
 
   one : (i j k l : ℕ) → IsNearest mask h w y x i j → IsNearest mask h w y x k l → (i ≡ k) × (j ≡ l)
   one i j k l p q =
@@ -129,7 +129,7 @@ module _ (mask : List ℕ) (h w y x : ℕ) where
 
   is-from : (i j : ℕ) → IsNearest mask h w y x i j → (r : Option (ℕ × ℕ)) → Good r → r ≡ some (i, j)
   unfolding Good
-  is-from i j p none g = not-both (on_at mask w j i) p.is-on (g j i p.row_inside p.column-inside)
+  is-from i j p none g = not-both (on_at mask w j i) p.pixel_on (g j i p.row_inside p.column_inside)
   is-from i j p (some q) g =
       let e = one q.0 q.1 i j g p in
       ap (λ (n : ℕ). some (n, q.1)) e.0 ∙ ap (λ (n : ℕ). some (i, n)) e.1
@@ -141,7 +141,7 @@ module _ (mask : List ℕ) (h w y x : ℕ) where
   none_from : ((j i : ℕ) → j < h → i < w → on_at mask w j i ≡ false) → (r : Option (ℕ × ℕ)) → Good r → r ≡ none
   unfolding Good
   none_from p none g = refl
-  none_from p (some q) g = not-both (on_at mask w q.1 q.0) g.is-on (p q.1 q.0 g.row_inside g.column-inside)
+  none_from p (some q) g = not-both (on_at mask w q.1 q.0) g.pixel_on (p q.1 q.0 g.row_inside g.column_inside)
 
   pub nothing-on : ((j i : ℕ) → j < h → i < w → on_at mask w j i ≡ false) → nearest mask h w y x ≡ none
   nothing-on p = none_from p (nearest mask h w y x) good
@@ -204,7 +204,7 @@ module _ (mask : List ℕ) (h w y x : ℕ) (row : y < h) (column : x < w) where
       let p = nearest-some mask h w y x i j e in
       let s = step-nearer y x j i n in
       let j' = towards-inside h j y p.row_inside row in
-      let i' = towards-inside w i x p.column-inside column in
+      let i' = towards-inside w i x p.column_inside column in
       ⊎_elim
       (λ (t : on_at mask w (towards j y) (towards i x) ≡ true).
       (let l = p.least (towards j y) (towards i x) j' i' t in absurd (omega arith)))
@@ -248,7 +248,7 @@ module _ (mask : List ℕ) (h w y x : ℕ) where
       let d = distance_some q.0 q.1 e in
       let n = nearest-some mask h w y x q.0 q.1 e in
       let s = square_le (apart_low y q.1 h a n.row_inside) in
-      let t = square_le (apart_low x q.0 w b n.column-inside) in
+      let t = square_le (apart_low x q.0 w b n.column_inside) in
       omega arith
 
   pub distance_most : y < h → x < w → distance mask h w y x ≤ h * h + w * w

@@ -95,10 +95,10 @@ module _ {mask : List ℕ} {h w : ℕ} {start old : List ℕ} {y : ℕ} (r : Row
     row_in = omega (arith, r.inside, r.sides.tall);
     short = r.sides.wide;
     inside = r.row;
-    out-inside = omega (arith, r.row);
+    out_inside = omega (arith, r.row);
     room = r.room;
     row_low = row_low mask h w r.inside r.sides.tall r.passing.swept;
-    near-low = line_low mask h w r.inside r.sides.tall r.passing.swept;
+    near_low = line_low mask h w r.inside r.sides.tall r.passing.swept;
   }
 
   -- row y is passed, and its chosen columns stand in it or before it

@@ -227,8 +227,8 @@ module _ (mask : List ℕ) (h w : ℕ) where
             rw (cost-at x g, walk-line (row_cost mask w y x) h)
             (coded x (first_least (row_cost mask w y x) h) (walk-answers (row_cost mask w y x) h)) in
             record {
-              some-cost = λ x a g q. rw q at (one x (omega arith));
-              no-cost = λ x g q. rw q at (one x (omega arith));
+              some_cost = λ x a g q. rw q at (one x (omega arith));
+              no_cost = λ x g q. rw q at (one x (omega arith));
             }
 
         -- nearest is the line pass along the row, and the chosen column's own answer
@@ -245,7 +245,7 @@ module _ (mask : List ℕ) (h w : ℕ) where
         some-row x i v g o none e =
             let e' = long in
             let site = (offered costs x i v o).0 in
-            let z = encodes.no-cost i (omega arith) (ap (value_of (row_cost mask w y i)) e ∙ unfold value_of in refl) in
+            let z = encodes.no_cost i (omega arith) (ap (value_of (row_cost mask w y i)) e ∙ unfold value_of in refl) in
             absurd (omega arith)
         some-row x i v g o (some j) e = refl
 

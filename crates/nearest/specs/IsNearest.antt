@@ -8,11 +8,11 @@ use Rattle.nearest.specs.Nearest.{away}
 -- (j, i) is the nearest on-pixel of (y, x) (R10, R11)
 pub record IsNearest (mask : List ℕ) (h w y x i j : ℕ) : Type 0 where
   pub row_inside : j < h
-  pub column-inside : i < w
-  pub is-on : on_at mask w j i ≡ true
+  pub column_inside : i < w
+  pub pixel_on : on_at mask w j i ≡ true
   -- no on-pixel is nearer
   pub least : (k l : ℕ) → k < h → l < w → on_at mask w k l ≡ true → away y x j i ≤ away y x k l
   -- each in a column before is farther
-  pub first-column : (k l : ℕ) → k < h → l < i → on_at mask w k l ≡ true → away y x j i < away y x k l
+  pub first_column : (k l : ℕ) → k < h → l < i → on_at mask w k l ≡ true → away y x j i < away y x k l
   -- and each above it in its own column
-  pub first-row : (k : ℕ) → k < j → on_at mask w k i ≡ true → away y x j i < away y x k i
+  pub first_row : (k : ℕ) → k < j → on_at mask w k i ≡ true → away y x j i < away y x k i

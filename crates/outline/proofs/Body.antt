@@ -50,17 +50,17 @@ module _ (back : List ℕ) (h w : ℕ) (wide : 0 < w) (p : ℕ → Bool) (m : �
       let s = nearest-some mask h w (i / w) (i % w) x y q in
       let ty = towards y (i / w) in
       let tx = towards x (i % w) in
-      let tx-in : tx < w = towards-inside w x (i % w) s.column-inside c in
+      let tx-in : tx < w = towards-inside w x (i % w) s.column_inside c in
       let u : ty * w + tx < h * w = pixel-in ty tx h w (towards-inside h y (i / w) s.row_inside r) tx-in in
       let other : (y ≡ i / w) × (x ≡ i % w) → ⊥ = λ z. (
       let k : y * w + x ≡ i = rw (z.0, z.1) (index-of i w) in
-      let lit : is_on mask (y * w + x) ≡ true = sym (row_on mask w y x) ∙ s.is-on in
+      let lit : is_on mask (y * w + x) ≡ true = sym (row_on mask w y x) ∙ s.pixel_on in
       let here : p i ≡ true = ap p (sym k) ∙ mask-holds (h * w) p (y * w + x) lit in
       not-both (p i) here e) in
       let dark = sym (mask-on (h * w) p (ty * w + tx) u) ∙ sym (row_on mask w ty tx) ∙ step-off mask h w (i / w) (i % w) r c x y q other in
       record {
-        inside = pixel-in y x h w s.row_inside s.column-inside;
-        near = within-sum (step-nigh w y x (i / w) (i % w) s.column-inside tx-in) (off (ty * w + tx) u dark);
+        inside = pixel-in y x h w s.row_inside s.column_inside;
+        near = within-sum (step-nigh w y x (i / w) (i % w) s.column_inside tx-in) (off (ty * w + tx) u dark);
       }
 
 module _ (back : List ℕ) (h w : ℕ) (wide : 0 < w) where

@@ -64,9 +64,9 @@ module _ (h w : ℕ) (tall : 0 < h) (wide : 0 < w) where
       let z = listed-table (λ (x : ℕ). y * w + x) i 0 w e in
       rw z.3 (pixel-in y z.0 h w a (omega (arith, z.2)))
 
-  column-inside : (k x i : ℕ) → k ≤ h → x < w → listed i (inner_column k w x) ≡ true → i < h * w
+  column_inside : (k x i : ℕ) → k ≤ h → x < w → listed i (inner_column k w x) ≡ true → i < h * w
   unfolding inner_column
-  column-inside k x i l a e =
+  column_inside k x i l a e =
       let z = listed-table (λ (y : ℕ). y * w + x) i 1 (k - 2) e in
       rw z.3 (pixel-in z.0 x h w (omega (arith, z.1, z.2)) a)
 
@@ -77,8 +77,8 @@ module _ (h w : ℕ) (tall : 0 < h) (wide : 0 < w) where
       in_either i (rows ++ inner_column h w 0) _
       (in_either i rows (inner_column h w 0)
       (in_either i (row_pixels w 0) (row_pixels w (h - 1)) (row_inside 0 i tall) (row_inside (h - 1) i (omega arith)))
-      (column-inside _ 0 i (omega arith) wide))
-      (column-inside _ (w - 1) i (omega arith) (omega arith))
+      (column_inside _ 0 i (omega arith) wide))
+      (column_inside _ (w - 1) i (omega arith) (omega arith))
 
 -- ---- masks that are alike on a list have as many entries of it on
 

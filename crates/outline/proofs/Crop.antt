@@ -37,19 +37,19 @@ module _ (mask : List ℕ) (h w added : ℕ) where
   unfolding whole_of
   crop-has cropping y x a b e =
       crop-cases (λ (c : Box). Has c y x) cropping (box-has mask h w added y x a b e)
-      (record { from_row = omega arith; to_row = a; from-column = omega arith; to-column = b })
+      (record { from_row = omega arith; to_row = a; from_column = omega arith; to_column = b })
 
   pub crop-in : (cropping : Bool) (y x : ℕ) → y < h → x < w → on_at mask w y x ≡ true → BoxIn h w (crop_of mask h w added cropping)
   unfolding whole_of
   crop-in cropping y x a b e =
       crop-cases (BoxIn h w) cropping (box_in mask h w added y x a b e)
-      (record { some-rows = omega arith; rows_in = omega arith; some-columns = omega arith; columns-in = omega arith })
+      (record { some_rows = omega arith; rows_in = omega arith; some_columns = omega arith; columns_in = omega arith })
 
 -- the crop box of every accepted cut is one of the picture
 pub cut-crop : (colours : List Float) (alpha : List ℕ) (h w : ℕ) (reference : Rgb) (card : Card) (s : Settings) (b : Buffers)
     → refusal_in colours alpha h w card s b ≡ 0 → BoxIn h w (crop_of (cut_mask colours alpha h w reference s) h w margin s.crop_to_alpha)
 cut-crop colours alpha h w reference card s b e =
-    let wide = (taken colours alpha h w card s b e).sides.some-columns in
+    let wide = (taken colours alpha h w card s b e).sides.some_columns in
     let mask = cut_mask colours alpha h w reference s in
     let f = some-found (is_on mask) (h * w) (mask-not-empty colours alpha h w reference s card b e) in
     let i = f.0 in

@@ -33,16 +33,16 @@ use Rattle.outline.proofs.GrowthLaws.{growth-leaves}
 -- what an accepted cut knows of the sides, the picture, the alpha and the buffers
 pub record Taken (colours : List Float) (alpha : List ℕ) (h w : ℕ) (s : Settings) (b : Buffers) : Type 0 where
   pub sides : Sides h w
-  pub colours-long : length colours ≡ 3 * (h * w)
-  pub alpha-long : length alpha ≡ h * w
-  pub mask-long : length b.mask ≡ h * w
-  pub weights-long : length b.weights ≡ h * w
-  pub nearest-long : room_for h w ≤ length b.nearest
-  pub shallow-long : room_for h w ≤ length b.shallow
+  pub colours_long : length colours ≡ 3 * (h * w)
+  pub alpha_long : length alpha ≡ h * w
+  pub mask_long : length b.mask ≡ h * w
+  pub weights_long : length b.weights ≡ h * w
+  pub nearest_long : room_for h w ≤ length b.nearest
+  pub shallow_long : room_for h w ≤ length b.shallow
   pub deep_long : room_for h w ≤ length b.deep
-  pub marks-long : room_for h w ≤ length b.marks
+  pub marks_long : room_for h w ≤ length b.marks
   pub range : colours_ok colours ≡ true
-  pub some-alpha : some_below (h * w) (is_on (alpha_mask alpha (h * w) s)) ≡ true
+  pub some_alpha : some_below (h * w) (is_on (alpha_mask alpha (h * w) s)) ≡ true
 
 pub taken : (colours : List Float) (alpha : List ℕ) (h w : ℕ) (card : Card) (s : Settings) (b : Buffers)
     → refusal_in colours alpha h w card s b ≡ 0 → Taken colours alpha h w s b
@@ -51,16 +51,16 @@ taken colours alpha h w card s b e =
     let p = passed _ refl e in
     record {
       sides = sides-are h w p.0;
-      colours-long = eqb-true _ _ p.1.0;
-      alpha-long = eqb-true _ _ p.1.1.0;
-      mask-long = eqb-true _ _ p.1.1.1.0;
-      weights-long = eqb-true _ _ p.1.1.1.1.0;
-      nearest-long = leb-true _ _ p.1.1.1.1.1.0;
-      shallow-long = leb-true _ _ p.1.1.1.1.1.1.0;
+      colours_long = eqb-true _ _ p.1.0;
+      alpha_long = eqb-true _ _ p.1.1.0;
+      mask_long = eqb-true _ _ p.1.1.1.0;
+      weights_long = eqb-true _ _ p.1.1.1.1.0;
+      nearest_long = leb-true _ _ p.1.1.1.1.1.0;
+      shallow_long = leb-true _ _ p.1.1.1.1.1.1.0;
       deep_long = leb-true _ _ p.1.1.1.1.1.1.1.0;
-      marks-long = leb-true _ _ p.1.1.1.1.1.1.1.1.0;
+      marks_long = leb-true _ _ p.1.1.1.1.1.1.1.1.0;
       range = p.1.1.1.1.1.1.1.1.1.1.0;
-      some-alpha = p.1.1.1.1.1.1.1.1.1.1.1.1.0;
+      some_alpha = p.1.1.1.1.1.1.1.1.1.1.1.1.0;
     }
 
 -- ---- the mask is never empty
@@ -98,5 +98,5 @@ module _ (colours : List Float) (alpha : List ℕ) (h w : ℕ) (reference : Rgb)
   mask-not-empty card b e =
       ⊎_elim {C = some-on ≡ true}
       (λ (k : keyed ≡ true). rw k (some_same (is_on (mask_of (h * w) left)) left (h * w) (mask-on (h * w) left) ∙ grown-off k))
-      (λ (k : keyed ≡ false). rw k (taken colours alpha h w card s b e).some-alpha)
+      (λ (k : keyed ≡ false). rw k (taken colours alpha h w card s b e).some_alpha)
       (either keyed)

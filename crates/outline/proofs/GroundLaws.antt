@@ -16,7 +16,7 @@ use Rattle.plane.proofs.Refusal.{and-true}
 use Rattle.plane.specs.Mask.{is_on, mask_of}
 use Rattle.labels.specs.Labels.{beside, Joined, same, onward, first_pixel}
 use Rattle.labels.proofs.Joined.{start-on, end_on, spreads}
-use Rattle.labels.proofs.Firsts.{first-same, same_first}
+use Rattle.labels.proofs.Firsts.{first_same, same_first}
 use Rattle.squares.proofs.Laws.{same_test}
 use Rattle.colour.specs.declared.Rgb.{Rgb}
 use Rattle.outline.specs.Border.{border_list, on_border}
@@ -75,7 +75,7 @@ module _ (close : List ℕ) (h w : ℕ) where
         ∙ and_is (is_on close i) (some_below (h * w) (meets i)) lit
         (some_is (meets i) (h * w) j l
         (and_is (on_border h w j && is_on close j) (eqb (first_pixel close h w j) (first_pixel close h w i))
-        (and_is (on_border h w j) (is_on close j) b (start-on r)) (eq-eqb _ _ (first-same close h w fits r))))
+        (and_is (on_border h w j) (is_on close j) b (start-on r)) (eq-eqb _ _ (first_same close h w fits r))))
 
     -- it has every close border pixel,
     pub ground-border : (i : ℕ) → i < h * w → on_border h w i ≡ true → is_on close i ≡ true → is_on (ground_from close h w) i ≡ true

@@ -150,13 +150,13 @@ sizes : length one ≡ length two
 unfolding picture_of table
 sizes = refl
 
-in-range : colours_ok one ≡ true
+in_range : colours_ok one ≡ true
 unfolding grey picture_of table colours_ok colour_ok le lt row_pixels inner_column border_list listed on_border
-in-range = refl
+in_range = refl
 
 -- every premise of the theorem holds of these two calls
 pub calls : TwoCalls one two alpha side side Border Border settings settings buffers buffers
-calls = search (sizes, alike, lengths, in-range, ranges, agree)
+calls = search (sizes, alike, lengths, in_range, ranges, agree)
 
 -- so their outlines are equal, although the pictures differ
 pub instance : TwoPictures one two alpha side side Border Border settings settings buffers buffers
@@ -192,7 +192,7 @@ given-agree : Agree one two side side (card_of capitals) settings
 given-agree = record { border = agree.border; around = λ i l e. agree.around i l (rw (← white) e) }
 
 pub given-calls : TwoCalls one two alpha side side (card_of capitals) (card_of smalls) settings settings buffers buffers
-given-calls = search (sizes, one-card, alike, lengths, in-range, ranges, given-agree)
+given-calls = search (sizes, one-card, alike, lengths, in_range, ranges, given-agree)
 
 pub given-instance : TwoPictures one two alpha side side (card_of capitals) (card_of smalls) settings settings buffers buffers
 given-instance = two-pictures one two alpha side side (card_of capitals) (card_of smalls) settings settings buffers buffers given-calls

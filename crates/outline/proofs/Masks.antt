@@ -32,11 +32,11 @@ module _ {mask : List ℕ} {h w k i : ℕ} where
   unfolding near_ground
   near-found e =
       let s : Site mask h w k (i / w) (i % w) = square-found e in
-      let r = row_is s.row s.column w s.column-in in
-      let q = column-is s.row s.column w s.column-in in
+      let r = row_is s.row s.column w s.column_in in
+      let q = column-is s.row s.column w s.column_in in
       record {
         site = s.row * w + s.column;
-        inside = pixel-in s.row s.column h w s.row_in s.column-in;
+        inside = pixel-in s.row s.column h w s.row_in s.column_in;
         lit = sym (row_on mask w s.row s.column) ∙ s.lit;
         near = record { rows = rw r s.rows; columns = rw q s.columns };
       }
@@ -48,7 +48,7 @@ module _ {mask : List ℕ} {h w k i : ℕ} where
         row = s.site / w;
         column = s.site % w;
         row_in = row_of s.site h w z s.inside;
-        column-in = column-of s.site w z;
+        column_in = column-of s.site w z;
         lit = index_on mask w s.site ∙ s.lit;
         rows = s.near.rows;
         columns = s.near.columns;

@@ -98,8 +98,8 @@ module _ (one two : List Float) (alpha : List ℕ) (h w : ℕ) (card card' : Car
       rw (
         calls.sizes,
         calls.cards,
-        calls.in-range,
-        calls.in-range',
+        calls.in_range,
+        calls.in_range',
         finite-alike tol tol' calls.settings.tolerance,
         alphas,
         l.mask,
@@ -116,10 +116,10 @@ module _ (one two : List Float) (alpha : List ℕ) (h w : ℕ) (card card' : Car
     known = taken one alpha h w card s b good
 
     tall : 0 < h
-    tall = known.sides.some-rows
+    tall = known.sides.some_rows
 
     wide : 0 < w
-    wide = known.sides.some-columns
+    wide = known.sides.some_columns
 
     tolerances : Alike tol tol'
     tolerances = tolerance-alike tol tol' held.tolerance held'.tolerance calls.settings.tolerance
@@ -127,8 +127,8 @@ module _ (one two : List Float) (alpha : List ℕ) (h w : ℕ) (card card' : Car
     -- where the pictures agree, their colours are the same
     agreed : (i : ℕ) → i < h * w → AgreeAt one two i → Same one two h w tall wide i
     agreed i l e =
-        same-colour (colour_at one i) (colour_at two i) (colour-held one (h * w) i held.picture known.colours-long l)
-        (colour-held two (h * w) i held'.picture (sym calls.sizes ∙ known.colours-long) l) e
+        same-colour (colour_at one i) (colour_at two i) (colour-held one (h * w) i held.picture known.colours_long l)
+        (colour-held two (h * w) i held'.picture (sym calls.sizes ∙ known.colours_long) l) e
 
     border : (i : ℕ) → on_border h w i ≡ true → Same one two h w tall wide i
     border i e = let l = border-inside h w tall wide i e in agreed i l ((calls.agree good).border i l e)
@@ -168,4 +168,4 @@ module _ (one two : List Float) (alpha : List ℕ) (h w : ℕ) (card card' : Car
 pub two-pictures : (one two : List Float) (alpha : List ℕ) (h w : ℕ) (card card' : Card) (s t : Settings) (b c : Buffers)
     → TwoCalls one two alpha h w card card' s t b c → TwoPictures one two alpha h w card card' s t b c
 two-pictures one two alpha h w card card' s t b c calls =
-    record { refusals-alike = refusals one two alpha h w card card' s t b c calls; cuts-alike = cuts one two alpha h w card card' s t b c calls }
+    record { refusals_alike = refusals one two alpha h w card card' s t b c calls; cuts_alike = cuts one two alpha h w card card' s t b c calls }

@@ -56,8 +56,8 @@ pub record TwoCalls (one two : List Float) (alpha : List ℕ) (h w : ℕ) (card 
   pub settings : SameSettings s t
   pub lengths : SameLengths b c
   -- all colours lent are from 0 to 1
-  pub in-range : colours_ok one ≡ true
-  pub in-range' : colours_ok two ≡ true
+  pub in_range : colours_ok one ≡ true
+  pub in_range' : colours_ok two ≡ true
   -- the pictures agree on the border and about the first picture's ground; where the first call is declined, for whatever reason, they
   -- need not agree anywhere
   pub agree : refusal_in one alpha h w card s b ≡ 0 → Agree one two h w card s
@@ -65,6 +65,6 @@ pub record TwoCalls (one two : List Float) (alpha : List ℕ) (h w : ℕ) (card 
 -- both calls are declined with the same number, or both are accepted and make the same cut. That what is lent is held as binary64 numbers
 -- is no premise of the theorem for calls: every call ensures it (R66)
 pub record TwoPictures (one two : List Float) (alpha : List ℕ) (h w : ℕ) (card card' : Card) (s t : Settings) (b c : Buffers) : Type 0 where
-  pub refusals-alike : refusal_in one alpha h w card s b ≡ refusal_in two alpha h w card' t c
-  pub cuts-alike : refusal_in one alpha h w card s b ≡ 0 → HeldIn one s → HeldIn two t
+  pub refusals_alike : refusal_in one alpha h w card s b ≡ refusal_in two alpha h w card' t c
+  pub cuts_alike : refusal_in one alpha h w card s b ≡ 0 → HeldIn one s → HeldIn two t
       → cut_in one alpha h w card s ≡ cut_in two alpha h w card' t

@@ -40,8 +40,8 @@ factor-most a (suc b) l = rw (mul-suc a b) (omega arith)
 
 -- the sides of a picture that is small enough
 pub record SidesOk (h w : ℕ) : Type 0 where
-  pub some-rows : 1 ≤ h
-  pub some-columns : 1 ≤ w
+  pub some_rows : 1 ≤ h
+  pub some_columns : 1 ≤ w
   pub tall : h ≤ most_pixels
   pub wide : w ≤ most_pixels
 
@@ -51,8 +51,8 @@ sides-of header s e few =
     let h = header.height in
     let w = header.width in
     let x = factor-most h w (s.width_some e) in
-    let y : w ≤ h * w = rw (mul_comm h w) (factor-most w h (s.height-some e)) in
-    record { some-rows = s.height-some e; some-columns = s.width_some e; tall = omega arith; wide = omega arith }
+    let y : w ≤ h * w = rw (mul_comm h w) (factor-most w h (s.height_some e)) in
+    record { some_rows = s.height_some e; some_columns = s.width_some e; tall = omega arith; wide = omega arith }
 
 -- ---- a long input is declined, by its header
 
@@ -67,7 +67,7 @@ long-number input l =
     ⊎_elim {C = file_refusal header input ≡ long_refusal header}
     (λ (t : leb (pixels_of header) most_pixels ≡ true).
     let few = leb-true (pixels_of header) most_pixels t in
-    rw (ne_eqb (length input) (header.body + 4 * pixels_of header) (λ e. omega (arith, e, (header-small input).body-most))))
+    rw (ne_eqb (length input) (header.body + 4 * pixels_of header) (λ e. omega (arith, e, (header-small input).body_most))))
     (λ (t : leb (pixels_of header) most_pixels ≡ false). rw t)
     (either (leb (pixels_of header) most_pixels))
 
@@ -79,7 +79,7 @@ long-some false b e = let z : ◌≡◌ {A = ℕ} 8 0 = e in omega arith
 -- a file as long as most_input is declined, and its first most_input bytes are declined by the same number
 pub record LongDeclined (input : List ℕ) : Type 0 where
   pub declined : file_refusal (header_of input) input ≡ 0 → ⊥
-  pub first-same : let first = take most_input input in file_refusal (header_of first) first ≡ file_refusal (header_of input) input
+  pub first_same : let first = take most_input input in file_refusal (header_of first) first ≡ file_refusal (header_of input) input
 
 pub long-declined : (input : List ℕ) → most_input ≤ length input → LongDeclined input
 unfolding long_refusal refusal_of
@@ -88,6 +88,6 @@ long-declined input l =
     let k : length t ≡ most_input = length-take-le most_input input l in
     record {
       declined = λ e. long-some (header_of input).ok (leb (pixels_of (header_of input)) most_pixels) (sym (long-number input l) ∙ e);
-      first-same =
+      first_same =
           long-number t (omega arith) ∙ ap long_refusal (header-first most_input input (omega arith)) ∙ sym (long-number input l);
     }

@@ -47,7 +47,7 @@ pub fn file_refusal(header: Header, input: &[u8]) -> u32
 pub fn colours(input: &[u8], body: usize, n: usize, out: &mut [f64])
     requires { (body ≤ most_header) × (n ≤ most_pixels) × (length out.old ≡ 3 * n) }
     ensures out_after { out.new ≡ colours_from input.now body n }
-    ensures out_after_2 { colours_ok out.new ≡ true }
+    ensures out_in_range { colours_ok out.new ≡ true }
 {
     let mut k = 0usize;
     while k < out.len() {

@@ -27,11 +27,11 @@ use Rattle.pam_header.proofs.HeaderLaws.{side-given, header-accepted}
 
 -- the parts of that header
 record Parts (input : List ℕ) : Type 0 where
-  first-text : starts_at input 0 width_text ≡ true
-  width-there : is_number input width_at ≡ true
-  middle-text : starts_at input (middle_at input) height_text ≡ true
-  height-there : is_number input (height_at input) ≡ true
-  last-text : starts_at input (tail_at input) tail_text ≡ true
+  text_first : starts_at input 0 width_text ≡ true
+  width_there : is_number input width_at ≡ true
+  middle_text : starts_at input (middle_at input) height_text ≡ true
+  height_there : is_number input (height_at input) ≡ true
+  last_text : starts_at input (tail_at input) tail_text ≡ true
 
 parts : (input : List ℕ) → earlier_ok input ≡ true → Parts input
 unfolding earlier_ok
@@ -45,7 +45,7 @@ parts input e =
     let b = and-true (s && w && m) h a.0 in
     let c = and-true (s && w) m b.0 in
     let d = and-true s w c.0 in
-    record { first-text = d.0; width-there = d.1; middle-text = c.1; height-there = b.1; last-text = a.1 }
+    record { text_first = d.0; width_there = d.1; middle_text = c.1; height_there = b.1; last_text = a.1 }
 
 module _ (input : List ℕ) where
   -- the digits that stand at a place, and what follows them
@@ -87,12 +87,12 @@ record HasEarlier (input : List ℕ) : Type 0 where
   width : List ℕ
   height : List ℕ
   rest : List ℕ
-  width-numeral : is_numeral width ≡ true
-  height-numeral : is_numeral height ≡ true
+  width_numeral : is_numeral width ≡ true
+  height_numeral : is_numeral height ≡ true
   width_is : width_of input ≡ value_of width
-  height-is : height_of input ≡ value_of height
+  height_is : height_of input ≡ value_of height
   body_is : body_at input ≡ length (earlier_text width height)
-  input-is : input ≡ earlier_text width height ++ rest
+  input_is : input ≡ earlier_text width height ++ rest
 
 texts-some : (no_zero width_text ≡ true) × (no_zero height_text ≡ true) × (no_zero tail_text ≡ true)
 unfolding no_zero
@@ -109,25 +109,25 @@ earlier-means input o =
     let w = there input width_at in
     let h = there input (height_at input) in
     let rest = drop (tail_at input + 46) input in
-    let v = there-is input width_at p.width-there in
-    let t = there-is input (height_at input) p.height-there in
-    let e4 : drop (tail_at input) input ≡ tail_text ++ rest = starts-split input tail_text (tail_at input) texts-some.2 p.last-text in
+    let v = there-is input width_at p.width_there in
+    let t = there-is input (height_at input) p.height_there in
+    let e4 : drop (tail_at input) input ≡ tail_text ++ rest = starts-split input tail_text (tail_at input) texts-some.2 p.last_text in
     let e3 : drop (height_at input) input ≡ (h ++ tail_text) ++ rest =
     there-split input (height_at input) ∙ ap (λ (q : List ℕ). h ++ q) e4 ∙ sym (append_assoc h tail_text rest) in
     let e2 : drop (middle_at input) input ≡ height_text ++ ((h ++ tail_text) ++ rest) =
-    starts-split input height_text (middle_at input) texts-some.1 p.middle-text ∙ ap (λ (q : List ℕ). height_text ++ q) e3 in
+    starts-split input height_text (middle_at input) texts-some.1 p.middle_text ∙ ap (λ (q : List ℕ). height_text ++ q) e3 in
     let e1 : drop width_at input ≡ (w ++ (height_text ++ (h ++ tail_text))) ++ rest =
     there-split input width_at ∙ ap (λ (q : List ℕ). w ++ q) e2 ∙ sym (append_assoc w (height_text ++ (h ++ tail_text)) rest) in
     record {
       width = w;
       height = h;
       rest = rest;
-      width-numeral = v.number;
-      height-numeral = t.number;
+      width_numeral = v.number;
+      height_numeral = t.number;
       width_is = refl;
-      height-is = refl;
+      height_is = refl;
       body_is = omega (arith, v.long, t.long, earlier-long w h);
-      input-is = starts-split input width_text 0 texts-some.0 p.first-text ∙ ap (λ (q : List ℕ). width_text ++ q) e1;
+      input_is = starts-split input width_text 0 texts-some.0 p.text_first ∙ ap (λ (q : List ℕ). width_text ++ q) e1;
     }
 
 -- ---- these lines, in this order, make a header
@@ -192,8 +192,8 @@ module _ (w h : List ℕ) (m : is_numeral w ≡ true) (n : is_numeral h ≡ true
         plain = lines-plain;
         fields = lines-fields;
         short = rw (← text-is, earlier-long w h) (omega (arith, (numeral w m).few, (numeral h n).few));
-        width-stands = record { before = []; after = drop 1 lines; lines_are = refl; number = m };
-        height-stands = record { before = (width_name ++ w) ∷ []; after = drop 2 lines; lines_are = refl; number = n };
+        width_stands = record { before = []; after = drop 1 lines; lines_are = refl; number = m };
+        height_stands = record { before = (width_name ++ w) ∷ []; after = drop 2 lines; lines_are = refl; number = n };
       }
 
 -- ---- what an earlier header said is said still
@@ -206,11 +206,11 @@ earlier-same input o =
     let e = earlier-means input t in
     let w = e.width in
     let h = e.height in
-    let same = text-is w h e.width-numeral e.height-numeral in
-    let as-text : input ≡ header_text (lines w h e.width-numeral e.height-numeral) ++ e.rest =
-    e.input-is ∙ ap (λ (l : List ℕ). l ++ e.rest) same in
+    let same = text-is w h e.width_numeral e.height_numeral in
+    let as-text : input ≡ header_text (lines w h e.width_numeral e.height_numeral) ++ e.rest =
+    e.input_is ∙ ap (λ (l : List ℕ). l ++ e.rest) same in
     ap header_of as-text
-    ∙ header-accepted w h _ e.rest (lines-header w h e.width-numeral e.height-numeral)
-    ∙ rw (t, e.width_is, e.height-is, e.body_is, same))
+    ∙ header-accepted w h _ e.rest (lines-header w h e.width_numeral e.height_numeral)
+    ∙ rw (t, e.width_is, e.height_is, e.body_is, same))
     (λ (t : earlier_ok input ≡ false). let z : false ≡ true = rw t at o in not-both false z refl)
     (either (earlier_ok input))

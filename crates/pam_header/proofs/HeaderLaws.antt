@@ -253,8 +253,8 @@ header-accepted w h lines rest m =
     ∙ ap header_by whole
     ∙ header_is lines more m.fields
     ∙ rw (
-      side-stands width_name w lines m.width-stands one.one_width,
-      side-stands height_name h lines m.height-stands one.one-height,
+      side-stands width_name w lines m.width_stands one.one_width,
+      side-stands height_name h lines m.height_stands one.one_height,
     )
 
 -- ---- an input that is accepted starts with a header
@@ -274,11 +274,11 @@ header-means input o =
     let front = take most_header input in
     let all = lines_of front in
     let ok = lines_ok all (header-lines input o) in
-    let found = end-found (drop 1 all) ok.end-stands in
+    let found = end-found (drop 1 all) ok.end_stands in
     let lines = field_lines (drop 1 all) in
     let more = found.0 in
     let are : all ≡ first_text ∷ ((lines ++ (end_text ∷ [])) ++ more) =
-    first-line all ok.first-is
+    first-line all ok.first_is
     ∙ ap (λ (ls : List (List ℕ)). first_text ∷ ls) (found.1 ∙ sym (append_assoc lines (end_text ∷ []) more)) in
     let last = lines-text front in
     let after = text_of more ++ last.0 in
@@ -287,21 +287,21 @@ header-means input o =
     ∙ ap (λ (ls : List (List ℕ)). text_of ls ++ last.0) are
     ∙ ap (λ (t : List ℕ). t ++ last.0) (text-append (first_text ∷ (lines ++ (end_text ∷ []))) more)
     ∙ append_assoc (header_text lines) (text_of more) last.0 in
-    let one = fields-are lines ok.fields-ok in
+    let one = fields-are lines ok.fields_are_ok in
     let w = side-found width_name lines (omega (arith, one.one_width)) in
-    let h = side-found height_name lines (omega (arith, one.one-height)) in
+    let h = side-found height_name lines (omega (arith, one.one_height)) in
     let plain : all_plain (first_text ∷ ((lines ++ (end_text ∷ [])) ++ more)) ≡ true = sym (ap all_plain are) ∙ lines-plain front in
     let long : length front ≤ most_header = rw length-take (omega arith) in
     let made : Lines w.0 h.0 lines =
     record {
       plain = plain-front lines (end_text ∷ []) (plain-front (lines ++ (end_text ∷ [])) more (and-true (is_plain first_text) _ plain).1);
-      fields = ok.fields-ok;
+      fields = ok.fields_are_ok;
       short = omega (arith, long, ap length front-is ∙ length-append (header_text lines) after);
-      width-stands = w.1;
-      height-stands = h.1;
+      width_stands = w.1;
+      height_stands = h.1;
     } in
     let rest = after ++ drop most_header input in
-    let input-is : input ≡ header_text lines ++ rest =
+    let input_is : input ≡ header_text lines ++ rest =
     sym (take-append-drop most_header input)
     ∙ ap (λ (t : List ℕ). t ++ drop most_header input) front-is
     ∙ append_assoc (header_text lines) after (drop most_header input) in
@@ -311,6 +311,6 @@ header-means input o =
       lines = lines;
       rest = rest;
       lines_ok = made;
-      input-is = input-is;
-      header_is = ap header_of input-is ∙ header-accepted w.0 h.0 lines rest made;
+      input_is = input_is;
+      header_is = ap header_of input_is ∙ header-accepted w.0 h.0 lines rest made;
     }

@@ -80,39 +80,39 @@ after s [] = s
 after s (line ∷ lines) = after (with_line s line) lines
 
 record Given (s : Fields) (lines : List (List ℕ)) : Type 0 where
-  widths-are : (after s lines).widths ≡ s.widths + count_of (is_side width_name) lines
-  heights-are : (after s lines).heights ≡ s.heights + count_of (is_side height_name) lines
-  depths-are : (after s lines).depths ≡ s.depths + count_of (is_text depth_text) lines
-  maxvals-are : (after s lines).maxvals ≡ s.maxvals + count_of (is_text maxval_text) lines
-  tupltypes-are : (after s lines).tupltypes ≡ s.tupltypes + count_of (is_text tupltype_text) lines
-  others-are : (after s lines).others ≡ s.others + count_of is_other lines
+  widths_are : (after s lines).widths ≡ s.widths + count_of (is_side width_name) lines
+  heights_are : (after s lines).heights ≡ s.heights + count_of (is_side height_name) lines
+  depths_are : (after s lines).depths ≡ s.depths + count_of (is_text depth_text) lines
+  maxvals_are : (after s lines).maxvals ≡ s.maxvals + count_of (is_text maxval_text) lines
+  tupltypes_are : (after s lines).tupltypes ≡ s.tupltypes + count_of (is_text tupltype_text) lines
+  others_are : (after s lines).others ≡ s.others + count_of is_other lines
   width_is : (after s lines).width ≡ side_in width_name s.width lines
-  height-is : (after s lines).height ≡ side_in height_name s.height lines
+  height_is : (after s lines).height ≡ side_in height_name s.height lines
 
 given : (s : Fields) (lines : List (List ℕ)) → Given s lines
 unfolding after count_of side_in with_line
 given s [] =
     record {
-      widths-are = omega arith;
-      heights-are = omega arith;
-      depths-are = omega arith;
-      maxvals-are = omega arith;
-      tupltypes-are = omega arith;
-      others-are = omega arith;
+      widths_are = omega arith;
+      heights_are = omega arith;
+      depths_are = omega arith;
+      maxvals_are = omega arith;
+      tupltypes_are = omega arith;
+      others_are = omega arith;
       width_is = refl;
-      height-is = refl;
+      height_is = refl;
     }
 given s (line ∷ lines) =
     let g = given (with_line s line) lines in
     record {
-      widths-are = omega (arith, g.widths-are);
-      heights-are = omega (arith, g.heights-are);
-      depths-are = omega (arith, g.depths-are);
-      maxvals-are = omega (arith, g.maxvals-are);
-      tupltypes-are = omega (arith, g.tupltypes-are);
-      others-are = omega (arith, g.others-are);
+      widths_are = omega (arith, g.widths_are);
+      heights_are = omega (arith, g.heights_are);
+      depths_are = omega (arith, g.depths_are);
+      maxvals_are = omega (arith, g.maxvals_are);
+      tupltypes_are = omega (arith, g.tupltypes_are);
+      others_are = omega (arith, g.others_are);
       width_is = g.width_is;
-      height-is = g.height-is;
+      height_is = g.height_is;
     }
 
 -- no count grows by more than one
@@ -213,14 +213,14 @@ header_read first rest e =
     read_is no_fields 3 rest
     ∙ rw (
       e,
-      g.widths-are,
-      g.heights-are,
-      g.depths-are,
-      g.maxvals-are,
-      g.tupltypes-are,
-      g.others-are,
+      g.widths_are,
+      g.heights_are,
+      g.depths_are,
+      g.maxvals_are,
+      g.tupltypes_are,
+      g.others_are,
       g.width_is,
-      g.height-is,
+      g.height_is,
     )
     (simp zero-add)
 
@@ -256,9 +256,9 @@ first-line (line ∷ lines) e = ap (λ (x : List ℕ). x ∷ lines) (text-is fir
 abbrev p7 : List ℕ
 p7 = 80 ∷ 55 ∷ 10 ∷ []
 
-first-is : (front : List ℕ) → starts_at front 0 p7 ≡ true → lines_of front ≡ first_text ∷ lines_of (drop 3 front)
+first_is : (front : List ℕ) → starts_at front 0 p7 ≡ true → lines_of front ≡ first_text ∷ lines_of (drop 3 front)
 unfolding no_zero lines_of in_front
-first-is front e = ap lines_of (starts-split front p7 0 refl e)
+first_is front e = ap lines_of (starts-split front p7 0 refl e)
 
 first-not : (front : List ℕ) → starts_at front 0 p7 ≡ false → is_text first_text (get_or (lines_of front) 0 []) ≡ false
 unfolding text_of
@@ -278,7 +278,7 @@ unfolding is_text starts_at
 begins front =
     ⊎_elim {C = starts_at front 0 p7 ≡ is_text first_text (get_or (lines_of front) 0 [])}
     (λ (t : starts_at front 0 p7 ≡ true).
-    t ∙ sym (ap (λ (ls : List (List ℕ)). is_text first_text (get_or ls 0 [])) (first-is front t)))
+    t ∙ sym (ap (λ (ls : List (List ℕ)). is_text first_text (get_or ls 0 [])) (first_is front t)))
     (λ (t : starts_at front 0 p7 ≡ false). t ∙ sym (first-not front t))
     (either (starts_at front 0 p7))
 
@@ -292,4 +292,4 @@ module _ (front : List ℕ) (e : is_text first_text (get_or (lines_of front) 0 [
 
   pub header_is : read_from no_fields 3 (lines_of (drop 3 front)) ≡ header_by (lines_of front)
   unfolding is_text starts_at
-  header_is = header_read first_text (lines_of (drop 3 front)) refl ∙ ap header_by (sym (first-is front (begins front ∙ e)))
+  header_is = header_read first_text (lines_of (drop 3 front)) refl ∙ ap header_by (sym (first_is front (begins front ∙ e)))

@@ -85,9 +85,9 @@ field-bytes (line ∷ lines) l =
 
 -- what an accepted header is made of
 pub record LinesOk (lines : List (List ℕ)) : Type 0 where
-  pub first-is : is_text first_text (get_or lines 0 []) ≡ true
-  pub end-stands : 1 ≤ count_of (is_text end_text) (drop 1 lines)
-  pub fields-ok : fields_ok (field_lines (drop 1 lines)) ≡ true
+  pub first_is : is_text first_text (get_or lines 0 []) ≡ true
+  pub end_stands : 1 ≤ count_of (is_text end_text) (drop 1 lines)
+  pub fields_are_ok : fields_ok (field_lines (drop 1 lines)) ≡ true
 
 pub lines_ok : (lines : List (List ℕ)) → are_lines_ok lines ≡ true → LinesOk lines
 unfolding are_lines_ok
@@ -96,14 +96,14 @@ lines_ok lines e =
     let g = leb 1 (count_of (is_text end_text) (drop 1 lines)) in
     let a = and-true (f && g) (fields_ok (field_lines (drop 1 lines))) e in
     let b = and-true f g a.0 in
-    record { first-is = b.0; end-stands = leb-true _ _ b.1; fields-ok = a.1 }
+    record { first_is = b.0; end_stands = leb-true _ _ b.1; fields_are_ok = a.1 }
 
 pub record FieldsOk (lines : List (List ℕ)) : Type 0 where
   pub one_width : count_of (is_side width_name) lines ≡ 1
-  pub one-height : count_of (is_side height_name) lines ≡ 1
-  pub one-depth : count_of (is_text depth_text) lines ≡ 1
-  pub one-maxval : count_of (is_text maxval_text) lines ≡ 1
-  pub one-tupltype : count_of (is_text tupltype_text) lines ≡ 1
+  pub one_height : count_of (is_side height_name) lines ≡ 1
+  pub one_depth : count_of (is_text depth_text) lines ≡ 1
+  pub one_maxval : count_of (is_text maxval_text) lines ≡ 1
+  pub one_tupltype : count_of (is_text tupltype_text) lines ≡ 1
   pub no_other : count_of is_other lines ≡ 0
 
 pub fields-are : (lines : List (List ℕ)) → fields_ok lines ≡ true → FieldsOk lines
@@ -121,19 +121,19 @@ fields-are lines e =
     let o1 = and-true w h o2.0 in
     record {
       one_width = eqb-true _ _ o1.0;
-      one-height = eqb-true _ _ o1.1;
-      one-depth = eqb-true _ _ o2.1;
-      one-maxval = eqb-true _ _ o3.1;
-      one-tupltype = eqb-true _ _ o4.1;
+      one_height = eqb-true _ _ o1.1;
+      one_depth = eqb-true _ _ o2.1;
+      one_maxval = eqb-true _ _ o3.1;
+      one_tupltype = eqb-true _ _ o4.1;
       no_other = eqb-true _ _ o5.1;
     }
 
 -- what a header says is small, and the sides that an accepted one gives are at least 1
 pub record Small (header : Header) : Type 0 where
-  pub height-most : header.height ≤ 99999
-  pub width-most : header.width ≤ 99999
-  pub body-most : header.body ≤ most_header
-  pub height-some : header.ok ≡ true → 1 ≤ header.height
+  pub height_most : header.height ≤ 99999
+  pub width_most : header.width ≤ 99999
+  pub body_most : header.body ≤ most_header
+  pub height_some : header.ok ≡ true → 1 ≤ header.height
   pub width_some : header.ok ≡ true → 1 ≤ header.width
 
 small_by : (lines : List (List ℕ)) → bytes_of lines ≤ most_header → Small (header_by lines)
@@ -143,22 +143,22 @@ small_by lines l =
     (λ (t : are_lines_ok lines ≡ true).
     let o = lines_ok lines t in
     let fields = field_lines (drop 1 lines) in
-    let f = fields-are fields o.fields-ok in
+    let f = fields-are fields o.fields_are_ok in
     rw t
     (record {
-      height-most = side-most height_name fields 0 (omega arith);
-      width-most = side-most width_name fields 0 (omega arith);
-      body-most = omega (arith, l, after_first lines o.first-is, field-bytes (drop 1 lines) o.end-stands);
-      height-some = λ _. side-some height_name fields 0 (omega (arith, f.one-height));
+      height_most = side-most height_name fields 0 (omega arith);
+      width_most = side-most width_name fields 0 (omega arith);
+      body_most = omega (arith, l, after_first lines o.first_is, field-bytes (drop 1 lines) o.end_stands);
+      height_some = λ _. side-some height_name fields 0 (omega (arith, f.one_height));
       width_some = λ _. side-some width_name fields 0 (omega (arith, f.one_width));
     }))
     (λ (t : are_lines_ok lines ≡ false).
     rw t
     (record {
-      height-most = omega arith;
-      width-most = omega arith;
-      body-most = omega arith;
-      height-some = λ e. not-both false e refl;
+      height_most = omega arith;
+      width_most = omega arith;
+      body_most = omega arith;
+      height_some = λ e. not-both false e refl;
       width_some = λ e. not-both false e refl;
     }))
     (either (are_lines_ok lines))

@@ -35,8 +35,8 @@ pub record Lines (w h : List ℕ) (lines : List (List ℕ)) : Type 0 where
   pub plain : all_plain lines ≡ true
   pub fields : fields_ok lines ≡ true
   pub short : length (header_text lines) ≤ most_header
-  pub width-stands : Stands width_name w lines
-  pub height-stands : Stands height_name h lines
+  pub width_stands : Stands width_name w lines
+  pub height_stands : Stands height_name h lines
 
 -- what the header with these lines says: its digits as sides, and that the pixels stand right after it (R38)
 unfoldable pub said_by : List ℕ → List ℕ → List (List ℕ) → Header
@@ -49,5 +49,5 @@ pub record HasHeader (input : List ℕ) : Type 0 where
   pub lines : List (List ℕ)
   pub rest : List ℕ
   pub lines_ok : Lines width height lines
-  pub input-is : input ≡ header_text lines ++ rest
+  pub input_is : input ≡ header_text lines ++ rest
   pub header_is : header_of input ≡ said_by width height lines

@@ -31,10 +31,10 @@ four n l = decimal-short n 3 l
 
 -- a box of which each number is below 10000
 pub record Small (b : Box) : Type 0 where
-  pub y0-small : b.y0 < 10000
-  pub y1-small : b.y1 < 10000
-  pub x0-small : b.x0 < 10000
-  pub x1-small : b.x1 < 10000
+  pub y0_small : b.y0 < 10000
+  pub y1_small : b.y1 < 10000
+  pub x0_small : b.x0 < 10000
+  pub x1_small : b.x1 < 10000
 
 pub crop-short : (b : Box) (keyed : Bool) → Small b → length (crop_lines b keyed) ≤ 38
 crop-short b keyed s =
@@ -43,10 +43,10 @@ crop-short b keyed s =
       crop-long b keyed,
       pair-long b.y0 b.y1,
       pair-long b.x0 b.x1,
-      four b.y0 s.y0-small,
-      four b.y1 s.y1-small,
-      four b.x0 s.x0-small,
-      four b.x1 s.x1-small,
+      four b.y0 s.y0_small,
+      four b.y1 s.y1_small,
+      four b.x0 s.x0_small,
+      four b.x1 s.x1_small,
     )
 
 pub size-short : (h w : ℕ) → h < 10000 → w < 10000 → length (size_line h w) ≤ 10
@@ -71,10 +71,10 @@ module _ (mask : List ℕ) (w : ℕ) where
   pixels-short (suc n) = rw (length-append (pixels_text mask w n) (pixel_text mask w n)) (omega (arith, pixel-short n, pixels-short n))
 
 -- the whole text, in its parts
-pub mask-long : (mask : List ℕ) (h w : ℕ) (crop : Box) (keyed : Bool)
+pub mask_long : (mask : List ℕ) (h w : ℕ) (crop : Box) (keyed : Bool)
     → length (mask_text mask h w crop keyed) ≤ length (crop_lines crop keyed) + length (size_line h w) + 2 * (h * w)
 unfolding mask_text
-mask-long mask h w crop keyed = simp length-append (omega (arith, pixels-short mask w (h * w)))
+mask_long mask h w crop keyed = simp length-append (omega (arith, pixels-short mask w (h * w)))
 
 pub refusal-long : (n : ℕ) → length (refusal_text n) ≡ 9 + length (decimal n)
 unfolding refusal_text

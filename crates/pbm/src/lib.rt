@@ -103,8 +103,8 @@ fn size_line(out: &mut [u8], at: usize, h: usize, w: usize) -> usize
 
 // A mask with its crop box and keyed flag, from the front of the buffer, which has room for two bytes a pixel.
 pub fn write_mask(out: &mut [u8], mask: &[u8], h: usize, w: usize, crop: Box, keyed: bool) -> usize
-    requires w_nonzero { (0 < w) × (length mask.now ≡ h * w) }
-    requires w_in_bounds { length (crop_lines crop keyed) + length (size_line h w) + 2 * (h * w) ≤ length out.old }
+    requires mask_len { (0 < w) × (length mask.now ≡ h * w) }
+    requires out_len { length (crop_lines crop keyed) + length (size_line h w) + 2 * (h * w) ≤ length out.old }
     ensures { Wrote (mask_text mask.now h w crop keyed) out.old out.new 0 result }
 {
     let size = crop_lines(out, 0, crop, keyed);

@@ -57,8 +57,8 @@ module _ (p : ℕ → Bool) where
       or_off false t a b = not-both t b a
 
   -- these laws determine them
-  pub first-is : (n i : ℕ) → First n p i → first_below n p ≡ i
-  first-is n i f =
+  pub first_is : (n i : ℕ) → First n p i → first_below n p ≡ i
+  first_is n i f =
       let g = first_below_lem n (some_is p n i f.inside f.holds) in
       ⊎_elim {C = first_below n p ≡ i}
       (λ (l : first_below n p < i). not-both (p (first_below n p)) g.holds (f.before (first_below n p) l))
@@ -145,11 +145,11 @@ module _ (p : ℕ → Bool) where
       ⊎_elim {C = p k ≡ false} (λ (g : k < i). (let q : k ≡ i - 1 = omega arith in ap p q ∙ e)) (λ (g : i ≤ k). h k g m) (which k i)
 
 -- equal tests have the same first and last number
-pub first-same : (p q : ℕ → Bool) (n : ℕ) → ((i : ℕ) → i < n → p i ≡ q i) → first_below n p ≡ first_below n q
+pub first_same : (p q : ℕ → Bool) (n : ℕ) → ((i : ℕ) → i < n → p i ≡ q i) → first_below n p ≡ first_below n q
 unfolding first_below
-first-same p q zero h = refl
-first-same p q (suc n) h =
-    rw (first-same p q n (λ i l. h i (omega arith)), some_same p q n (λ i l. h i (omega arith)), h n (omega arith))
+first_same p q zero h = refl
+first_same p q (suc n) h =
+    rw (first_same p q n (λ i l. h i (omega arith)), some_same p q n (λ i l. h i (omega arith)), h n (omega arith))
 
 pub last-same : (p q : ℕ → Bool) (n : ℕ) → ((i : ℕ) → i < n → p i ≡ q i) → last_below n p ≡ last_below n q
 unfolding last_below
@@ -170,7 +170,7 @@ module _ (p q : ℕ → Bool) (n : ℕ) where
       ⊎_elim {C = first_below n (λ (i : ℕ). p i || q i) ≡ first_below f q}
       (λ (a : some_below f q ≡ true).
       let g = first_below_lem q f a in
-      first-is (λ (i : ℕ). p i || q i) n (first_below f q)
+      first_is (λ (i : ℕ). p i || q i) n (first_below f q)
       (record {
         inside = omega (arith, g.inside);
         holds = or_right (p (first_below f q)) (q (first_below f q)) g.holds;
@@ -185,7 +185,7 @@ module _ (p q : ℕ → Bool) (n : ℕ) where
           ⊎_elim {C = first_below n (λ (i : ℕ). p i || q i) ≡ b}
           (λ (s : some_below n p ≡ true).
           let g = first_below_lem p n s in
-          first-is (λ (i : ℕ). p i || q i) n (first_below n p)
+          first_is (λ (i : ℕ). p i || q i) n (first_below n p)
           (record {
             inside = g.inside;
             holds = or_left (p (first_below n p)) (q (first_below n p)) g.holds;

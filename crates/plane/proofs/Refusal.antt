@@ -81,8 +81,8 @@ kept n new old e = rw (ne_eqb n 0 e)
 
 -- sides within the limits of the public calls, and within those of the inner functions
 pub record Within (h w : ℕ) : Type 0 where
-  pub some-rows : 1 ≤ h
-  pub some-columns : 1 ≤ w
+  pub some_rows : 1 ≤ h
+  pub some_columns : 1 ≤ w
   pub tall : h ≤ most_side
   pub wide : w ≤ most_side
 
@@ -92,8 +92,8 @@ sides-within h w e =
     let b = and-true (leb 1 h && leb h most_side) (leb 1 w) a.0 in
     let c = and-true (leb 1 h) (leb h most_side) b.0 in
     record {
-      some-rows = leb-true 1 h c.0;
-      some-columns = leb-true 1 w b.1;
+      some_rows = leb-true 1 h c.0;
+      some_columns = leb-true 1 w b.1;
       tall = leb-true h most_side c.1;
       wide = leb-true w most_side a.1;
     }
@@ -101,7 +101,7 @@ sides-within h w e =
 pub sides-are : (h w : ℕ) → sides_ok h w ≡ true → Sides h w
 sides-are h w e =
     let s = sides-within h w e in
-    record { some-rows = s.some-rows; some-columns = s.some-columns; tall = omega arith; wide = omega arith }
+    record { some_rows = s.some_rows; some_columns = s.some_columns; tall = omega arith; wide = omega arith }
 
 -- the area of accepted sides fits a usize
 pub accepted-area : (h w : ℕ) → sides_ok h w ≡ true → h * w ≤ 4294967296
@@ -113,4 +113,4 @@ sides-accepted h w a b c d = simp (le-leb 1 h a, le-leb h most_side b, le-leb 1 
 
 -- a work buffer has room for a plane and three lines
 pub three-lines : (h w n : ℕ) → Sides h w → room_for h w ≤ n → h * w + 3 * w ≤ n
-three-lines h w n s l = let a : 1 * w ≤ h * w = mul-le-mul {n₁ = 1} {m₁ = w} {n₂ = h} {m₂ = w} s.some-rows (omega arith) in omega arith
+three-lines h w n s l = let a : 1 * w ≤ h * w = mul-le-mul {n₁ = 1} {m₁ = w} {n₂ = h} {m₂ = w} s.some_rows (omega arith) in omega arith

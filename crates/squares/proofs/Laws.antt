@@ -78,7 +78,7 @@ pub record Site (mask : List ℕ) (h w k y x : ℕ) : Type 0 where
   pub row : ℕ
   pub column : ℕ
   pub row_in : row < h
-  pub column-in : column < w
+  pub column_in : column < w
   pub lit : on_at mask w row column ≡ true
   pub rows : apart y row ≤ k
   pub columns : apart x column ≤ k
@@ -96,7 +96,7 @@ module _ {mask : List ℕ} {h w k y x : ℕ} where
         row = j.0;
         column = i.0;
         row_in = j.1;
-        column-in = i.1;
+        column_in = i.1;
         lit = both.0;
         rows = leb-true (apart y j.0) k near.0;
         columns = leb-true (apart x i.0) k near.1;
@@ -108,7 +108,7 @@ module _ {mask : List ℕ} {h w k y x : ℕ} where
   square-is s =
       let near = and_is _ _ (le-leb (apart y s.row) k s.rows) (le-leb (apart x s.column) k s.columns) in
       some_is (λ (j : ℕ). some_below w (λ (i : ℕ). on_at mask w j i && within k y x j i)) h s.row s.row_in
-      (some_is (λ (i : ℕ). on_at mask w s.row i && within k y x s.row i) w s.column s.column-in
+      (some_is (λ (i : ℕ). on_at mask w s.row i && within k y x s.row i) w s.column s.column_in
       (and_is _ _ s.lit near))
 
 -- so squares grow with k
@@ -120,7 +120,7 @@ square-more mask h w a b y x l e =
       row = s.row;
       column = s.column;
       row_in = s.row_in;
-      column-in = s.column-in;
+      column_in = s.column_in;
       lit = s.lit;
       rows = omega (arith, s.rows);
       columns = omega (arith, s.columns);
@@ -132,7 +132,7 @@ pub square-all : (mask : List ℕ) (h w y x j i : ℕ) → y < h → x < w → j
 unfolding apart
 square-all mask h w y x j i a b c d e =
     let most = larger-most h w in
-    square-is (record { row = j; column = i; row_in = c; column-in = d; lit = e; rows = omega arith; columns = omega arith })
+    square-is (record { row = j; column = i; row_in = c; column_in = d; lit = e; rows = omega arith; columns = omega arith })
 
 -- a k from the larger side on acts as the larger side
 square-far : (mask : List ℕ) (h w k y x : ℕ) → y < h → x < w → larger h w ≤ k
@@ -141,7 +141,7 @@ square-far mask h w k y x a b l =
     same_test (in_square mask h w k y x) (in_square mask h w (larger h w) y x)
     (λ e.
     let s : Site mask h w k y x = square-found e in
-    square-all mask h w y x s.row s.column a b s.row_in s.column-in s.lit)
+    square-all mask h w y x s.row s.column a b s.row_in s.column_in s.lit)
     (square-more mask h w (larger h w) k y x l)
 
 -- so the k that is used gives the same square

@@ -379,7 +379,7 @@ pub extern "C" fn stand_next_pass(
           shallow = shallow.old;
           deep = deep.old;
           marks = marks.old;
-        }) a colours.now background.now
+        }) a colours.exit.now background.exit.now
         (record {
           out = out.exit.now;
           nearest = nearest.new;

@@ -17,15 +17,15 @@ sets-append l i (a ∷ p) q =
     sets-append (set l i a) (suc i) p q ∙ ap (λ (k : ℕ). sets (sets (set l i a) (suc i) p) k q) e
 
 pub wrote_none : {old : List ℕ} {at : ℕ} → Wrote [] old old at at
-wrote_none = record { end_is = omega arith; bytes-are = refl }
+wrote_none = record { end_is = omega arith; bytes_are = refl }
 
 pub wrote-more : {p q a b c : List ℕ} {i j k : ℕ} → Wrote p a b i j → Wrote q b c j k → Wrote (p ++ q) a c i k
 wrote-more {p} {q} {a} {b} {c} {i} {j} {k} x y =
     record {
       end_is = omega (arith, x.end_is, y.end_is, length-append p q);
-      bytes-are =
-          y.bytes-are
-          ∙ ap (λ (l : List ℕ). sets l j q) x.bytes-are
+      bytes_are =
+          y.bytes_are
+          ∙ ap (λ (l : List ℕ). sets l j q) x.bytes_are
           ∙ ap (λ (n : ℕ). sets (sets a i p) n q) x.end_is
           ∙ sym (sets-append a i p q);
     }

@@ -18,7 +18,7 @@ unfolding index_of
 index-inside mask h w y x none p e = p
 index-inside mask h w y x (some q) p e =
     let n = nearest-some mask h w y x q.0 q.1 e in
-    pixel-in q.1 q.0 h w n.row_inside n.column-inside
+    pixel-in q.1 q.0 h w n.row_inside n.column_inside
 
 module _ (mask : List ℕ) (h w : ℕ) (wide : 0 < w) where
   pub indices-length : length (indices_plane mask h w) ≡ h * w

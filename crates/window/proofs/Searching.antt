@@ -89,13 +89,13 @@ module _ {deep : List ℕ} {h w y x i d e far at : ℕ} (inside : Inside deep h 
         i = i;
         j = j;
         row_inside = g;
-        column-inside = inside.column;
-        is-on = t;
+        column_inside = inside.column;
+        pixel_on = t;
         place = refl;
         distance = sym (seen j ∙ ap (λ (n : ℕ). d * d + n * n) q);
         reached = omega (arith, so_far.low);
-        first-column = λ k l g m t. omega (arith, so_far.least k l g m t);
-        first-row = λ k l t. omega (arith, square-lt (first k l t), seen k);
+        first_column = λ k l g m t. omega (arith, so_far.least k l g m t);
+        first_row = λ k l t. omega (arith, square-lt (first k l t), seen k);
       });
     },
   )
@@ -143,11 +143,11 @@ module _ (deep : List ℕ) (h w y x : ℕ) where
       nearest-is deep h w y x p.i p.j
       (record {
         row_inside = p.row_inside;
-        column-inside = p.column-inside;
-        is-on = p.is-on;
+        column_inside = p.column_inside;
+        pixel_on = p.pixel_on;
         least = λ k l g m t. omega (arith, least k l g m t, p.distance);
-        first-column = λ k l g m t. omega (arith, p.first-column k l g m t, p.distance);
-        first-row = λ k g t. omega (arith, p.first-row k g t, p.distance);
+        first_column = λ k l g m t. omega (arith, p.first_column k l g m t, p.distance);
+        first_row = λ k g t. omega (arith, p.first_row k g t, p.distance);
       }) in
       rw (e, le-leb (away y x p.j p.i) body_reach (omega (arith, p.distance, p.reached))) p.place
 
@@ -156,7 +156,7 @@ module _ (deep : List ℕ) (h w y x : ℕ) where
   none_is none e least = refl
   none_is (some q) e least =
       let p = nearest-some deep h w y x q.0 q.1 e in
-      lt-leb (away y x q.1 q.0) body_reach (omega (arith, least q.1 q.0 p.row_inside p.column-inside p.is-on))
+      lt-leb (away y x q.1 q.0) body_reach (omega (arith, least q.1 q.0 p.row_inside p.column_inside p.pixel_on))
 
   -- no deep pixel is near enough
   pub near_none : is_reach y x (nearest deep h w y x) ≡ false → near_pixel deep h w y x ≡ h * w
@@ -196,7 +196,7 @@ module _ (deep : List ℕ) (h w y x : ℕ) where
       not-both (is_on deep z.0) z.2 (rw (index-of z.0 w) at off)
   near-cases wide has (some q) e b f =
       let p = nearest-some deep h w y x q.0 q.1 e in
-      rw (f, row_is q.1 q.0 w p.column-inside, column-is q.1 q.0 w p.column-inside)
+      rw (f, row_is q.1 q.0 w p.column_inside, column-is q.1 q.0 w p.column_inside)
 
   -- the nearest deep pixel where it is near enough, by its index
   pub near-index : 0 < w → some_below (h * w) (is_on deep) ≡ true → (b : ℕ) → b ≡ index_of w (nearest deep h w y x)

@@ -109,7 +109,7 @@ fn window(deep: &[u8], h: usize, w: usize, y: usize, x: usize) -> usize
 // Pixel b where it is near enough to (y, x), else h * w.
 fn reached(h: usize, w: usize, y: usize, x: usize, b: usize) -> usize
     requires sides { Sides h w }
-    requires y_lt_h { (y < h) × (x < w) × (b < h * w) }
+    requires inside { (y < h) × (x < w) × (b < h * w) }
     ensures { result ≡ cond (leb (away y x (b / w) (b % w)) body_reach) b (h * w) }
 {
     let dy = plane::apart(y, b / w);

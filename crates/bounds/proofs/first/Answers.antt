@@ -6,7 +6,7 @@ use lib.ListN.{length}
 use borrow.Author.Rules.{rules}
 use borrow.Author.Count.{below_none, below_more}
 use Rattle.plane.proofs.Search.{none_found}
-use Rattle.plane.proofs.Bounds.{first-is, first-none}
+use Rattle.plane.proofs.Bounds.{first_is, first-none}
 use Rattle.bounds.proofs.Rows.{byte-on, byte-off}
 use Rattle.bounds.proofs.first.Goals as goal
 
@@ -16,7 +16,7 @@ returns-then-not-any c = sym (first-none _ _ (none_found _ _ (sym c.any.ensures 
 pub returns-then-line-i-ne0 : goal.returns-then-line-i-ne0
 returns-then-line-i-ne0 c =
     let l = c.loop-i in
-    sym (first-is _ _ _ (record { inside = omega arith; holds = byte-on _ _ c.if-line-i-ne0.true; before = l.invariant.1 }))
+    sym (first_is _ _ _ (record { inside = omega arith; holds = byte-on _ _ c.if-line-i-ne0.true; before = l.invariant.1 }))
 
 pub loop-i-preserved : goal.loop-i-preserved
 loop-i-preserved c =

@@ -1,5 +1,6 @@
 -- `card::card_of` meets its contract.
 -- Assumes nothing.
+use lib.ListN.{length}
 use mathlib.Core.Path.{◌≡◌, sym, ◌∙◌}
 use mathlib.Core.Bool.{true}
 use native.Mathlib.Omega.{arith}
@@ -15,7 +16,7 @@ At-Else2 = lts.Else2 tie.the-claims reads.Pre reads.Post
 
 pub returns-then-text-ne6 : goal.returns-then-text-ne6
 unfolding card_of is_colour_text
-returns-then-text-ne6 c = rw (ne_eqb _ _ c.if-text-ne6.true)
+returns-then-text-ne6 c = rw (ne_eqb (length c.args.text.now) 6 c.if-text-ne6.true)
 
 pub returns-then-not-all_hex : goal.returns-then-not-all_hex
 unfolding card_of is_colour_text

@@ -47,7 +47,7 @@ loop-c-preserved c =
 
 pub loop-c-init : goal.loop-c-init
 loop-c-init c =
-    (omega arith, none-swept c.requires.out-size)
+    (omega arith, none-swept c.requires.out_size)
 
 pub slice_bounds-low-end : goal.slice_bounds-low-end
 slice_bounds-low-end c =
@@ -67,7 +67,7 @@ loop-c-smaller c =
 
 pub shape_of-out : goal.shape_of-out
 shape_of-out c =
-    c.loop-c.invariant.1.size ∙ sym c.requires.out-size
+    c.loop-c.invariant.1.size ∙ sym c.requires.out_size
 
 pub returns : goal.returns
 returns c =

@@ -43,7 +43,7 @@ pub returns : goal.returns
 unfolding mask_of is_on
 returns c =
     let l = c.loop-x in
-    let n = c.requires.low-size in record {
+    let n = c.requires.low_size in record {
       low_after = table_is _ _ _ 0 l.invariant.1.size (λ i g. l.invariant.1.front i (omega arith))
           ∙ sym (twice c.args.enter.now c.args.leave.now c.args.low.now);
       out_after = begun-end l.invariant.2 (omega arith) ∙ rw (sym n) (mask-same (length c.args.low.now) _ _ (λ i g. ap on (sym (l.invariant.1.front i (omega arith)))));
@@ -51,8 +51,8 @@ returns c =
 
 pub loop-x-init : goal.loop-x-init
 loop-x-init c =
-    (omega arith, changed-none 0 _ _, begun-none c.requires.out-size)
+    (omega arith, changed-none 0 _ _, begun-none c.requires.out_size)
 
 pub bounds-leave-x : goal.bounds-leave-x
 bounds-leave-x c =
-    omega (arith, c.requires.leave-size)
+    omega (arith, c.requires.leave_size)

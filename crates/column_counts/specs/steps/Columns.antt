@@ -86,9 +86,9 @@ pub record Followed (plane : List ℕ) (h w k c y : ℕ) (low low' out : List �
 
 -- lines of one length
 pub record Lines (enter leave low out : List ℕ) : Type 0 where
-  pub leave-size : length leave ≡ length enter
-  pub low-size : length low ≡ length enter
-  pub out-size : length out ≡ length enter
+  pub leave_size : length leave ≡ length enter
+  pub low_size : length low ≡ length enter
+  pub out_size : length out ≡ length enter
 
 -- the running counts before the step to row y,
 pub record Slidable (plane : List ℕ) (h w k c y t : ℕ) (low rest out : List ℕ) : Type 0 where
@@ -121,4 +121,4 @@ pub record ColumnPlanes (plane : List ℕ) (h w k : ℕ) (out : List ℕ) : Type
   pub sides : Sides h w
   pub near : k ≤ longest_side
   pub size : h * w ≤ length plane
-  pub out-size : length out ≡ h * w
+  pub out_size : length out ≡ h * w

@@ -19,20 +19,20 @@ module _ (c : At-After-subject) where
   fits : answer_length c.args.h c.args.w c.subject-answer.result ≤ length c.args.out.now
   fits =
       text-fits _ _ c.args.h c.args.w c.settings_of.result _ _ _ _
-      c.requires.room c.requires.colours_value c.settings_of.ensures c.subject-answer.ensures
+      c.requires.room c.requires.colours_in_range c.settings_of.ensures c.subject-answer.ensures
 
   said : answer_text c.subject-answer.new.mask c.args.h c.args.w c.subject-answer.result
       ≡ picture_text c.args.colours.now c.args.alpha.now c.args.h c.args.w
   said =
       text-is _ _ c.args.h c.args.w c.settings_of.result _ _ _ _
-      c.requires.room c.requires.colours_value c.settings_of.ensures c.subject-answer.ensures
+      c.requires.room c.requires.colours_in_range c.settings_of.ensures c.subject-answer.ensures
 
 pub write_answer-requires : goal.write_answer-requires
 write_answer-requires c =
     let room = c.requires.room in
     record {
-      w_nonzero = (room.some-columns, c.subject-answer.auto.mask ∙ room.mask-long);
-      answer_in_bounds = fits c.before.before.before.before.before.before.before.before.before.before.before.before.before.before;
+      mask_len = (room.some_columns, c.subject-answer.auto.mask ∙ room.mask_long);
+      out_len = fits c.before.before.before.before.before.before.before.before.before.before.before.before.before.before;
     }
 
 pub returns : goal.returns

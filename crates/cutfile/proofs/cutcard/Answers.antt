@@ -11,7 +11,7 @@ use Rattle.cutfile.proofs.cutcard.Goals as goal
 
 pub returns-then-out-lt-MOST_TEXT : goal.returns-then-out-lt-MOST_TEXT
 returns-then-out-lt-MOST_TEXT c =
-    record { answer = rw (lt-leb most_text _ c.if-out-lt-MOST_TEXT.true); out-is = rw (lt-leb most_text _ c.if-out-lt-MOST_TEXT.true) }
+    record { answer = rw (lt-leb most_text _ c.if-out-lt-MOST_TEXT.true); out_is = rw (lt-leb most_text _ c.if-out-lt-MOST_TEXT.true) }
 
 pub write_refusal-requires : goal.write_refusal-requires
 write_refusal-requires c =

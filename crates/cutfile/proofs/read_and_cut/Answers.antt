@@ -9,22 +9,22 @@ cut-requires c =
     let colours = c.colours in
     let r = c.requires.room in record {
       room = record {
-        some-rows = r.some-rows;
-        some-columns = r.some-columns;
+        some_rows = r.some_rows;
+        some_columns = r.some_columns;
         tall = r.tall;
         wide = r.wide;
         few = r.few;
-        colours-long = colours.auto.out ∙ r.colours-long;
-        alpha-long = c.alpha.auto.out ∙ r.alpha-long;
-        nearest-long = r.nearest-long;
-        shallow-long = r.shallow-long;
+        colours_long = colours.auto.out ∙ r.colours_long;
+        alpha_long = c.alpha.auto.out ∙ r.alpha_long;
+        nearest_long = r.nearest_long;
+        shallow_long = r.shallow_long;
         deep_long = r.deep_long;
-        marks-long = r.marks-long;
-        mask-long = r.mask-long;
-        weights-long = r.weights-long;
-        out-long = r.out-long;
+        marks_long = r.marks_long;
+        mask_long = r.mask_long;
+        weights_long = r.weights_long;
+        out_long = r.out_long;
       };
-      colours_value = colours.ensures.out_after_2;
+      colours_in_range = colours.ensures.out_in_range;
     }
 
 pub returns : goal.returns

@@ -8,13 +8,13 @@ use Rattle.cutfile.proofs.write_answer.Goals as goal
 pub write_mask-requires : goal.write_mask-requires
 write_mask-requires c =
     record {
-      w_nonzero = c.requires.w_nonzero;
-      w_in_bounds = rw c.in-Done.is at c.requires.answer_in_bounds;
+      mask_len = c.requires.mask_len;
+      out_len = rw c.in-Done.is at c.requires.out_len;
     }
 
 pub write_refusal-requires : goal.write_refusal-requires
 write_refusal-requires c =
-    rw c.in-Refused.is at c.requires.answer_in_bounds
+    rw c.in-Refused.is at c.requires.out_len
 
 pub returns-in-Done : goal.returns-in-Done
 returns-in-Done c =

@@ -55,23 +55,23 @@ read_and_cut-requires c =
     let b = begun c.before.before.before.before.before.before.before.before in
     let r = sides b in
     let n = few b in
-    let room = room_most (header b).height (header b).width r.some-rows r.some-columns n in record {
-      body_le_most_header = (known b).body-most;
+    let room = room_most (header b).height (header b).width r.some_rows r.some_columns n in record {
+      body_le_most_header = (known b).body_most;
       room = record {
-        some-rows = r.some-rows;
-        some-columns = r.some-columns;
+        some_rows = r.some_rows;
+        some_columns = r.some_columns;
         tall = r.tall;
         wide = r.wide;
         few = n;
-        colours-long = part-long _ _ (omega (arith, n));
-        alpha-long = part-long _ _ n;
-        nearest-long = room;
-        shallow-long = room;
+        colours_long = part-long _ _ (omega (arith, n));
+        alpha_long = part-long _ _ n;
+        nearest_long = room;
+        shallow_long = room;
         deep_long = room;
-        marks-long = room;
-        mask-long = part-long _ _ n;
-        weights-long = part-long _ _ n;
-        out-long = b.requires.2;
+        marks_long = room;
+        mask_long = part-long _ _ n;
+        weights_long = part-long _ _ n;
+        out_long = b.requires.2;
       };
     }
 

@@ -28,17 +28,17 @@ answer_length h w (outcome.Refused n) = length (refusal_text n)
 
 -- a picture that is small enough, and buffers for it, by their lengths
 pub record Room (h w colours alpha nearest shallow deep marks mask weights out : ℕ) : Type 0 where
-  pub some-rows : 1 ≤ h
-  pub some-columns : 1 ≤ w
+  pub some_rows : 1 ≤ h
+  pub some_columns : 1 ≤ w
   pub tall : h ≤ most_pixels
   pub wide : w ≤ most_pixels
   pub few : h * w ≤ most_pixels
-  pub colours-long : colours ≡ 3 * (h * w)
-  pub alpha-long : alpha ≡ h * w
-  pub nearest-long : room_for h w ≤ nearest
-  pub shallow-long : room_for h w ≤ shallow
+  pub colours_long : colours ≡ 3 * (h * w)
+  pub alpha_long : alpha ≡ h * w
+  pub nearest_long : room_for h w ≤ nearest
+  pub shallow_long : room_for h w ≤ shallow
   pub deep_long : room_for h w ≤ deep
-  pub marks-long : room_for h w ≤ marks
-  pub mask-long : mask ≡ h * w
-  pub weights-long : weights ≡ h * w
-  pub out-long : most_text ≤ out
+  pub marks_long : room_for h w ≤ marks
+  pub mask_long : mask ≡ h * w
+  pub weights_long : weights ≡ h * w
+  pub out_long : most_text ≤ out

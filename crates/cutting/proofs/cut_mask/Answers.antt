@@ -19,7 +19,7 @@ abbrev At-After-some_off : Type 0
 At-After-some_off = lts.After-some_off tie.the-claims reads.Pre reads.Post tie.handed_clauses
 
 pub reach-requires : goal.reach-requires
-reach-requires c = let k = c.requires in c.requires.key_room.mask-long ∙ sym c.requires.alpha_len
+reach-requires c = let k = c.requires in c.requires.key_room.mask_long ∙ sym c.requires.alpha_len
 
 module _ (c : At-After-some_off) where
   -- the mask after the threshold
@@ -32,7 +32,7 @@ module _ (c : At-After-some_off) where
 
   sought : let a = c.args in (a.s.key_bg && not c.some_off.result) ≡ is_sought a.alpha.now (a.h * a.w) a.s
   sought =
-      let long = c.reach.auto.mask ∙ c.requires.key_room.mask-long in
+      let long = c.reach.auto.mask ∙ c.requires.key_room.mask_long in
       sought-is _ _ c.args.s _ c.some_off.result c.some_off.ensures long reached
 
 -- where a ground is sought
@@ -40,8 +40,8 @@ pub reference_on-reference-requires : goal.reference_on-reference-requires
 reference_on-reference-requires c =
     let k = c.requires.key_room in
     record {
-      picture = record { sides = k.sides; input = k.colours-long; range = k.range; room = k.nearest-long };
-      card_value = search rules;
+      picture = record { sides = k.sides; input = k.colours_long; range = k.range; room = k.nearest_long };
+      card_in_range = search rules;
     }
 
 pub key-requires : goal.key-requires
@@ -50,15 +50,15 @@ key-requires c =
     let call = c.reference_on-reference in record {
       key_room = record {
         sides = k.sides;
-        colours-long = k.colours-long;
+        colours_long = k.colours_long;
         range = k.range;
-        mask-long = c.reach.auto.mask ∙ k.mask-long;
-        nearest-long = omega (arith, k.nearest-long, call.auto.work);
-        shallow-long = k.shallow-long;
+        mask_long = c.reach.auto.mask ∙ k.mask_long;
+        nearest_long = omega (arith, k.nearest_long, call.auto.work);
+        shallow_long = k.shallow_long;
         deep_long = k.deep_long;
-        marks-long = k.marks-long;
+        marks_long = k.marks_long;
       };
-      reference = record { range = call.ensures.result_value };
+      reference = record { range = call.ensures.in_range };
     }
 
 pub returns-then-sought : goal.returns-then-sought

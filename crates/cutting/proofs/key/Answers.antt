@@ -20,10 +20,10 @@ ground_from-answer-requires c =
     let p = c.requires in
     let k = c.requires.key_room in record {
       given = record {
-        picture = record { sides = k.sides; input = k.colours-long; range = k.range; room = k.nearest-long };
-        output = k.mask-long;
+        picture = record { sides = k.sides; input = k.colours_long; range = k.range; room = k.nearest_long };
+        output = k.mask_long;
       };
-      reference_value = c.requires.reference.range;
+      reference_in_range = c.requires.reference.range;
     }
 
 pub returns-in_default : goal.returns-in_default
@@ -42,12 +42,12 @@ grow-requires c =
     let k = c.requires.key_room in
     let call = c.ground_from-answer in
     record {
-      picture = record { sides = k.sides; colours-long = k.colours-long };
-      back_long = call.auto.out ∙ k.mask-long;
-      nearest-long = (let l = three-lines _ _ _ k.sides k.nearest-long in omega (arith, l, call.auto.work));
-      shallow-long = omega (arith, k.shallow-long);
+      picture = record { sides = k.sides; colours_long = k.colours_long };
+      back_long = call.auto.out ∙ k.mask_long;
+      nearest_long = (let l = three-lines _ _ _ k.sides k.nearest_long in omega (arith, l, call.auto.work));
+      shallow_long = omega (arith, k.shallow_long);
       deep_long = omega (arith, k.deep_long);
-      marks-long = omega (arith, k.marks-long);
+      marks_long = omega (arith, k.marks_long);
     }
 
 pub returns : goal.returns

@@ -19,13 +19,13 @@ keyed_plane colours h w reference tolerance passes =
 -- a picture of accepted sides and colours, and buffers for it
 pub record KeyRoom (colours : List Float) (h w : ℕ) (nearest shallow deep marks mask : List ℕ) : Type 0 where
   pub sides : Sides h w
-  pub colours-long : length colours ≡ 3 * (h * w)
+  pub colours_long : length colours ≡ 3 * (h * w)
   pub range : colours_ok colours ≡ true
-  pub mask-long : length mask ≡ h * w
-  pub nearest-long : room_for h w ≤ length nearest
-  pub shallow-long : room_for h w ≤ length shallow
+  pub mask_long : length mask ≡ h * w
+  pub nearest_long : room_for h w ≤ length nearest
+  pub shallow_long : room_for h w ≤ length shallow
   pub deep_long : room_for h w ≤ length deep
-  pub marks-long : room_for h w ≤ length marks
+  pub marks_long : room_for h w ≤ length marks
 
 -- a reference colour whose channels are from 0 to 1
 pub record Reference (reference : Rgb) : Type 0 where

@@ -2,7 +2,7 @@
 -- Assumes nothing.
 use Rattle.std.proofs.Common.{◌≡◌, ℕ, ◌+◌, ◌-◌, ◌*◌, ◌<◌, get_or, sym, arith, rules}
 use Rattle.outline.specs.Border.{border_list}
-use Rattle.flood.proofs.Border.{border-length, border-small, first-row, last_row, first-column, last-column}
+use Rattle.flood.proofs.Border.{border-length, border-small, first_row, last_row, first_column, last-column}
 use Rattle.flood.proofs.border_pixel.Tie as tie
 use Rattle.flood.proofs.border_pixel.Reads as reads
 use Rattle.flood.proofs.border_pixel.Lts as lts
@@ -32,7 +32,7 @@ in-last-row : (c : At-Then2) → let a = c.args in pixel c.before.before ≡ (a.
 in-last-row c = last_row _ _ _ c.if-k-w.false c.if-k-w-2.true
 
 in-first-column : (c : At-Then3) → let a = c.args in pixel c.before.before.before ≡ (a.k - (a.w + a.w) + 1) * a.w
-in-first-column c = first-column _ _ _ c.if-k-w-2.false (omega arith)
+in-first-column c = first_column _ _ _ c.if-k-w-2.false (omega arith)
 
 in-last-column : (c : At-Else3) → let a = c.args in
     pixel c.before.before.before ≡ (a.k - (a.w + a.w) + 1 - (a.h - 2)) * a.w + (a.w - 1)
@@ -43,7 +43,7 @@ rows c = omega (arith, border-length c.args.h c.args.w, c.requires.k_in_bounds)
 
 pub returns-then-k-w : goal.returns-then-k-w
 returns-then-k-w c =
-    sym (first-row _ _ _ c.if-k-w.true)
+    sym (first_row _ _ _ c.if-k-w.true)
 
 pub overflow_add-w : goal.overflow_add-w
 overflow_add-w c =

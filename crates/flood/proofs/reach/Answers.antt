@@ -36,7 +36,7 @@ state-2 c = state c.spread-top.result c.spread-top.new.stack c.spread-top.new.ou
 going : (c : At-After-seed_border) → let a = c.args in Going a.out.now a.h a.w (state-0 c)
 going c =
     let a = c.args in
-    first-going a.out.now a.h a.w c.requires.closed a.stack.now c.requires.w_in_bounds (state-0 c) c.seed_border-top.ensures
+    first-going a.out.now a.h a.w c.requires.closed a.stack.now c.requires.stack_len (state-0 c) c.seed_border-top.ensures
 
 pub loop-top-init : goal.loop-top-init
 loop-top-init c =

@@ -29,7 +29,7 @@ none_left l k s h = rw (drop_of_length-le l {i = k} h)
 -- the places: the start, seen from the loop, and the loop, seen from the visit
 pub loop-k-init : goal.loop-k-init
 loop-k-init c =
-    let room = first-room c.args.stack.now c.args.out.now c.args.h c.args.w c.requires.closed c.requires.w_in_bounds in
+    let room = first-room c.args.stack.now c.args.out.now c.args.h c.args.w c.requires.closed c.requires.stack_len in
     (c.border_count-k-end.ensures, omega arith, refl, record { room = room; long = refl }, refl)
 
 -- the pixel to visit is in the plane

@@ -9,7 +9,7 @@ use Rattle.geometry.proofs.binary_dilation8.Goals as goal
 pub dilate-requires : goal.dilate-requires
 dilate-requires c =
     let k = plane-ok _ _ _ _ _ (sym c.plane_refusal-refusal.ensures ∙ c.if-refusal-ne0.false) in
-    record { sides = k.sides; mask_size = k.input; out-size = k.output; work-size = omega (arith, k.room) }
+    record { sides = k.sides; mask_size = k.input; out_size = k.output; work_size = omega (arith, k.room) }
 
 pub returns-then-refusal-ne0 : goal.returns-then-refusal-ne0
 returns-then-refusal-ne0 c = record {

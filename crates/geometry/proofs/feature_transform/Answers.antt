@@ -13,7 +13,7 @@ returns-then-refusal-ne0 c =
     record {
       answer = ap answer.Refused e ∙ declined _ (λ q. t (e ∙ q));
       rows_are = sym (kept _ _ _ (λ q. t (e ∙ q)));
-      cols-are = sym (kept _ _ _ (λ q. t (e ∙ q)));
+      cols_are = sym (kept _ _ _ (λ q. t (e ∙ q)));
       kept = λ _. refl;
     }
 
@@ -27,6 +27,6 @@ returns c =
     record {
       answer = done _ z;
       rows_are = c.nearest_planes.ensures.rows_after ∙ sym (written _ _ _ z);
-      cols-are = c.nearest_planes.ensures.cols_after ∙ sym (written _ _ _ z);
+      cols_are = c.nearest_planes.ensures.cols_after ∙ sym (written _ _ _ z);
       kept = λ bad. absurd (bad z);
     }

@@ -18,7 +18,7 @@ returns-then-refusal-gt0 c =
     let n = c.plane_refusal-refusal in
     record {
       answer = ap labelled.Refused n.ensures ∙ not-counted _ _ (λ q. omega (arith, q, n.ensures, c.if-refusal-gt0.true));
-      labels-are = sym (kept _ _ _ (λ q. omega (arith, q, n.ensures, c.if-refusal-gt0.true)));
+      labels_are = sym (kept _ _ _ (λ q. omega (arith, q, n.ensures, c.if-refusal-gt0.true)));
       kept = λ _. refl;
     }
 
@@ -38,6 +38,6 @@ returns c =
     let call = c.label-n in
     record {
       answer = ap labelled.Parts call.ensures.value ∙ counted _ _ z;
-      labels-are = call.ensures.labels_after ∙ sym (written _ _ _ z);
+      labels_are = call.ensures.labels_after ∙ sym (written _ _ _ z);
       kept = λ bad. absurd (bad z);
     }

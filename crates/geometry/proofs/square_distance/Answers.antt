@@ -10,8 +10,8 @@ nearest_distances-requires c =
     let k = plane-ok _ _ _ _ _ (sym c.plane_refusal-refusal.ensures ∙ c.if-refusal-ne0.false) in
     record {
       sides = k.sides;
-      mask-long = k.input;
-      out-long = k.output;
+      mask_long = k.input;
+      out_long = k.output;
       room = three-lines _ _ _ k.sides k.room;
       low = distances-fit _ _ k.within;
     }

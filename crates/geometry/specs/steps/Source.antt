@@ -15,7 +15,7 @@ colours_from colours h w indices some = plane_of (h * w) 3 (λ (i c : ℕ). get_
 -- indices of pixels of the picture, and colours for it
 pub record Reads (colours : List ℕ) (h w : ℕ) (indices out : List ℕ) : Type 0 where
   pub sides : Sides h w
-  pub colours-long : length colours ≡ 3 * (h * w)
-  pub out-long : length out ≡ 3 * (h * w)
-  pub indices-long : h * w ≤ length indices
+  pub colours_long : length colours ≡ 3 * (h * w)
+  pub out_long : length out ≡ 3 * (h * w)
+  pub indices_long : h * w ≤ length indices
   pub inside : (i : ℕ) → i < h * w → get_or indices i 0 < h * w

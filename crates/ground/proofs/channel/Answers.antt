@@ -95,7 +95,7 @@ returns c =
     let h = border-held c.requires.picture c.requires.c_bound (λ i l. c.shared_slice_known-1.given i) in
     record {
       value = r;
-      result_value = rw r (median-ok (map (channel_at a.colours.now a.c) (border c.before.before.before.before)) h z.ok z.some);
+      in_range = rw r (median-ok (map (channel_at a.colours.now a.c) (border c.before.before.before.before)) h z.ok z.some);
     }
 
 pub loop-k-init : goal.loop-k-init

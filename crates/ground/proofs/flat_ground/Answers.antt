@@ -11,7 +11,7 @@ ground_from-requires c =
     let p = same-picture g.picture c.reference_on-card_colour.new.work c.reference_on-card_colour.auto.work in
     record {
       given = record { picture = p; output = g.output };
-      reference_value = c.reference_on-card_colour.ensures.result_value;
+      reference_in_range = c.reference_on-card_colour.ensures.in_range;
     }
 
 pub returns : goal.returns

@@ -63,7 +63,7 @@ close_plane-requires c =
       small = omega (arith, g.output, area-most g.picture.sides.tall g.picture.sides.wide);
       input = omega (arith, g.output, g.picture.input);
       range = g.picture.range;
-      good = c.requires.reference_value;
+      good = c.requires.reference_in_range;
     }
 
 pub mostly-requires : goal.mostly-requires
@@ -85,7 +85,7 @@ flood-requires c =
     let g = c.requires.given.picture in
     record {
       closed = close-closed _ _ _ _ _ (close c.before.before.before.before.before.before.before) g.sides (close-pixels c.before.before.before.before.before.before.before);
-      w_in_bounds = omega (arith, g.room);
+      stack_len = omega (arith, g.room);
     }
 
 pub returns-then-not-some_off : goal.returns-then-not-some_off

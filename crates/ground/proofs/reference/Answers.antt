@@ -45,7 +45,7 @@ returns c =
     let a = c.args in
     record {
       value = reference-is a.colours.now a.h a.w _ _ _ r.value g.value b.value;
-      result_value = rgb-from _ r.result_value g.result_value b.result_value;
+      in_range = rgb-from _ r.in_range g.in_range b.in_range;
     }
 
 pub channel-g-requires : goal.channel-g-requires

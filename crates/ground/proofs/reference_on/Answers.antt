@@ -22,13 +22,13 @@ returns-in_default c =
     let a = c.args in
     record {
       value = c.reference.ensures.value ∙ sym (not-given a.card a.colours.now a.h a.w c.in_default.not-Given);
-      result_value = c.reference.ensures.result_value;
+      in_range = c.reference.ensures.in_range;
     }
 
 pub returns : goal.returns
 returns c =
-    let ok = c.requires.card_value in
+    let ok = c.requires.card_in_range in
     record {
       value = rw c.in-Given.is;
-      result_value = rw c.in-Given.is at ok;
+      in_range = rw c.in-Given.is at ok;
     }

@@ -35,14 +35,14 @@ slice_bounds-search-end c =
 pub search-waiting-requires : goal.search-waiting-requires
 search-waiting-requires c =
     let nearest : List ℕ = c.make_nearest-made.new.nearest in
-    let n : length c.args.marks.now - 0 ≡ c.args.h * c.args.w = omega (arith, c.requires.marks-long) in record {
+    let n : length c.args.marks.now - 0 ≡ c.args.h * c.args.w = omega (arith, c.requires.marks_long) in record {
       searches = record {
         picture = c.requires.picture;
         deep_long = c.requires.deep_long;
-        nearest-made = rw n c.make_nearest-made.ensures;
+        nearest_made = rw n c.make_nearest-made.ensures;
         known = known c.before.before.before.before.before.before.before;
       };
-      marks_len = c.requires.marks-long;
+      marks_len = c.requires.marks_long;
     }
 
 -- no pixel waits
@@ -51,15 +51,15 @@ returns-then-not-waiting c =
     let a = c.args in
     let none = sym c.search-waiting.ensures.value ∙ c.if-not-waiting.true in
     let decided = decided-all a.colours.now a.reference a.deep.now a.shallow.now a.h a.w in
-    c.search-waiting.ensures.marks_after ∙ decided c.requires.picture.sides.some-columns a.marks.now none
+    c.search-waiting.ensures.marks_after ∙ decided c.requires.picture.sides.some_columns a.marks.now none
 
 pub nearest_indices-requires : goal.nearest_indices-requires
 nearest_indices-requires c =
     let p = c.requires in
     record {
       sides = p.picture.sides;
-      mask-long = p.shallow-long;
-      room = omega (arith, c.make_nearest-made.auto.nearest, p.nearest-long);
+      mask_long = p.shallow_long;
+      room = omega (arith, c.make_nearest-made.auto.nearest, p.nearest_long);
     }
 
 pub slice_bounds-decide_waiting-end : goal.slice_bounds-decide_waiting-end
@@ -74,25 +74,25 @@ module _ (c : At-After-nearest_indices) where
 
   indices : plane ≡ indices_plane c.args.shallow.now c.args.h c.args.w
   indices =
-      let n : length c.args.marks.now - 0 ≡ c.args.h * c.args.w = omega (arith, c.requires.marks-long) in
+      let n : length c.args.marks.now - 0 ≡ c.args.h * c.args.w = omega (arith, c.requires.marks_long) in
       rw n c.nearest_indices.ensures
 
 pub decide_waiting-requires : goal.decide_waiting-requires
 decide_waiting-requires c =
     let a = c.args in
-    let wide = c.requires.picture.sides.some-columns in
-    let long = c.search-waiting.auto.marks ∙ c.requires.marks-long in
+    let wide = c.requires.picture.sides.some_columns in
+    let long = c.search-waiting.auto.marks ∙ c.requires.marks_long in
     let inside = indices-inside a.shallow.now a.h a.w wide in
     record {
-      colours-long = omega (arith, long, c.requires.picture.colours-long);
-      nearest-long = rw (indices c.before.before.before.before.before) (indices-length a.shallow.now a.h a.w wide ∙ sym long);
+      colours_long = omega (arith, long, c.requires.picture.colours_long);
+      nearest_long = rw (indices c.before.before.before.before.before) (indices-length a.shallow.now a.h a.w wide ∙ sym long);
       inside = λ i l. rw (indices c.before.before.before.before.before) (omega (arith, inside i (omega (arith, long)), long));
     }
 
 pub returns : goal.returns
 returns c =
     let a = c.args in
-    let wide = c.requires.picture.sides.some-columns in
+    let wide = c.requires.picture.sides.some_columns in
     let decided = decided-last a.colours.now a.reference a.deep.now a.shallow.now a.h a.w wide a.marks.now in
     c.decide_waiting.ensures ∙ decided (plane c.before.before.before.before.before.before.before.before) _ (indices c.before.before.before.before.before.before.before.before) c.search-waiting.ensures.marks_after
 
@@ -100,5 +100,5 @@ pub make_nearest-made-requires : goal.make_nearest-made-requires
 make_nearest-made-requires c =
     record {
       index_room = search rules;
-      some_value = known c.before.before;
+      some_is = known c.before.before;
     }

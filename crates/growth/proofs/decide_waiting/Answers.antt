@@ -14,8 +14,8 @@ last_mark-requires c =
     let t = c.loop-i-test.true in
     let size = l.invariant.1.size in
     record {
-      body_in_bounds = omega (arith, p.inside l.i (omega arith), p.colours-long);
-      i_in_bounds = omega (arith, p.colours-long);
+      body_in_bounds = omega (arith, p.inside l.i (omega arith), p.colours_long);
+      i_in_bounds = omega (arith, p.colours_long);
     }
 
 pub loop-i-preserved : goal.loop-i-preserved

@@ -10,10 +10,10 @@ pub returns-then-made : goal.returns-then-made
 returns-then-made c =
     let both = and-true c.args.some c.many.result c.if-made.true in
     record {
-      some-deep = λ e. sym c.requires.some_value ∙ both.0;
+      some_deep = λ e. sym c.requires.some_is ∙ both.0;
       indices = λ e. c.nearest_indices.ensures;
     }
 
 pub returns : goal.returns
 returns c =
-    record { some-deep = λ e. not-both false e refl; indices = λ e. not-both false e refl }
+    record { some_deep = λ e. not-both false e refl; indices = λ e. not-both false e refl }

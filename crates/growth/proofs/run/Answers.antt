@@ -32,10 +32,10 @@ loop-left-preserved c =
     let new : List ℕ = call.new.back in
     let step = growth-step a.colours.now a.reference a.h a.w l.back l.left c.rest-left.result call.result new in (
       record {
-        nearest-long = omega (arith, kept.nearest, planes.nearest-long);
-        shallow-long = kept.shallow ∙ planes.shallow-long;
+        nearest_long = omega (arith, kept.nearest, planes.nearest_long);
+        shallow_long = kept.shallow ∙ planes.shallow_long;
         deep_long = kept.deep ∙ planes.deep_long;
-        marks-long = kept.marks ∙ planes.marks-long;
+        marks_long = kept.marks ∙ planes.marks_long;
         back_long = kept.back ∙ planes.back_long;
       },
       l.invariant.1 ∙ step c.loop-left-test.true c.rest-left.ensures call.ensures.value call.ensures.back_after,

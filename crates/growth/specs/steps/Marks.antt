@@ -46,19 +46,19 @@ last_mark colours reference nearest marks i =
 -- a picture with its sides
 pub record Picture (colours : List Float) (h w : ℕ) : Type 0 where
   pub sides : Sides h w
-  pub colours-long : length colours ≡ 3 * (h * w)
+  pub colours_long : length colours ≡ 3 * (h * w)
 
 -- a picture, its deep plane, the plane of the nearest deep pixels where it is made, and whether there is a deep pixel
 pub record Searches (colours : List Float) (h w : ℕ) (deep nearest : List ℕ) (made some : Bool) : Type 0 where
   pub picture : Picture colours h w
   pub deep_long : length deep ≡ h * w
-  pub nearest-made : Made deep nearest made h w
+  pub nearest_made : Made deep nearest made h w
   pub known : some ≡ some_below (h * w) (is_on deep)
 
 -- for each pixel the index of a pixel
 pub record Indexed (colours : List Float) (nearest marks : List ℕ) : Type 0 where
-  pub colours-long : length colours ≡ 3 * length marks
-  pub nearest-long : length nearest ≡ length marks
+  pub colours_long : length colours ≡ 3 * length marks
+  pub nearest_long : length nearest ≡ length marks
   pub inside : (i : ℕ) → i < length marks → get_or nearest i 0 < length marks
 
 -- the mark after both: the marked pixels that join
@@ -69,30 +69,30 @@ decided_mark colours reference deep shallow h w marks i =
 -- what the decision is given: a picture, its shallow plane and its deep plane, and room to work in
 pub record Decides (colours : List Float) (h w : ℕ) (shallow deep nearest marks : List ℕ) : Type 0 where
   pub picture : Picture colours h w
-  pub shallow-long : length shallow ≡ h * w
+  pub shallow_long : length shallow ≡ h * w
   pub deep_long : length deep ≡ h * w
-  pub nearest-long : h * w + 3 * w ≤ length nearest
-  pub marks-long : length marks ≡ h * w
+  pub nearest_long : h * w + 3 * w ≤ length nearest
+  pub marks_long : length marks ≡ h * w
 
 -- planes of the picture's size to work in, and room for the nearest pixels
 pub record Planes (h w : ℕ) (nearest shallow deep marks back : List ℕ) : Type 0 where
-  pub nearest-long : h * w + 3 * w ≤ length nearest
-  pub shallow-long : length shallow ≡ h * w
+  pub nearest_long : h * w + 3 * w ≤ length nearest
+  pub shallow_long : length shallow ≡ h * w
   pub deep_long : length deep ≡ h * w
-  pub marks-long : length marks ≡ h * w
+  pub marks_long : length marks ≡ h * w
   pub back_long : length back ≡ h * w
 
 -- the shallow plane, the deep plane and the edge marks of a background
 pub record Laid (back : List ℕ) (h w : ℕ) (shallow deep marks : List ℕ) : Type 0 where
-  pub shallow-is : shallow ≡ mask_of (h * w) (is_shallow back h w)
+  pub shallow_is : shallow ≡ mask_of (h * w) (is_shallow back h w)
   pub deep_is : deep ≡ mask_of (h * w) (is_deep back h w)
-  pub marks-are : marks ≡ table (edge_mark back h w) 0 (h * w)
+  pub marks_are : marks ≡ table (edge_mark back h w) 0 (h * w)
 
 -- what growth is given
 pub record Room (colours : List Float) (h w : ℕ) (nearest shallow deep marks back : List ℕ) : Type 0 where
   pub picture : Picture colours h w
   pub back_long : length back ≡ h * w
-  pub nearest-long : h * w + 3 * w ≤ length nearest
-  pub shallow-long : h * w ≤ length shallow
+  pub nearest_long : h * w + 3 * w ≤ length nearest
+  pub shallow_long : h * w ≤ length shallow
   pub deep_long : h * w ≤ length deep
-  pub marks-long : h * w ≤ length marks
+  pub marks_long : h * w ≤ length marks

@@ -46,7 +46,7 @@ module _ (c : At-After-cut_contents) where
   number =
       let a = c.args in
       c.cut_contents-refusal.ensures
-      ∙ cut-by-contents a.colours.now a.alpha.now a.h a.w a.card a.s lent c.requires.marks_value
+      ∙ cut-by-contents a.colours.now a.alpha.now a.h a.w a.card a.s lent c.requires.lengths
 
   room : c.cut_contents-refusal.result ≡ 0
       → Taken c.args.colours.now c.args.alpha.now c.args.h c.args.w c.args.s lent
@@ -62,38 +62,38 @@ cut_mask-keyed-requires c =
     let k = room c.before.before.before.before.before.before.before c.if-refusal-ne0.false in record {
       key_room = record {
         sides = k.sides;
-        colours-long = k.colours-long;
+        colours_long = k.colours_long;
         range = k.range;
-        mask-long = k.mask-long;
-        nearest-long = k.nearest-long;
-        shallow-long = k.shallow-long;
+        mask_long = k.mask_long;
+        nearest_long = k.nearest_long;
+        shallow_long = k.shallow_long;
         deep_long = k.deep_long;
-        marks-long = k.marks-long;
+        marks_long = k.marks_long;
       };
-      alpha_len = k.alpha-long;
-      card_value = c.requires.card_value;
+      alpha_len = k.alpha_long;
+      card_in_range = c.requires.card_in_range;
     }
 
 -- once the mask is made, the number is known to be 0
 module _ (c : At-After-cut_mask) where
-  mask-long : length c.cut_mask-keyed.new.mask ≡ c.args.h * c.args.w
-  mask-long = c.cut_mask-keyed.auto.mask ∙ (room c.before.before.before.before.before.before.before c.if-refusal-ne0.false).mask-long
+  mask_long : length c.cut_mask-keyed.new.mask ≡ c.args.h * c.args.w
+  mask_long = c.cut_mask-keyed.auto.mask ∙ (room c.before.before.before.before.before.before.before c.if-refusal-ne0.false).mask_long
 
-  weights-long : length c.args.weights.now ≡ c.args.h * c.args.w
-  weights-long = (room c.before.before.before.before.before.before.before c.if-refusal-ne0.false).weights-long
+  weights_long : length c.args.weights.now ≡ c.args.h * c.args.w
+  weights_long = (room c.before.before.before.before.before.before.before c.if-refusal-ne0.false).weights_long
 
-  alpha-long : length c.args.alpha.now ≡ c.args.h * c.args.w
-  alpha-long = (room c.before.before.before.before.before.before.before c.if-refusal-ne0.false).alpha-long
+  alpha_long : length c.args.alpha.now ≡ c.args.h * c.args.w
+  alpha_long = (room c.before.before.before.before.before.before.before c.if-refusal-ne0.false).alpha_long
 
 pub weights-requires : goal.weights-requires
 weights-requires c = (
-  mask-long c.before.before.before.before.before.before.before.before.before.before.before.before ∙ sym (weights-long c.before.before.before.before.before.before.before.before.before.before.before.before),
-  alpha-long c.before.before.before.before.before.before.before.before.before.before.before.before ∙ sym (weights-long c.before.before.before.before.before.before.before.before.before.before.before.before),
+  mask_long c.before.before.before.before.before.before.before.before.before.before.before.before ∙ sym (weights_long c.before.before.before.before.before.before.before.before.before.before.before.before),
+  alpha_long c.before.before.before.before.before.before.before.before.before.before.before.before ∙ sym (weights_long c.before.before.before.before.before.before.before.before.before.before.before.before),
 )
 
 pub crop_of-crop-requires : goal.crop_of-crop-requires
 crop_of-crop-requires c =
-    ((room c.before.before.before.before.before.before.before.before.before.before.before.before.before.before.before.before.before.before.before.before.before.before c.if-refusal-ne0.false).sides, mask-long c.before.before.before.before.before.before.before.before.before.before.before.before.before.before.before)
+    ((room c.before.before.before.before.before.before.before.before.before.before.before.before.before.before.before.before.before.before.before.before.before.before c.if-refusal-ne0.false).sides, mask_long c.before.before.before.before.before.before.before.before.before.before.before.before.before.before.before)
 
 pub returns : goal.returns
 returns c =
@@ -101,4 +101,4 @@ returns c =
     let call = c.cut_mask-keyed.ensures in
     let z = sym (number c.before.before.before.before.before.before.before.before.before.before.before.before.before.before.before.before.before.before.before.before.before.before.before) ∙ c.if-refusal-ne0.false in
     cut-made a.colours.now a.alpha.now a.h a.w a.card a.s (lent c.before.before.before.before.before.before.before.before.before.before.before.before.before.before.before.before.before.before.before.before.before.before.before) _ _ _ z call.value call.mask_after
-    (c.weights.ensures ∙ ap (weights_of _ _) (weights-long c.before.before.before.before.before.before.before.before.before.before.before.before.before.before.before.before)) c.crop_of-crop.ensures (held c.before.before.before.before.before.before.before.before.before.before.before.before.before.before.before.before.before.before.before.before.before.before.before)
+    (c.weights.ensures ∙ ap (weights_of _ _) (weights_long c.before.before.before.before.before.before.before.before.before.before.before.before.before.before.before.before)) c.crop_of-crop.ensures (held c.before.before.before.before.before.before.before.before.before.before.before.before.before.before.before.before.before.before.before.before.before.before.before)

@@ -14,8 +14,8 @@ returns-then-refusal-ne0 c =
 pub ground_on-requires : goal.ground_on-requires
 ground_on-requires c =
     record {
-      work_value = sym c.ground_lengths-refusal.ensures ∙ c.if-refusal-ne0.false;
-      card_value = rw c.card_of-card.ensures (card-ok _);
+      lengths = sym c.ground_lengths-refusal.ensures ∙ c.if-refusal-ne0.false;
+      card_in_range = rw c.card_of-card.ensures (card-ok _);
     }
 
 pub returns : goal.returns

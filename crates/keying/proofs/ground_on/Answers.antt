@@ -19,7 +19,7 @@ module _ (c : At-After-picture_refusal) where
   number =
       let a = c.args in
       c.picture_refusal-refusal.ensures
-      ∙ ground-by-picture a.colours.now a.h a.w a.card a.tolerance a.work.now a.out.now c.requires.work_value
+      ∙ ground-by-picture a.colours.now a.h a.w a.card a.tolerance a.work.now a.out.now c.requires.lengths
 
 pub returns-then-refusal-ne0 : goal.returns-then-refusal-ne0
 returns-then-refusal-ne0 c = ground-refused _ _ _ _ _ _ _ _ (number c.before.before) c.if-refusal-ne0.true
@@ -28,7 +28,7 @@ pub flat_ground-requires : goal.flat_ground-requires
 flat_ground-requires c =
     let k = ground-ok _ _ _ _ _ _ _ (sym (number c.before.before.before.before) ∙ c.if-refusal-ne0.false) in record {
       given = record { picture = record { sides = k.sides; input = k.input; range = k.range; room = k.room }; output = k.output };
-      card_value = c.requires.card_value;
+      card_in_range = c.requires.card_in_range;
     }
 
 pub returns : goal.returns
@@ -36,6 +36,6 @@ returns c =
     let z = sym (number c.before.before.before.before.before.before.before.before.before) ∙ c.if-refusal-ne0.false in
     record {
       answer = c.flat_ground.ensures.value ∙ rw z;
-      out-is = c.flat_ground.ensures.out_after ∙ sym (written _ _ _ z);
+      out_is = c.flat_ground.ensures.out_after ∙ sym (written _ _ _ z);
       kept = λ bad. absurd (bad z);
     }

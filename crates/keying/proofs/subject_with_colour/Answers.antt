@@ -23,8 +23,8 @@ returns-then-refusal-ne0 c =
 pub cut_on-requires : goal.cut_on-requires
 cut_on-requires c =
     record {
-      marks_value = sym c.cut_lengths-refusal.ensures ∙ c.if-refusal-ne0.false;
-      card_value = rw c.card_of-card.ensures (card-ok _);
+      lengths = sym c.cut_lengths-refusal.ensures ∙ c.if-refusal-ne0.false;
+      card_in_range = rw c.card_of-card.ensures (card-ok _);
     }
 
 pub returns : goal.returns

@@ -44,18 +44,18 @@ returns-then-refusal-ne0 c =
 pub copy-requires : goal.copy-requires
 copy-requires c =
     let k = room c.before.before.before c.if-refusal-ne0.false in
-    k.back_long ∙ sym k.out-long
+    k.back_long ∙ sym k.out_long
 
 pub grow-requires : goal.grow-requires
 grow-requires c =
     let k = room c.before.before.before.before.before.before.before.before.before.before.before.before c.if-refusal-ne0.false in
     record {
-      picture = record { sides = k.sides; colours-long = k.colours-long };
-      nearest-long = three-lines _ _ _ k.sides k.nearest-long;
-      shallow-long = omega (arith, k.shallow-long);
+      picture = record { sides = k.sides; colours_long = k.colours_long };
+      nearest_long = three-lines _ _ _ k.sides k.nearest_long;
+      shallow_long = omega (arith, k.shallow_long);
       deep_long = omega (arith, k.deep_long);
-      marks-long = omega (arith, k.marks-long);
-      back_long = c.copy.auto.to ∙ k.out-long;
+      marks_long = omega (arith, k.marks_long);
+      back_long = c.copy.auto.to ∙ k.out_long;
     }
 
 pub returns : goal.returns

@@ -43,7 +43,7 @@ pub returns : goal.returns
 returns c =
     let l = c.loop-b in
     record {
-      same-trees = λ rep f. (l.invariant.3 rep f).0;
+      same_trees = λ rep f. (l.invariant.3 rep f).0;
       root = λ rep f. (let y = l.invariant.3 rep f in sym (y.0.top l.a l.invariant.0 (sym l.invariant.1 ∙ c.loop-b-test.false)) ∙ y.1);
     }
 

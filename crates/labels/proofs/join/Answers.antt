@@ -26,10 +26,10 @@ kept c = c.find-y.auto.parents ∙ c.find-x.auto.parents
 pub find-y-requires : goal.find-y-requires
 find-y-requires c =
     let g = c.requires in
-    let same = c.find-x.ensures.same-trees in
+    let same = c.find-x.ensures.same_trees in
     record {
       trees = record { rep = g.trees.rep; forest = same g.trees.rep g.trees.forest };
-      l_le_m = g.b-in;
+      l_le_m = g.b_in;
     }
 
 pub returns-then-x-y : goal.returns-then-x-y

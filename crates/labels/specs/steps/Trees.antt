@@ -35,16 +35,16 @@ pub record Trees (parents : List ℕ) (m : ℕ) : Type 0 where
 
 -- r is the root of l, and every label keeps its root
 pub record Found (old new : List ℕ) (m l r : ℕ) : Type 0 where
-  pub same-trees : (rep : ℕ → ℕ) → Forest old m rep → Forest new m rep
+  pub same_trees : (rep : ℕ → ℕ) → Forest old m rep → Forest new m rep
   pub root : (rep : ℕ → ℕ) → Forest old m rep → r ≡ rep l
 
 -- what `join` is given: two labels of such trees
 pub record Joinable (parents : List ℕ) (m a b : ℕ) : Type 0 where
   pub trees : Trees parents m
-  pub a-some : 0 < a
+  pub a_some : 0 < a
   pub a_in : a ≤ m
-  pub b-some : 0 < b
-  pub b-in : b ≤ m
+  pub b_some : 0 < b
+  pub b_in : b ≤ m
 
 -- the trees of labels a and b are one, and r is its root
 pub record Linked (old new : List ℕ) (m a b r : ℕ) : Type 0 where

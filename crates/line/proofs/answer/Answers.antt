@@ -141,7 +141,7 @@ returns c =
     let l = c.loop-q in
     let p = c.requires in
     let e : l.q ≡ 0 = omega arith in
-    let z : l.end ≡ 0 = l.invariant.ends (omega (arith, p.some-site)) ∙ rw e p.start in
+    let z : l.end ≡ 0 = l.invariant.ends (omega (arith, p.some_site)) ∙ rw e p.start in
     record {
       answered = λ x g. l.invariant.answered x (omega arith) g;
       before = λ i g. l.invariant.before i (omega arith);

@@ -35,7 +35,7 @@ module _ (c : At-In-loop) where
         regions = record {
           short = p.short;
           out_first = p.out_first;
-          costs-first = p.costs-first;
+          costs_first = p.costs_first;
           room = omega (arith, p.room, c.loop-x.invariant.size);
         };
       }

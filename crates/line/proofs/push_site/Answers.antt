@@ -15,7 +15,7 @@ find_spot-spot-requires c =
     record {
       short = omega arith;
       out_first = omega arith;
-      costs-first = omega arith;
+      costs_first = omega arith;
       room = omega arith;
       cost = p.cost;
       left = site_left p;

@@ -16,5 +16,5 @@ chosen g (some i) = attach i (g i)
 
 -- the numbers of a line's costs are those of f: none is a number above the largest cost
 pub record Encodes (costs : List ℕ) (f : ℕ → Option ℕ) : Type 0 where
-  pub some-cost : (i a : ℕ) → i < length costs → f i ≡ some a → (get_or costs i 0 ≡ a) × (a ≤ most_cost)
-  pub no-cost : (i : ℕ) → i < length costs → f i ≡ none → most_cost < get_or costs i 0
+  pub some_cost : (i a : ℕ) → i < length costs → f i ≡ some a → (get_or costs i 0 ≡ a) × (a ≤ most_cost)
+  pub no_cost : (i : ℕ) → i < length costs → f i ≡ none → most_cost < get_or costs i 0

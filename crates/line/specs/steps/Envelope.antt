@@ -9,7 +9,7 @@ use Rattle.line.specs.steps.Part.{part}
 pub record Regions (out costs stack n long : ℕ) : Type 0 where
   pub short : n ≤ most_length
   pub out_first : out + n ≤ costs
-  pub costs-first : costs + n ≤ stack
+  pub costs_first : costs + n ≤ stack
   pub room : stack + n ≤ long
 
 -- what lies before the stack is as it was, but for the n answers
@@ -45,7 +45,7 @@ pub record Stack (costs : List ℕ) (s t : ℕ → ℕ) (u count : ℕ) : Type 0
 pub record Tops (work : List ℕ) (out costs stack count u : ℕ) : Type 0 where
   pub short : u < most_length
   pub out_first : out + count ≤ costs
-  pub costs-first : costs + u < stack
+  pub costs_first : costs + u < stack
   pub room : stack + count ≤ length work
   pub cost : get_or work (costs + u) 0 ≤ most_cost
   pub left : (q : ℕ) → q < count → site_at work stack q < u
@@ -99,7 +99,7 @@ pub record Segments (work : List ℕ) (out stack n count base : ℕ) : Type 0 wh
   pub out_first : out + n ≤ stack
   pub room : stack + count ≤ length work
   pub low : base + n ≤ 2 * most_length
-  pub some-site : 0 < count
+  pub some_site : 0 < count
   pub start : start_at work out 0 ≡ 0
   pub inside : (q : ℕ) → q < count → start_at work out q < n
   pub rises : (q : ℕ) → q + 1 < count → start_at work out q < start_at work out (q + 1)

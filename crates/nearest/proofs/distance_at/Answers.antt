@@ -44,7 +44,7 @@ module _ (c : At-After-wide) where
       let t = c.if-i-costs.true in
       let d = c.apart-d.ensures in
       record {
-        low = gap-fits a.x a.i c.apart-d.result d c.requires.column-in (omega (arith, c.requires.short));
+        low = gap-fits a.x a.i c.apart-d.result d c.requires.column_in (omega (arith, c.requires.short));
         cost = omega (arith, c.wide.ensures, c.shared_slice_known-then-i-costs-1.given a.i);
         is =
             ap (λ (k : ℕ). k + square) c.wide.ensures

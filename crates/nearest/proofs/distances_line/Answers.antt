@@ -47,7 +47,7 @@ distance_at-requires c =
     record {
       short = omega (arith, p.short, r.0);
       row_in = p.row_in;
-      column-in = omega (arith, p.short);
+      column_in = omega (arith, p.short);
       low = omega (arith, p.low (x c.before) t, r.1);
     }
 

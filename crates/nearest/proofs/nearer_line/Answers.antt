@@ -21,8 +21,8 @@ module _ (c : At-In-loop) where
   Same a = get_or c.loop-x.work (a + c.loop-x.x) 0 ≡ get_or c.args.work.now (a + c.loop-x.x) 0
 
   pub record Read : Type 0 where
-    pub a-is : Same c.args.row
-    pub b-is : Same c.args.near
+    pub a_is : Same c.args.row
+    pub b_is : Same c.args.near
     pub inside : c.loop-x.x < c.args.w
     pub room : NearRoom c.args.work.now c.args.y c.args.row c.args.near c.args.w
     pub size : length c.loop-x.work ≡ length c.args.work.now
@@ -32,8 +32,8 @@ module _ (c : At-In-loop) where
       let l = c.loop-x in
       let t = c.loop-x-test.true in
       record {
-        a-is = l.invariant.written.before (c.args.row + l.x) (omega (arith, c.requires.apart));
-        b-is = l.invariant.written.behind (c.args.near + l.x) (omega arith);
+        a_is = l.invariant.written.before (c.args.row + l.x) (omega (arith, c.requires.apart));
+        b_is = l.invariant.written.behind (c.args.near + l.x) (omega arith);
         inside = t;
         room = c.requires;
         size = l.invariant.size;
@@ -43,7 +43,7 @@ pub nearer_row-requires : goal.nearer_row-requires
 nearer_row-requires c =
     let r = read c.before.before.before in
     let x = c.loop-x.x in
-    omega (arith, r.room.row_low x r.inside, r.room.near-low x r.inside)
+    omega (arith, r.room.row_low x r.inside, r.room.near_low x r.inside)
 
 pub loop-x-preserved : goal.loop-x-preserved
 loop-x-preserved c =
@@ -52,8 +52,8 @@ loop-x-preserved c =
     let r = read c.before.before.before in
     filling-more l.invariant r.inside r.room.room
     (c.nearer_row.ensures
-    ∙ ap (λ (k : ℕ). nearer a.y k (get_or l.work (a.near + l.x) 0)) r.a-is
-    ∙ ap (nearer a.y (get_or a.work.now (a.row + l.x) 0)) r.b-is)
+    ∙ ap (λ (k : ℕ). nearer a.y k (get_or l.work (a.near + l.x) 0)) r.a_is
+    ∙ ap (nearer a.y (get_or a.work.now (a.row + l.x) 0)) r.b_is)
 
 pub loop-x-init : goal.loop-x-init
 loop-x-init c =

@@ -24,7 +24,7 @@ pub distances_line-requires : goal.distances_line-requires
 distances_line-requires c =
     let p = c.requires in
     distance-room (row c.before.before.before.before.before.before) (omega arith) c.row_pass.auto.work c.row_pass.ensures _
-    (omega (arith, p.out-long, c.loop-y.invariant.1.size)) p.low
+    (omega (arith, p.out_long, c.loop-y.invariant.1.size)) p.low
 
 pub loop-y-preserved : goal.loop-y-preserved
 loop-y-preserved c =
@@ -38,7 +38,7 @@ loop-y-preserved c =
 pub returns : goal.returns
 unfolding distance_plane
 returns c =
-    rows_end c.args.h c.loop-y.invariant.1 c.loop-y-test.false c.requires.out-long
+    rows_end c.args.h c.loop-y.invariant.1 c.loop-y-test.false c.requires.out_long
 
 pub loop-y-init : goal.loop-y-init
 loop-y-init c =

@@ -35,7 +35,7 @@ columns_line-requires c =
     let r = row c.before.before.before.before.before.before.before.before.before in (
       r.sides.wide,
       omega (arith, r.row, r.room, c.row_pass.auto.work),
-      omega (arith, r.row, c.requires.cols-long, c.loop-y.invariant.2.size),
+      omega (arith, r.row, c.requires.cols_long, c.loop-y.invariant.2.size),
     )
 
 pub loop-y-preserved : goal.loop-y-preserved
@@ -58,7 +58,7 @@ returns c =
     let left = c.loop-y-test.false in
     record {
       rows_after = rows_end h c.loop-y.invariant.1 left c.requires.rows_long;
-      cols_after = rows_end h c.loop-y.invariant.2 left c.requires.cols-long;
+      cols_after = rows_end h c.loop-y.invariant.2 left c.requires.cols_long;
     }
 
 pub loop-y-init : goal.loop-y-init

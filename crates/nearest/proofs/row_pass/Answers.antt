@@ -7,5 +7,5 @@ use Rattle.nearest.proofs.row_pass.Goals as goal
 pub returns : goal.returns
 returns c =
     let size = c.costs_line.auto.work ∙ c.nearer_line.auto.work in
-    row_done c.args.y c.requires.out-inside c.requires.room size (c.line.auto.work ∙ size) c.nearer_line.ensures c.costs_line.ensures
+    row_done c.args.y c.requires.out_inside c.requires.room size (c.line.auto.work ∙ size) c.nearer_line.ensures c.costs_line.ensures
     c.line.ensures

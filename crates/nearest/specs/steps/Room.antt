@@ -10,23 +10,23 @@ use Rattle.nearest.specs.steps.Stages.{no_row, elements, distance_at, distance_i
 -- for rows and columns
 pub record Room (h w : ℕ) (mask work : List ℕ) (rows cols : List ℤ) : Type 0 where
   pub sides : Sides h w
-  pub mask-long : length mask ≡ h * w
+  pub mask_long : length mask ≡ h * w
   pub room : h * w + 3 * w ≤ length work
   pub rows_long : length rows ≡ h * w
-  pub cols-long : length cols ≡ h * w
+  pub cols_long : length cols ≡ h * w
 
 -- for indices, and for the first sweep
 pub record IndexRoom (h w : ℕ) (mask work : List ℕ) : Type 0 where
   pub sides : Sides h w
-  pub mask-long : length mask ≡ h * w
+  pub mask_long : length mask ≡ h * w
   pub room : h * w + 3 * w ≤ length work
 
 -- for distances, which fit 32 bits
 pub record DistanceRoom (h w : ℕ) (mask work out : List ℕ) : Type 0 where
   pub sides : Sides h w
-  pub mask-long : length mask ≡ h * w
+  pub mask_long : length mask ≡ h * w
   pub room : h * w + 3 * w ≤ length work
-  pub out-long : length out ≡ h * w
+  pub out_long : length out ≡ h * w
   pub low : h * h + w * w ≤ 4294967295
 
 -- ---- the parts of the computation
@@ -37,7 +37,7 @@ pub record NearRoom (work : List ℕ) (y row near w : ℕ) : Type 0 where
   pub apart : row + w ≤ near
   pub room : near + w ≤ length work
   pub row_low : (x : ℕ) → x < w → get_or work (row + x) 0 ≤ no_row
-  pub near-low : (x : ℕ) → x < w → get_or work (near + x) 0 ≤ no_row
+  pub near_low : (x : ℕ) → x < w → get_or work (near + x) 0 ≤ no_row
 
 -- the line of the nearest on-rows and that of their costs
 pub record CostRoom (work : List ℕ) (y near costs w : ℕ) : Type 0 where
@@ -50,10 +50,10 @@ pub record RowRoom (y n w out : ℕ) (work : List ℕ) : Type 0 where
   pub row_in : y < most_length
   pub short : w ≤ most_length
   pub inside : y * w + w ≤ n
-  pub out-inside : out + w ≤ n
+  pub out_inside : out + w ≤ n
   pub room : n + 3 * w ≤ length work
   pub row_low : (x : ℕ) → x < w → get_or work (y * w + x) 0 ≤ no_row
-  pub near-low : (x : ℕ) → x < w → get_or work (n + x) 0 ≤ no_row
+  pub near_low : (x : ℕ) → x < w → get_or work (n + x) 0 ≤ no_row
 
 -- column i, where there is such a column, has an on-row
 pub record ChosenRoom (work : List ℕ) (near w i : ℕ) : Type 0 where
@@ -72,7 +72,7 @@ pub record PixelRoom (work : List ℕ) (places near w : ℕ) : Type 0 where
 pub record DistanceAtRoom (costs : List ℕ) (y x i : ℕ) : Type 0 where
   pub short : length costs ≤ most_length
   pub row_in : y < most_length
-  pub column-in : x < most_length
+  pub column_in : x < most_length
   pub low : distance_at (length costs) (elements costs) y x i ≤ 4294967295
 
 -- so do those of a row

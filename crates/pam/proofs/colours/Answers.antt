@@ -33,7 +33,7 @@ returns c =
     let place : ℕ → ℕ = λ (k : ℕ). a.body + (4 * (k / 3) + k % 3) in
     let byte = c.shared_slice_known-1.given in record {
       out_after = whole ∙ ap (table (channel a.input.now a.body) 0) c.requires.2;
-      out_after_2 = colours-all l.out
+      out_in_range = colours-all l.out
           (λ k g.
           ap colour_ok (done.front k (omega (arith, done.size)))
           ∙ byte-ok (get_or a.input.now (place k) 0) (omega (arith, byte (place k))));

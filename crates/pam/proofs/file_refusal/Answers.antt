@@ -34,7 +34,7 @@ accepted c = not-false c.args.header.ok c.if-not-header.false
 pub overflow_mul-n : goal.overflow_mul-n
 overflow_mul-n c =
     let s = small c.before.before.before.before in
-    Fits-le (mul-le-mul s.height-most s.width-most) (Fits-lit tt)
+    Fits-le (mul-le-mul s.height_most s.width_most) (Fits-lit tt)
 
 pub returns-then-n-gt-MOST_PIXELS : goal.returns-then-n-gt-MOST_PIXELS
 unfolding file_refusal refusal_of
@@ -52,4 +52,4 @@ returns c =
 
 pub overflow_add-end : goal.overflow_add-end
 overflow_add-end c =
-    omega (arith, (small c.before.before.before.before.before.before).body-most)
+    omega (arith, (small c.before.before.before.before.before.before).body_most)

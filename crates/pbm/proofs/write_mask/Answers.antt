@@ -8,4 +8,4 @@ pub returns : goal.returns
 unfolding mask_text
 returns c =
     let lines = wrote-more c.crop_lines-size.ensures c.size_line-body.ensures in
-    wrote_as (rw c.requires.w_nonzero.1) (wrote-more lines c.pixels.ensures)
+    wrote_as (rw c.requires.mask_len.1) (wrote-more lines c.pixels.ensures)

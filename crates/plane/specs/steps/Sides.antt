@@ -8,7 +8,7 @@ longest_side = 65536
 
 -- sides of a plane that is not empty and not larger than that
 pub record Sides (h w : ℕ) : Type 0 where
-  pub some-rows : 1 ≤ h
-  pub some-columns : 1 ≤ w
+  pub some_rows : 1 ≤ h
+  pub some_columns : 1 ≤ w
   pub tall : h ≤ longest_side
   pub wide : w ≤ longest_side

@@ -27,11 +27,11 @@ returns c = begun-end c.loop-x.invariant.1 (omega arith)
 
 pub loop-x-init : goal.loop-x-init
 loop-x-init c =
-    (omega arith, begun-none c.requires.steps-size)
+    (omega arith, begun-none c.requires.steps_size)
 
 pub bounds-leave-x : goal.bounds-leave-x
 bounds-leave-x c =
-    omega (arith, c.requires.leave-size)
+    omega (arith, c.requires.leave_size)
 
 pub bounds-steps-x : goal.bounds-steps-x
 bounds-steps-x c =
@@ -39,4 +39,4 @@ bounds-steps-x c =
 
 pub shape_of-steps : goal.shape_of-steps
 shape_of-steps c =
-    omega (arith, c.loop-x.invariant.1.size, c.requires.steps-size)
+    omega (arith, c.loop-x.invariant.1.size, c.requires.steps_size)

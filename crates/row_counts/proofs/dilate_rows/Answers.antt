@@ -26,7 +26,7 @@ dilate_line-requires c =
     let s = l.y * c.args.w in
     let m = s + c.args.w - s in
     let row = part_length c.args.mask.now s m (omega (arith, row_here c.before.before.before, c.requires.mask_size)) in
-    let out = part_length l.out s m (omega (arith, row_here c.before.before.before, c.requires.out-size, l.invariant.1)) in
+    let out = part_length l.out s m (omega (arith, row_here c.before.before.before, c.requires.out_size, l.invariant.1)) in
     record { wide = omega (arith, row, c.requires.sides.wide); near = c.requires.near; size = out ∙ sym row }
 
 pub loop-y-preserved : goal.loop-y-preserved

@@ -35,8 +35,8 @@ change_line enter leave = table (λ (x : ℕ). step_of (is_on enter x) (is_on le
 
 -- lines of one length
 pub record Changing (enter leave steps : List ℕ) : Type 0 where
-  pub leave-size : length leave ≡ length enter
-  pub steps-size : length steps ≡ length enter
+  pub leave_size : length leave ≡ length enter
+  pub steps_size : length steps ≡ length enter
 
 -- columns from column c on of a row, with a step for each, all 0
 pub record Steppable (row : List ℕ) (k c : ℕ) (steps : List ℕ) : Type 0 where
@@ -74,4 +74,4 @@ pub record RowPlanes (mask : List ℕ) (h w k : ℕ) (out : List ℕ) : Type 0 w
   pub sides : Sides h w
   pub near : k ≤ longest_side
   pub mask_size : length mask ≡ h * w
-  pub out-size : h * w ≤ length out
+  pub out_size : h * w ≤ length out

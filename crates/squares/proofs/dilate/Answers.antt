@@ -23,15 +23,15 @@ near c =
 
 pub dilate_rows-requires : goal.dilate_rows-requires
 dilate_rows-requires c =
-    record { sides = c.requires.sides; near = near c.before.before; mask_size = c.requires.mask_size; out-size = c.requires.work-size }
+    record { sides = c.requires.sides; near = near c.before.before; mask_size = c.requires.mask_size; out_size = c.requires.work_size }
 
 pub dilate_columns-requires : goal.dilate_columns-requires
 dilate_columns-requires c =
     record {
       sides = c.requires.sides;
       near = near c.before.before.before.before.before.before;
-      size = omega (arith, c.dilate_rows.auto.out, c.requires.work-size);
-      out-size = c.requires.out-size;
+      size = omega (arith, c.dilate_rows.auto.out, c.requires.work_size);
+      out_size = c.requires.out_size;
     }
 
 pub returns : goal.returns
@@ -40,5 +40,5 @@ returns c =
     let rows = c.dilate_rows in record {
       out_after = passes-are a.mask.now (drop (a.h * a.w) a.work.now) a.h a.w a.iterations c.radius-k.ensures
           rows.ensures c.dilate_columns.ensures;
-      bit_or_old = work-kept a.mask.now a.h a.w _ rows.ensures rows.auto.out c.requires.sides.some-columns;
+      bit_or_old = work-kept a.mask.now a.h a.w _ rows.ensures rows.auto.out c.requires.sides.some_columns;
     }

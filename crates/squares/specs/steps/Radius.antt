@@ -12,5 +12,5 @@ radius_of h w iterations = cond (leb (reach h w iterations) (larger h w)) (reach
 pub record Lent (mask work out : List ℕ) (h w : ℕ) : Type 0 where
   pub sides : Sides h w
   pub mask_size : length mask ≡ h * w
-  pub out-size : length out ≡ h * w
-  pub work-size : h * w ≤ length work
+  pub out_size : length out ≡ h * w
+  pub work_size : h * w ≤ length work

@@ -21,7 +21,7 @@ returns c =
     let l = c.loop-i in
     let a = c.args in
     let e : l.i ≡ length a.text.now = omega arith in
-    record { end_is = omega arith; bytes-are = l.invariant.2 ∙ ap (sets a.out.now a.at) (take_all l.i a.text.now (omega arith)) }
+    record { end_is = omega arith; bytes_are = l.invariant.2 ∙ ap (sets a.out.now a.at) (take_all l.i a.text.now (omega arith)) }
 
 pub loop-i-init : goal.loop-i-init
 loop-i-init c =

@@ -6,4 +6,4 @@ use Rattle.std.proofs.lemmas.List.Edits.{sets}
 -- a piece was written from a place on, its end was answered, and no other byte has changed
 pub record Wrote (piece old new : List ℕ) (at end : ℕ) : Type 0 where
   pub end_is : end ≡ at + length piece
-  pub bytes-are : new ≡ sets old at piece
+  pub bytes_are : new ≡ sets old at piece

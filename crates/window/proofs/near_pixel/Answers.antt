@@ -25,26 +25,26 @@ module _ (c : At-Then1) where
 pub bounds-nearest-i : goal.bounds-nearest-i
 bounds-nearest-i c =
     let a = c.args in
-    rw (plane c.before.before, indices-length a.deep.now a.h a.w c.requires.sides.some-columns) c.requires.i_bound
+    rw (plane c.before.before, indices-length a.deep.now a.h a.w c.requires.sides.some_columns) c.requires.i_bound
 
 pub reached-requires : goal.reached-requires
 reached-requires c =
     let a = c.args in
-    let w = c.requires.sides.some-columns in
+    let w = c.requires.sides.some_columns in
     let l = c.requires.i_bound in
     let e = ap (λ (p : List ℕ). get_or p a.i 0) (plane c.before.before.before) in
     let inside = indices-inside a.deep.now a.h a.w w a.i l in
     record {
       sides = c.requires.sides;
-      y_lt_h = (row_of a.i a.h a.w w l, column-of a.i a.w w, omega (arith, c.wide.ensures, e, inside));
+      inside = (row_of a.i a.h a.w w l, column-of a.i a.w w, omega (arith, c.wide.ensures, e, inside));
     }
 
 pub returns-then-made : goal.returns-then-made
 returns-then-made c =
     let a = c.args in
-    let w = c.requires.sides.some-columns in
+    let w = c.requires.sides.some_columns in
     let e = ap (λ (p : List ℕ). get_or p a.i 0) (plane c.before.before.before.before) in
-    let some = c.requires.made.some-deep c.if-made.true in
+    let some = c.requires.made.some_deep c.if-made.true in
     c.reached.ensures
     ∙ near-index a.deep.now a.h a.w (a.i / a.w) (a.i % a.w) w some c.wide.result
     (c.wide.ensures ∙ e ∙ indices-at a.deep.now a.h a.w w a.i c.requires.i_bound)
@@ -52,7 +52,7 @@ returns-then-made c =
 pub window-requires : goal.window-requires
 window-requires c =
     let a = c.args in
-    let w = c.requires.sides.some-columns in
+    let w = c.requires.sides.some_columns in
     record {
       sides = c.requires.sides;
       long = c.requires.deep_len;

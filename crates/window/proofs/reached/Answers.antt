@@ -27,15 +27,15 @@ rows : (c : At-After-apart) → c.apart-dy.result * c.apart-dy.result ≤ 429483
 rows c =
     let a = c.args in
     let s = c.requires.sides in
-    let r = row_of a.b a.h a.w s.some-columns c.requires.y_lt_h.2 in
-    gap-fits a.y (a.b / a.w) c.apart-dy.result c.apart-dy.ensures (omega (arith, s.tall, c.requires.y_lt_h.0)) (omega (arith, s.tall))
+    let r = row_of a.b a.h a.w s.some_columns c.requires.inside.2 in
+    gap-fits a.y (a.b / a.w) c.apart-dy.result c.apart-dy.ensures (omega (arith, s.tall, c.requires.inside.0)) (omega (arith, s.tall))
 
 columns : (c : At-After-apart2) → c.apart-dx.result * c.apart-dx.result ≤ 4294836225
 columns c =
     let a = c.args in
     let s = c.requires.sides in
-    let r = column-of a.b a.w s.some-columns in
-    gap-fits a.x (a.b % a.w) c.apart-dx.result c.apart-dx.ensures (omega (arith, s.wide, c.requires.y_lt_h.1)) (omega (arith, s.wide))
+    let r = column-of a.b a.w s.some_columns in
+    gap-fits a.x (a.b % a.w) c.apart-dx.result c.apart-dx.ensures (omega (arith, s.wide, c.requires.inside.1)) (omega (arith, s.wide))
 
 abbrev far : At-Start → ℕ
 far o = let a = o.args in away a.y a.x (a.b / a.w) (a.b % a.w)

@@ -44,13 +44,13 @@ pub record Chosen (deep : List ℕ) (h w y x far at : ℕ) : Type 0 where
   pub i : ℕ
   pub j : ℕ
   pub row_inside : j < h
-  pub column-inside : i < w
-  pub is-on : on_at deep w j i ≡ true
+  pub column_inside : i < w
+  pub pixel_on : on_at deep w j i ≡ true
   pub place : at ≡ j * w + i
   pub distance : far ≡ away y x j i
   pub reached : far ≤ body_reach
-  pub first-column : (k l : ℕ) → k < h → l < i → on_at deep w k l ≡ true → far < away y x k l
-  pub first-row : (k : ℕ) → k < j → on_at deep w k i ≡ true → far < away y x k i
+  pub first_column : (k l : ℕ) → k < h → l < i → on_at deep w k l ≡ true → far < away y x k l
+  pub first_row : (k : ℕ) → k < j → on_at deep w k i ≡ true → far < away y x k i
 
 -- the columns before column c are searched: far is the least squared distance found, at the pixel `at`, or one more than is near enough
 pub record Searched (deep : List ℕ) (h w y x c far at : ℕ) : Type 0 where
@@ -60,5 +60,5 @@ pub record Searched (deep : List ℕ) (h w y x c far at : ℕ) : Type 0 where
 
 -- where the plane of the nearest deep pixels is made, it is that, and there is a deep pixel
 pub record Made (deep nearest : List ℕ) (made : Bool) (h w : ℕ) : Type 0 where
-  pub some-deep : made ≡ true → some_below (h * w) (is_on deep) ≡ true
+  pub some_deep : made ≡ true → some_below (h * w) (is_on deep) ≡ true
   pub indices : made ≡ true → nearest ≡ indices_plane deep h w

@@ -26,11 +26,11 @@ small : (c : At-Start) → c.args.h * c.args.w ≤ 4294967296
 small c = let m = area-most {h = c.args.h} {w = c.args.w} c.requires.sides.tall c.requires.sides.wide in omega arith
 
 pub overflow_sub-last : goal.overflow_sub-last
-overflow_sub-last c = let r = row_in 0 c.args.h c.args.w c.requires.sides.some-rows in omega arith
+overflow_sub-last c = let r = row_in 0 c.args.h c.args.w c.requires.sides.some_rows in omega arith
 
 pub bounds-indices-i : goal.bounds-indices-i
 bounds-indices-i c =
-    omega (arith, c.loop-i-test.true, c.requires.indices-long)
+    omega (arith, c.loop-i-test.true, c.requires.indices_long)
 
 -- the pixel that is read, and that it lies in the picture
 module _ (c : At-After-source) where
@@ -42,7 +42,7 @@ module _ (c : At-After-source) where
   source_is =
       c.source-s.ensures
       ∙ ap (λ (k : ℕ). cond c.args.some (get_or c.args.indices.now c.loop-i.i 0) k)
-      (sym (last_row c.args.h c.args.w c.requires.sides.some-rows))
+      (sym (last_row c.args.h c.args.w c.requires.sides.some_rows))
 
   inside : c.source-s.result < c.args.h * c.args.w
   inside =
@@ -50,14 +50,14 @@ module _ (c : At-After-source) where
       let i = c.loop-i.i in
       let named = c.requires.inside i c.loop-i-test.true in
       let a = c.args in
-      let l = source_in a.indices.now a.some a.h a.w i s.some-rows s.some-columns named in
+      let l = source_in a.indices.now a.some a.h a.w i s.some_rows s.some_columns named in
       omega (arith, source_is)
 
   little : c.args.h * c.args.w ≤ 4294967296
   little = small c.before.before.before.before.before.before.before
 
   long : 3 * c.source-s.result + 3 ≤ length c.args.colours.now
-  long = omega (arith, inside, c.requires.colours-long)
+  long = omega (arith, inside, c.requires.colours_long)
 
 pub overflow_add-t : goal.overflow_add-t
 overflow_add-t c = omega (arith, little c.before.before, c.loop-i-test.true)
@@ -67,7 +67,7 @@ offset_bounds-out-t c = omega (arith, little c.before.before, c.loop-i-test.true
 
 pub slice_bounds-copy_colour-end-in-loop-i : goal.slice_bounds-copy_colour-end-in-loop-i
 slice_bounds-copy_colour-end-in-loop-i c =
-    omega (arith, c.loop-i-test.true, c.requires.out-long, c.loop-i.invariant.1)
+    omega (arith, c.loop-i-test.true, c.requires.out_long, c.loop-i.invariant.1)
 
 pub loop-i-preserved : goal.loop-i-preserved
 loop-i-preserved c =
@@ -91,7 +91,7 @@ returns c =
     let a = c.args in
     let e : l.i ≡ a.h * a.w = omega arith in
     let n = a.h * a.w * 3 in
-    let d : drop n a.out.now ≡ [] = drop_of_length-le a.out.now {i = n} (omega (arith, c.requires.out-long)) in
+    let d : drop n a.out.now ≡ [] = drop_of_length-le a.out.now {i = n} (omega (arith, c.requires.out_long)) in
     l.invariant.2 ∙ rw (e, d, append-nil)
 
 pub overflow_mul-n : goal.overflow_mul-n
