@@ -31,6 +31,14 @@ fn newest(folder: &Path) -> Option<SystemTime> {
         .max()
 }
 
+/// The folders that the crates are proved from; what rt makes of them lies beside these.
+fn sources(crates: &Path) -> Vec<PathBuf> {
+    let entries = fs::read_dir(crates).into_iter().flatten().flatten();
+    let each =
+        entries.flat_map(|entry| ["src", "specs", "proofs"].map(|part| entry.path().join(part)));
+    each.filter(|folder| folder.is_dir()).collect()
+}
+
 /// The terminal that cargo writes to, where it writes to one.
 fn terminal() -> Option<File> {
     let path = format!("/proc/{}/fd/2", parent_id());
@@ -81,10 +89,12 @@ fn archive_folder(root: &Path, host: &Path) -> PathBuf {
         fail(format!("there is no {}", archive.display()));
     }
     if own {
-        let crates = root.join("crates");
-        println!("cargo:rerun-if-changed={}", crates.display());
+        let sources = sources(&root.join("crates"));
+        for folder in &sources {
+            println!("cargo:rerun-if-changed={}", folder.display());
+        }
         let made = archive.metadata().and_then(|m| m.modified()).ok();
-        if newest(&crates) > made {
+        if sources.iter().filter_map(|folder| newest(folder)).max() > made {
             println!(
                 "cargo:warning={} is older than a file under crates/: run host/prove",
                 archive.display()

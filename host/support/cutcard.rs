@@ -18,7 +18,9 @@ pub fn say(line: String) {
 pub fn program() -> Option<PathBuf> {
     let path = Path::new(env!("CARGO_MANIFEST_DIR")).join("../target/bin/cutcard");
     if !path.is_file() {
-        say("skipped: there is no target/bin/cutcard; `rt check cutcard` builds it\n".to_string());
+        say(
+            "skipped: there is no target/bin/cutcard; `host/prove cutcard` builds it\n".to_string(),
+        );
         return None;
     }
     Some(path.canonicalize().expect("the program's path"))

@@ -12,11 +12,14 @@ fn root() -> PathBuf {
     Path::new(env!("CARGO_MANIFEST_DIR")).join("..")
 }
 
-/// Every file below a folder, builds left out.
+/// Every file below a folder, what is built left out.
 fn files(folder: &Path, found: &mut Vec<PathBuf>) {
     for entry in fs::read_dir(folder).unwrap() {
         let path = entry.unwrap().path();
-        if path.ends_with("target") || path.ends_with(".git") {
+        if ["target", "out", ".git"]
+            .iter()
+            .any(|name| path.ends_with(name))
+        {
             continue;
         }
         if path.is_dir() {
@@ -269,14 +272,16 @@ fn definitions_name_their_rules() {
 fn the_definitions_that_are_computed_exist() {
     let tool = read(&root().join("host/src/bin/definitions.rs"));
     let mut count = 0;
-    for line in tool.lines().filter(|line| line.starts_with("use Rattle·")) {
-        let (path, list) = line.split_once(".{").expect("a list of names");
+    for line in tool.lines() {
+        let Some(path) = line.strip_prefix("use Rattle.") else {
+            continue;
+        };
+        let (path, list) = path.split_once(".{").expect("a list of names");
         let (owner, module) = path.split_once(".specs.").expect("definitions");
         if module.starts_with("declared.") {
             continue;
         }
-        let owner = owner.trim_start_matches("use Rattle·").split('·').next();
-        let file = format!("crates/{}/specs/{module}.antt", owner.unwrap());
+        let file = format!("crates/{owner}/specs/{module}.antt");
         let there = words(&read(&root().join(&file)));
         for name in list.trim_end_matches('}').split(", ") {
             assert!(there.contains(name), "{file} has no {name}");
@@ -308,10 +313,11 @@ fn every_crate_has_its_place() {
         .into_iter()
         .collect();
     let list = read(&root().join("crates.txt"));
-    let crates = list.lines().filter_map(|line| line.split_once(':'));
+    let lines = list.lines().filter(|line| !line.starts_with('#'));
+    let crates = lines.filter_map(|line| line.split_once(':'));
     let left_out: Vec<&str> = crates
-        .map(|(name, _)| name)
-        .filter(|name| !name.starts_with('#') && !page.contains(*name))
+        .filter_map(|(head, _)| head.split_whitespace().next())
+        .filter(|name| !page.contains(*name))
         .collect();
     assert!(
         left_out.is_empty(),

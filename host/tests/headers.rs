@@ -4,7 +4,7 @@
 //! them. What it accepts is read with the same sides and pixels by `stand`, and with the same sides by
 //! Netpbm's pamfile, where that is installed.
 //!
-//! The program is `target/bin/cutcard` of the repository, which `rt check cutcard` proves and builds.
+//! The program is `target/bin/cutcard` of the repository, which `host/prove cutcard` proves and builds.
 //! Where it is not there, the tests that run it say so and are left out.
 
 include!(concat!(env!("OUT_DIR"), "/the_rust.rs"));

@@ -188,7 +188,7 @@ fn constants() {
     let side = between(&header, "#define STAND_MOST_SIDE ", "\n");
     assert_eq!(side.parse(), Ok(stand::MOST_SIDE));
     let defined = read("crates/plane/specs/Plane.antt");
-    assert_eq!(between(&defined, "\nmostSide = ", "\n"), side);
+    assert_eq!(between(&defined, "\nmost_side = ", "\n"), side);
     let own = stand::Settings::default();
     let said = between(&header, "STAND_DEFAULT_SETTINGS = {", "}");
     let expected = format!(

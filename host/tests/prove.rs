@@ -1,8 +1,8 @@
-//! `host/prove` with a stand-in for `rt`: it has all crates of the library proved, says after each
-//! how many are left, and shows what `rt` said where one is not proved. And `stand --version`,
-//! which says what came of it.
+//! `host/prove` with a stand-in for `rt`: it has all crates of the library, or of cutcard, proved, each
+//! after those that it needs, says after each how many are left, and shows what `rt` said where one is
+//! not proved. And `stand --version`, which says what came of it.
 
-use std::collections::BTreeSet;
+use std::collections::{BTreeMap, BTreeSet};
 use std::fs;
 use std::os::unix::fs::{symlink, PermissionsExt};
 use std::path::{Path, PathBuf};
@@ -21,26 +21,45 @@ fn text(bytes: Vec<u8>) -> String {
     String::from_utf8(bytes).expect("a text")
 }
 
-/// The crates that one needs, itself among them, by crates.txt.
-fn needed(list: &str, name: &str, found: &mut BTreeSet<String>) {
-    let line = list
-        .lines()
-        .find_map(|line| line.strip_prefix(&format!("{name}:")));
-    let line = line.unwrap_or_else(|| panic!("{name} is not in crates.txt"));
+/// The crates of crates.txt, each with those that it names.
+fn listed() -> BTreeMap<String, Vec<String>> {
+    let list = fs::read_to_string(root().join("crates.txt")).unwrap();
+    let lines = list.lines().filter(|line| !line.starts_with('#'));
+    lines
+        .filter_map(|line| line.split_once(':'))
+        .map(|(head, needs)| {
+            let name = head.split_whitespace().next().expect("a name");
+            let needs = needs.split_whitespace().map(str::to_string);
+            (name.to_string(), needs.collect())
+        })
+        .collect()
+}
+
+/// The crates that one needs, itself among them.
+fn needed(list: &BTreeMap<String, Vec<String>>, name: &str, found: &mut BTreeSet<String>) {
+    let needs = list.get(name);
+    let needs = needs.unwrap_or_else(|| panic!("{name} is not in crates.txt"));
     if found.insert(name.to_string()) {
-        line.split_whitespace()
-            .for_each(|other| needed(list, other, found));
+        needs.iter().for_each(|other| needed(list, other, found));
     }
 }
 
-/// Runs a copy of `host/prove` in a folder of its own, with this as `rt`, or without one.
-fn prove(name: &str, rt: Option<&str>) -> Output {
-    let folder = Path::new(env!("CARGO_TARGET_TMPDIR"))
+/// The folder of its own in which a test of this name runs `host/prove`.
+fn place(name: &str) -> PathBuf {
+    Path::new(env!("CARGO_TARGET_TMPDIR"))
         .join("prove")
-        .join(name);
+        .join(name)
+}
+
+/// Runs a copy of `host/prove` there with these words, with this as `rt`, or without one.
+fn prove(name: &str, words: &[&str], rt: Option<&str>) -> Output {
+    let folder = place(name);
     let _ = fs::remove_dir_all(&folder);
     for part in ["host", "bin"] {
         fs::create_dir_all(folder.join(part)).unwrap();
+    }
+    for krate in listed().keys() {
+        fs::create_dir_all(folder.join("crates").join(krate)).unwrap();
     }
     fs::copy(root().join("crates.txt"), folder.join("crates.txt")).unwrap();
     fs::copy(root().join("host/prove"), folder.join("host/prove")).unwrap();
@@ -61,65 +80,78 @@ fn prove(name: &str, rt: Option<&str>) -> Output {
         }
     };
     let mut command = Command::new(folder.join("host/prove"));
-    command.env("PATH", path).output().expect("host/prove")
+    command.args(words).env("PATH", path);
+    command.output().expect("host/prove")
 }
+
+/// A stand-in that answers as `rt lib` and `rt run` do in a crate's folder.
+const GOOD: &str = "\
+name=${PWD##*/}
+case \"$1 $name\" in 'run cutcard') made=cutcard ;; 'run '*) exit 9 ;; lib*) made=libstand.a ;; *) exit 9 ;; esac
+[ $# = 1 ] || exit 9
+echo \"fn $name::f: proved\"
+case $name in stand|cutcard) mkdir -p out && echo \"made of $name\" > out/$made ;; esac";
 
 #[test]
 fn every_crate_is_counted() {
     let _held = ONE_AT_A_TIME.lock();
-    let list = fs::read_to_string(root().join("crates.txt")).unwrap();
-    let mut crates = BTreeSet::new();
-    needed(&list, "stand", &mut crates);
-    let all = crates.len();
-    assert!(all > 10 && !crates.contains("cutfile"));
-    let out = prove(
-        "good",
-        Some(
-            "[ $1 = check ] || { [ \"$*\" = 'staticlib stand' ]; exit; }\n\
-             shift\nfor each; do echo \"fn $each::f: proved\"; echo \"rt: $each proved (2 s)\"; done",
-        ),
-    );
-    assert!(out.status.success() && out.stderr.is_empty(), "{out:?}");
-    let wrote = text(out.stdout);
-    let lines: Vec<&str> = wrote.lines().collect();
-    assert_eq!(lines.len(), all + 1, "{wrote}");
-    let mut proved = BTreeSet::from(["stand".to_string()]);
-    for (index, line) in lines[1..all].iter().enumerate() {
-        let (name, rest) = line.split_once(' ').unwrap();
-        assert_eq!(
-            rest,
-            format!("proved (2 s), {} of {all} crates left", all - 1 - index)
-        );
-        proved.insert(name.to_string());
+    let list = listed();
+    for (top, words, made) in [
+        ("stand", &[][..], "target/staticlib/libstand.a"),
+        ("cutcard", &["cutcard"][..], "target/bin/cutcard"),
+    ] {
+        let mut crates = BTreeSet::new();
+        needed(&list, top, &mut crates);
+        let all = crates.len();
+        assert!(all > 10 && crates.contains("cutfile") == (top == "cutcard"));
+        let out = prove(top, words, Some(GOOD));
+        assert!(out.status.success() && out.stderr.is_empty(), "{out:?}");
+        let wrote = text(out.stdout);
+        let lines: Vec<&str> = wrote.lines().collect();
+        assert_eq!(lines.len(), all + 2, "{wrote}");
+        let mut proved = BTreeSet::new();
+        for (index, line) in lines[1..=all].iter().enumerate() {
+            let (name, rest) = line.split_once(" proved (").unwrap();
+            let (seconds, rest) = rest.split_once(" s), ").unwrap();
+            assert!(seconds.parse::<u32>().is_ok(), "{line}");
+            assert_eq!(rest, format!("{} of {all} crates left", all - 1 - index));
+            let needs: BTreeSet<String> = list[name].iter().cloned().collect();
+            assert!(needs.is_subset(&proved), "{name} is too early:\n{wrote}");
+            proved.insert(name.to_string());
+        }
+        assert_eq!(proved, crates);
+        let end = format!("all {all} crates are proved, and {made} is built");
+        assert_eq!(lines[all + 1], end);
+        let copied = fs::read_to_string(place(top).join(made)).unwrap();
+        assert_eq!(copied, format!("made of {top}\n"));
+        let log = fs::read_to_string(place(top).join("target/prove.log")).unwrap();
+        assert_eq!(log.lines().count(), all, "{log}");
     }
-    assert_eq!(proved, crates);
-    assert!(lines[all].starts_with(&format!("all {all} crates are proved")));
 }
 
 #[test]
 fn what_is_not_proved_is_shown() {
     let _held = ONE_AT_A_TIME.lock();
-    for (name, rt) in [
-        (
-            "crate",
-            "echo 'rt: line NOT PROVED (exit 1, 3 s)' >&2; exit 1",
-        ),
-        (
-            "library",
-            "[ $1 = check ] || { echo 'rt: stand NOT PROVED'; exit 1; }",
-        ),
-    ] {
-        let out = prove(name, Some(rt));
+    for (name, fails) in [("crate", "line"), ("library", "stand")] {
+        let stop =
+            format!("[ ${{PWD##*/}} = {fails} ] && {{ echo 'rt: NOT PROVED' >&2; exit 1; }}");
+        let out = prove(name, &[], Some(&format!("{stop}\n{GOOD}")));
         assert_eq!(out.status.code(), Some(1));
         let said = text(out.stderr);
         assert!(
-            said.contains("NOT PROVED") && said.contains("the lines above say why"),
+            said.contains("NOT PROVED")
+                && said.contains(&format!("{fails} is not proved"))
+                && said.contains("the lines above say why"),
             "{said}"
         );
+        assert!(!place(name).join("target/staticlib/libstand.a").exists());
     }
-    let out = prove("none", None);
+    let out = prove("none", &[], None);
     assert_eq!(out.status.code(), Some(2));
     assert!(text(out.stderr).contains("is not on the PATH"));
+    let out = prove("word", &["stands"], Some(GOOD));
+    assert_eq!(out.status.code(), Some(2));
+    assert!(text(out.stderr).contains("usage"));
 }
 
 #[test]

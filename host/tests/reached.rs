@@ -58,7 +58,7 @@ fn source(path: &Path, comment: &str) -> String {
 }
 
 fn in_name(c: char) -> bool {
-    c.is_alphanumeric() || "-_′″'·".contains(c)
+    c.is_alphanumeric() || "-_′″'".contains(c)
 }
 
 /// The words of a text: names, with what stands before a dot in front of them. A field that is read,
@@ -80,12 +80,10 @@ fn words(text: &str) -> Vec<String> {
     found
 }
 
-/// The module that a path such as `Rattle·plane.specs.Plane` or `Rattle·plane·specs.specs.Plane`
-/// names, where it is one of this repository.
+/// The module that a path such as `Rattle.plane.specs.Plane` names, be it of this repository or not.
 fn module_of(path: &str) -> Option<String> {
-    let path = path.strip_prefix("Rattle·")?;
-    let (owner, rest) = path.split_once('.')?;
-    let name = owner.split('·').next()?;
+    let path = path.strip_prefix("Rattle.")?;
+    let (name, rest) = path.split_once('.')?;
     if rest.contains(".declared.") {
         return None; // A type of the code.
     }

@@ -48,42 +48,42 @@ mod with {
     const HEAD: &str = "\
 -- Small pictures, and what mask.rs says of them: the definitions say the same.
 -- Assumes nothing.
-use mathlib.Core.Bool.{Bool, true, false, cond, not, _&&_}
-use mathlib.Core.List.{List, [], _∷_, map}
-use Prim.Native.Nat.{ℕ, _*_}
+use mathlib.Core.Bool.{Bool, true, false, cond, not, ◌&&◌}
+use mathlib.Core.List.{List, [], ◌∷◌, map}
+use Prim.Native.Nat.{ℕ, ◌*◌}
 use lib.IntN.{ℤ, pos, negsuc}
 use lib.Dec.{T, eqb}
 use lib.Ieee.{Float, binary64, lt, le, eq, add, sub, mul, div, neg, of_int, of_bits, to_bits}
-use Rattle·plane.specs.Plane.{on, bit, on_at, apart, within, table, rows_upto, plane_of, index_of}
-use Rattle·plane.specs.Search.{some_below, count_below, first_below, last_below}
-use Rattle·plane.specs.Mask.{is_on, mask_of, some_off}
-use Rattle·plane.specs.Box.{row_has, column_has, lesser_of, box_of, whole_of}
-use Rattle·plane.specs.Refusal.{room_for, refusal_of}
-use Rattle·line.specs.Walk.{lower}
-use Rattle·line.specs.Grid.{value_of, walk, upto, grid, plus}
-use Rattle·nearest.specs.Nearest.{row_cost, nearest, away, distance_to}
-use Rattle·squares.specs.Squares.{in_square}
-use Rattle·labels.specs.Labels.{beside, renamed, merge, join_two, join_with, join_upto, first_pixel}
-use Rattle·colour.specs.declared.Rgb.{Rgb}
-use Rattle·colour.specs.declared.Settings.{Settings}
-use Rattle·colour.specs.Number.{abs_of, larger, plus_zero, half_of}
-use Rattle·colour.specs.Colour.{difference_of, close_to, colour_ok, colours_ok, rgb_ok}
-use Rattle·colour.specs.Join.{joins_of}
-use Rattle·colour.specs.Settings.{passes_of, on_of}
-use Rattle·colour.specs.Weight.{weight_of}
-use Rattle·card.specs.declared.Card.{Card}
-use Rattle·card.specs.declared.Card.the-variants.{Border}
-use Rattle·card.specs.Hex.{hex_of, all_hex}
-use Rattle·card.specs.Card.{is_colour_text, text_channel, text_colour, card_of}
-use Rattle·median.specs.Median.{insert, sorted, placed, lower_middle, upper_middle, median_of}
-use Rattle·outline·specs.specs.Border.{row_pixels, inner_column, border_list, listed, on_border}
-use Rattle·outline·specs.specs.Border.{channel_at, colour_at, reference_channel, reference_of}
-use Rattle·outline·specs.specs.Ground.{is_close, close_plane, is_ground, ground_from, ground_of, count_on, found_from, is_found}
-use Rattle·outline·specs.specs.Growth.{near_ground, is_edge, is_shallow, is_deep, is_reach, body_from, joins_from}
-use Rattle·outline·specs.specs.Growth.{is_joining, pass_of, growth_of}
-use Rattle·outline·specs.specs.Cut.{Cut, alpha_mask, is_sought, is_keyed, grown_ground, cut_mask, weight_at, weights_of, crop_of, cut_of}
-use Rattle·outline·specs.specs.Refusal.{work_tests, picture_tests, cut_lengths, cut_contents, cut_refusal}
-use Rattle·outline·specs.specs.Calls.{cut_in}
+use Rattle.plane.specs.Plane.{on, bit, on_at, apart, within, table, rows_upto, plane_of, index_of}
+use Rattle.plane.specs.Search.{some_below, count_below, first_below, last_below}
+use Rattle.plane.specs.Mask.{is_on, mask_of, some_off}
+use Rattle.plane.specs.Box.{row_has, column_has, lesser_of, box_of, whole_of}
+use Rattle.plane.specs.Refusal.{room_for, refusal_of}
+use Rattle.line.specs.Walk.{lower}
+use Rattle.line.specs.Grid.{value_of, walk, upto, grid, plus}
+use Rattle.nearest.specs.Nearest.{row_cost, nearest, away, distance_to}
+use Rattle.squares.specs.Squares.{in_square}
+use Rattle.labels.specs.Labels.{beside, renamed, merge, join_two, join_with, join_upto, first_pixel}
+use Rattle.colour.specs.declared.Rgb.{Rgb}
+use Rattle.colour.specs.declared.Settings.{Settings}
+use Rattle.colour.specs.Number.{abs_of, larger, plus_zero, half_of}
+use Rattle.colour.specs.Colour.{difference_of, close_to, colour_ok, colours_ok, rgb_ok}
+use Rattle.colour.specs.Join.{joins_of}
+use Rattle.colour.specs.Settings.{passes_of, on_of}
+use Rattle.colour.specs.Weight.{weight_of}
+use Rattle.card.specs.declared.Card.{Card}
+use Rattle.card.specs.declared.Card.TheVariants.{Border}
+use Rattle.card.specs.Hex.{hex_of, all_hex}
+use Rattle.card.specs.Card.{is_colour_text, text_channel, text_colour, card_of}
+use Rattle.median.specs.Median.{insert, sorted, placed, lower_middle, upper_middle, median_of}
+use Rattle.outline.specs.Border.{row_pixels, inner_column, border_list, listed, on_border}
+use Rattle.outline.specs.Border.{channel_at, colour_at, reference_channel, reference_of}
+use Rattle.outline.specs.Ground.{is_close, close_plane, is_ground, ground_from, ground_of, count_on, found_from, is_found}
+use Rattle.outline.specs.Growth.{near_ground, is_edge, is_shallow, is_deep, is_reach, body_from, joins_from}
+use Rattle.outline.specs.Growth.{is_joining, pass_of, growth_of}
+use Rattle.outline.specs.Cut.{Cut, alpha_mask, is_sought, is_keyed, grown_ground, cut_mask, weight_at, weights_of, crop_of, cut_of}
+use Rattle.outline.specs.Refusal.{work_tests, picture_tests, cut_lengths, cut_contents, cut_refusal}
+use Rattle.outline.specs.Calls.{cut_in}
 
 same : List ℕ → List ℕ → Bool
 same [] [] = true
@@ -100,11 +100,11 @@ bits x = to_bits binary64 x
 settings : ℤ → Bool → ℤ → ℕ → Bool → Settings
 settings threshold key p tolerance crop =
     record {
-      «alpha_threshold» = threshold;
-      «key_bg» = key;
-      «key_bg_fringe» = p;
-      «key_bg_tolerance» = f64 tolerance;
-      «crop_to_alpha» = crop;
+      alpha_threshold = threshold;
+      key_bg = key;
+      key_bg_fringe = p;
+      key_bg_tolerance = f64 tolerance;
+      crop_to_alpha = crop;
     }
 
 rgb : ℕ → ℕ → ℕ → Rgb
@@ -116,24 +116,24 @@ refused colours alpha h w card s number =
     eqb (cut_refusal colours alpha h w card s (h * w) (h * w) (room_for h w) (room_for h w) (room_for h w) (room_for h w)) number
 
 -- a cut with this mask, these weights, this flag and this box
-isCut : Cut → List ℕ → List ℕ → Bool → List ℕ → Bool
-isCut c mask weights keyed box =
+is_cut : Cut → List ℕ → List ℕ → Bool → List ℕ → Bool
+is_cut c mask weights keyed box =
     same (c .mask) mask
     && same (map bits (c .weights)) weights
     && cond keyed (c .keyed) (not (c .keyed))
     && same (c .box .y0 ∷ c .box .y1 ∷ c .box .x0 ∷ c .box .x1 ∷ []) box
 
 -- accepted, with these
-cutIs : List Float → List ℕ → ℕ → ℕ → Card → Settings → List ℕ → List ℕ → Bool → List ℕ → Bool
-cutIs colours alpha h w card s mask weights keyed box =
-    refused colours alpha h w card s 0 && isCut (cut_in colours alpha h w card s) mask weights keyed box
+cut_is : List Float → List ℕ → ℕ → ℕ → Card → Settings → List ℕ → List ℕ → Bool → List ℕ → Bool
+cut_is colours alpha h w card s mask weights keyed box =
+    refused colours alpha h w card s 0 && is_cut (cut_in colours alpha h w card s) mask weights keyed box
 
-growthIs : List Float → Rgb → ℕ → ℕ → ℕ → List ℕ → List ℕ → Bool
-growthIs colours reference h w p back grown = same (growth_of colours reference h w p back) grown
+growth_is : List Float → Rgb → ℕ → ℕ → ℕ → List ℕ → List ℕ → Bool
+growth_is colours reference h w p back grown = same (growth_of colours reference h w p back) grown
 
 ";
 
-    const UNFOLDING: &str = "unfolding same f64 bits settings rgb refused isCut cutIs growthIs on bit on_at apart within \
+    const UNFOLDING: &str = "unfolding same f64 bits settings rgb refused is_cut cut_is growth_is on bit on_at apart within \
         table rows_upto plane_of index_of some_below count_below first_below last_below is_on mask_of some_off row_has column_has \
         lesser_of box_of whole_of refusal_of lower value_of walk upto grid plus row_cost nearest away distance_to in_square beside \
         renamed merge join_two join_with join_upto first_pixel abs_of larger plus_zero half_of difference_of close_to \
@@ -146,11 +146,11 @@ growthIs colours reference h w p back grown = same (growth_of colours reference 
 
     /// What the tests of looks use beside the rest.
     const LOOK_USE: &str =
-        "use Rattle·next_pass·specs.specs.NextPass.{next_background, newly_on, joins_in}\n";
+        "use Rattle.next_pass.specs.NextPass.{next_background, newly_on, joins_in}\n";
 
     const LOOK: &str = "\
-lookIs : List Float → Rgb → ℕ → ℕ → List ℕ → List ℕ → ℕ → Bool
-lookIs colours reference h w back next joins =
+look_is : List Float → Rgb → ℕ → ℕ → List ℕ → List ℕ → ℕ → Bool
+look_is colours reference h w back next joins =
     same (next_background colours reference h w back) next && eqb (joins_in colours reference h w back) joins
 
 ";
@@ -330,7 +330,7 @@ lookIs colours reference h w back next joins =
         counted(count, &drawn, given, &theirs);
         let (y0, y1, x0, x1) = theirs.crop;
         format!(
-            "cutIs {arguments} {} {} {} {}",
+            "cut_is {arguments} {} {} {} {}",
             masked(&theirs.mask),
             list(theirs.weight.iter().map(|w| w.to_bits())),
             theirs.background_keyed,
@@ -400,7 +400,7 @@ lookIs colours reference h w back next joins =
         }
         let [r, g, b] = ZERO.map(f64::to_bits);
         format!(
-            "growthIs {} (rgb {r} {g} {b}) {h} {w} {p} {} {}",
+            "growth_is {} (rgb {r} {g} {b}) {h} {w} {p} {} {}",
             floats(&colours),
             list(&back),
             masked(&grown)
@@ -421,7 +421,7 @@ lookIs colours reference h w back next joins =
         count.joined += (joins > 0) as u32;
         let [r, g, b] = ZERO.map(f64::to_bits);
         format!(
-            "lookIs {} (rgb {r} {g} {b}) {h} {w} {} {} {joins}",
+            "look_is {} (rgb {r} {g} {b}) {h} {w} {} {} {joins}",
             floats(&colours),
             list(&back),
             masked(&next)
@@ -432,12 +432,11 @@ lookIs colours reference h w back next joins =
     fn looks(number: usize, seed: u64) {
         let mut random = Random(seed);
         let mut count = Count::default();
-        let head = HEAD.replace("Rattle·outline·specs.specs", "Rattle·outline.specs");
         print!(
             "{}{LOOK}",
-            head.replacen("\nsame :", &format!("{LOOK_USE}\nsame :"), 1)
+            HEAD.replacen("\nsame :", &format!("{LOOK_USE}\nsame :"), 1)
         );
-        let unfolding = format!("{UNFOLDING} lookIs next_background newly_on joins_in");
+        let unfolding = format!("{UNFOLDING} look_is next_background newly_on joins_in");
         for i in 0..number {
             let test = look(&mut random, &mut count);
             println!("\nt{i} : T ({test})\n{unfolding}\nt{i} = tt");
