@@ -22,7 +22,7 @@ const THEOREMS: [(&str, &str); 28] = [
     ("labels", "joined-label"),
     ("counts", "running-count"),
     ("outline", "cases-hold"),
-    ("card", "same-digits"),
+    ("card", "same_digits"),
     ("next_pass", "joins-zero"),
     ("next_pass", "no-join-ended"),
     ("next_pass", "no-join-same"),
