@@ -118,10 +118,10 @@ refused colours alpha h w card s number =
 -- a cut with this mask, these weights, this flag and this box
 is_cut : Cut → List ℕ → List ℕ → Bool → List ℕ → Bool
 is_cut c mask weights keyed box =
-    same (c .mask) mask
-    && same (map bits (c .weights)) weights
-    && cond keyed (c .keyed) (not (c .keyed))
-    && same (c .box .y0 ∷ c .box .y1 ∷ c .box .x0 ∷ c .box .x1 ∷ []) box
+    same c.mask mask
+    && same (map bits c.weights) weights
+    && cond keyed c.keyed (not c.keyed)
+    && same (c.box.y0 ∷ c.box.y1 ∷ c.box.x0 ∷ c.box.x1 ∷ []) box
 
 -- accepted, with these
 cut_is : List Float → List ℕ → ℕ → ℕ → Card → Settings → List ℕ → List ℕ → Bool → List ℕ → Bool
