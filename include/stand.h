@@ -3,7 +3,7 @@
  * coming pass, and the cut that turns a picture and five settings into mask, weights and
  * crop box. Where the card's colour is known, ground and cut can be given it.
  *
- * Link with libstand.a, which `rt staticlib stand` writes to target/staticlib/:
+ * Link with libstand.a, which host/prove proves and puts into target/staticlib/:
  *
  *     cc program.c -I include target/staticlib/libstand.a -o program
  *
