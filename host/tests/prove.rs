@@ -1,6 +1,7 @@
 //! `host/prove` with a stand-in for `rt`: it has all crates of the library, or of cutcard, proved, each
 //! after those that it needs, says after each how many are left, and shows what `rt` said where one is
-//! not proved. And `stand --version`, which says what came of it.
+//! not proved. `.ci/run` with one: it fails where `rt ci` does, and where a must-fail edit is bad. And
+//! `stand --version`, which says what came of it.
 
 use std::collections::{BTreeMap, BTreeSet};
 use std::fs;
@@ -51,6 +52,22 @@ fn place(name: &str) -> PathBuf {
         .join(name)
 }
 
+/// Puts this there as `rt`.
+fn stand_in(bin: &Path, script: &str) {
+    fs::write(bin.join("rt"), format!("#!/bin/sh\n{script}\n")).unwrap();
+    fs::set_permissions(bin.join("rt"), fs::Permissions::from_mode(0o755)).unwrap();
+}
+
+/// Puts these of the system's tools there.
+fn tools(bin: &Path, names: &[&str]) {
+    let own = std::env::var("PATH").expect("PATH");
+    for name in names {
+        let mut places = own.split(':').map(|place| Path::new(place).join(name));
+        let found = places.find(|path| path.is_file()).expect(name);
+        symlink(found, bin.join(name)).unwrap();
+    }
+}
+
 /// Runs a copy of `host/prove` there with these words, with this as `rt`, or without one.
 fn prove(name: &str, words: &[&str], rt: Option<&str>) -> Output {
     let folder = place(name);
@@ -66,16 +83,11 @@ fn prove(name: &str, words: &[&str], rt: Option<&str>) -> Output {
     let (bin, own) = (folder.join("bin"), std::env::var("PATH").expect("PATH"));
     let path = match rt {
         Some(script) => {
-            fs::write(bin.join("rt"), format!("#!/bin/sh\n{script}\n")).unwrap();
-            fs::set_permissions(bin.join("rt"), fs::Permissions::from_mode(0o755)).unwrap();
+            stand_in(&bin, script);
             format!("{}:{own}", bin.display())
         }
         None => {
-            for tool in ["bash", "dirname"] {
-                let mut places = own.split(':').map(|place| Path::new(place).join(tool));
-                let found = places.find(|path| path.is_file()).expect(tool);
-                symlink(found, bin.join(tool)).unwrap();
-            }
+            tools(&bin, &["bash", "dirname"]);
             bin.display().to_string()
         }
     };
@@ -152,6 +164,49 @@ fn what_is_not_proved_is_shown() {
     let out = prove("word", &["stands"], Some(GOOD));
     assert_eq!(out.status.code(), Some(2));
     assert!(text(out.stderr).contains("usage"));
+}
+
+/// With no cargo on the PATH.
+#[test]
+fn the_gate_fails_where_an_edit_is_bad() {
+    let _held = ONE_AT_A_TIME.lock();
+    let folder = place("gate");
+    let _ = fs::remove_dir_all(&folder);
+    let bin = folder.join("bin");
+    for part in [&bin, &folder.join(".ci")] {
+        fs::create_dir_all(part).unwrap();
+    }
+    fs::copy(root().join(".ci/run"), folder.join(".ci/run")).unwrap();
+    let used = [
+        "bash", "dirname", "grep", "mktemp", "rm", "sh", "tail", "tee",
+    ];
+    tools(&bin, &used);
+    let ok =
+        "rt: ok; handles allowed: none; must-fail edits: 61 refused, 2 of them only by a limit";
+    let last = "98 passed, 0 failed";
+    for (name, lines, status, ends) in [
+        ("good", format!("{ok}; every proof\n{last}"), 0, 0),
+        ("bad", format!("{ok}, 1 bad; every proof\n{last}"), 0, 1),
+        ("many", format!("{ok}, 12 bad; every proof\n{last}"), 0, 1),
+        ("none", last.to_string(), 0, 1),
+        (
+            "failed",
+            "rt: FAILED: plane\n97 passed, 1 failed".into(),
+            1,
+            1,
+        ),
+    ] {
+        let script = format!("[ \"$*\" = ci ] || exit 9\necho '{lines}'\nexit {status}");
+        stand_in(&bin, &script);
+        let mut command = Command::new(folder.join(".ci/run"));
+        let out = command.env("PATH", &bin).output().expect(".ci/run");
+        assert_eq!(out.status.code(), Some(ends), "{name}: {out:?}");
+        let wrote = text(out.stdout);
+        if ends == 0 {
+            assert_eq!(wrote.lines().last(), Some(last));
+        }
+        assert!(wrote.starts_with(&lines), "{name}: {wrote}");
+    }
 }
 
 #[test]
