@@ -8,11 +8,26 @@ use std::fs;
 use std::os::unix::fs::{symlink, PermissionsExt};
 use std::path::{Path, PathBuf};
 use std::process::{Command, Output};
-use std::sync::Mutex;
+use std::sync::{LockResult, Mutex, MutexGuard};
+
+static ONE_AT_A_TIME: Mutex<()> = Mutex::new(());
 
 /// Held by each test: a script cannot be run while a process that another test starts still has it
-/// open for writing.
-static ONE_AT_A_TIME: Mutex<()> = Mutex::new(());
+/// open for writing. At its end the folders of the tests are taken away.
+struct Held {
+    _one: LockResult<MutexGuard<'static, ()>>,
+}
+
+fn held() -> Held {
+    let _one = ONE_AT_A_TIME.lock();
+    Held { _one }
+}
+
+impl Drop for Held {
+    fn drop(&mut self) {
+        let _ = fs::remove_dir_all(folders());
+    }
+}
 
 fn root() -> PathBuf {
     Path::new(env!("CARGO_MANIFEST_DIR")).join("..")
@@ -45,11 +60,14 @@ fn needed(list: &BTreeMap<String, Vec<String>>, name: &str, found: &mut BTreeSet
     }
 }
 
+/// Where the folders of the tests are: outside the repository, below which `rt ci` takes no other crates.txt.
+fn folders() -> PathBuf {
+    std::env::temp_dir().join(format!("stand-prove-{}", std::process::id()))
+}
+
 /// The folder of its own in which a test of this name runs `host/prove`.
 fn place(name: &str) -> PathBuf {
-    Path::new(env!("CARGO_TARGET_TMPDIR"))
-        .join("prove")
-        .join(name)
+    folders().join(name)
 }
 
 /// Puts this there as `rt`.
@@ -106,7 +124,7 @@ case $name in stand|cutcard) mkdir -p out && echo \"made of $name\" > out/$made 
 
 #[test]
 fn every_crate_is_counted() {
-    let _held = ONE_AT_A_TIME.lock();
+    let _held = held();
     let list = listed();
     for (top, words, made) in [
         ("stand", &[][..], "target/staticlib/libstand.a"),
@@ -143,7 +161,7 @@ fn every_crate_is_counted() {
 
 #[test]
 fn what_is_not_proved_is_shown() {
-    let _held = ONE_AT_A_TIME.lock();
+    let _held = held();
     for (name, fails) in [("crate", "line"), ("library", "stand")] {
         let stop =
             format!("[ ${{PWD##*/}} = {fails} ] && {{ echo 'rt: NOT PROVED' >&2; exit 1; }}");
@@ -169,7 +187,7 @@ fn what_is_not_proved_is_shown() {
 /// With no cargo on the PATH.
 #[test]
 fn the_gate_fails_where_an_edit_is_bad() {
-    let _held = ONE_AT_A_TIME.lock();
+    let _held = held();
     let folder = place("gate");
     let _ = fs::remove_dir_all(&folder);
     let bin = folder.join("bin");
@@ -211,7 +229,7 @@ fn the_gate_fails_where_an_edit_is_bad() {
 
 #[test]
 fn the_version_names_the_library() {
-    let _held = ONE_AT_A_TIME.lock();
+    let _held = held();
     let out = Command::new(env!("CARGO_BIN_EXE_stand"))
         .arg("--version")
         .output()
