@@ -14,7 +14,14 @@ use std::path::{Path, PathBuf};
 const CALLS: [&str; 4] = ["geometry", "keying", "stand", "cutfile"];
 
 /// Theorems, by crate and name; and every public statement of these files.
-const THEOREMS: [(&str, &str); 28] = [
+const THEOREMS: [(&str, &str); 35] = [
+    ("geometry", "plane-number"),
+    ("geometry", "nearest-number"),
+    ("geometry", "fill-number"),
+    ("geometry", "crop-number"),
+    ("keying", "ground-number"),
+    ("keying", "growth-number"),
+    ("keying", "cut-number"),
     ("nearest", "nearest-some"),
     ("nearest", "nearest-none"),
     ("nearest", "nearest-is"),

@@ -4,7 +4,7 @@ use mathlib.Core.Path.{◌≡◌}
 use mathlib.Core.Bool.{true, false, cond}
 use mathlib.Core.List.{List}
 use mathlib.Core.Logic.{⊎_elim}
-use Prim.Native.Nat.{ℕ, ◌+◌, ◌-◌, ◌≤◌, ◌<◌}
+use Prim.Native.Nat.{ℕ, min, ◌+◌, ◌-◌, ◌≤◌, ◌<◌}
 use native.Mathlib.Omega.{arith}
 use lib.Dec.{leb}
 use borrow.Author.Tests.{leb-true, leb-false}
@@ -37,6 +37,9 @@ lesser-is a b =
     (λ (e : leb a b ≡ true). rw e (omega (arith, leb-true a b e)))
     (λ (e : leb a b ≡ false). rw e (omega (arith, leb-false a b e)))
     (either (leb a b))
+
+pub lesser-min : (a b : ℕ) → lesser_of a b ≡ min a b
+lesser-min a b = omega (arith, lesser-is a b)
 
 module _ (mask : List ℕ) (h w margin y x : ℕ) (row : y < h) (column : x < w) (pixel_on : on_at mask w y x ≡ true) where
   -- the box has every pixel of the mask,

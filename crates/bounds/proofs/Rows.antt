@@ -9,24 +9,36 @@ use native.Mathlib.Numerals.{add-one}
 use native.Mathlib.Omega.{arith}
 use lib.ListN.{length, get_or, take, drop, length-take, length-drop}
 use lib.Seq.{get_or-take, get_or-drop}
-use borrow.Author.Tests.{eq-eqb, ne_eqb}
+use lib.Dec.{ltb}
+use borrow.Author.Tests.{lt-ltb, le-ltb}
+use Rattle.std.proofs.Common.{Option, Some, None, unwrap_or, MatchOption}
+use Rattle.std.specs.List.{position, position_or_len}
+use Rattle.std.proofs.lemmas.List.Sums.{passes_at_first, fails_before_first}
 use Rattle.plane.specs.Plane.{on, on_at}
 use Rattle.plane.specs.Search.{some_below, first_below, last_below}
 use Rattle.plane.specs.Mask.{is_on}
 use Rattle.plane.specs.Box.{row_has, column_has}
-use Rattle.plane.proofs.Search.{either, some_same, some_is, some-found, none_is, none_found}
+use Rattle.plane.proofs.Search.{which, either, some_same, some_is, some-found, none_is, none_found}
 use Rattle.plane.proofs.Plane.{row_in}
-use Rattle.plane.proofs.Bounds.{first_below_lem, first-none, first-most, first-or, first_same, none_before}
-use Rattle.plane.proofs.Bounds.{last_none, last-most, last_or, last-same}
+use Rattle.plane.proofs.Bounds.{first_below_lem, first_is, first-none, first-most, first-or, first_same, none_before}
+use Rattle.plane.proofs.Bounds.{Last, last-is, last_none, last-most, last_or, last-same}
 
--- a byte that is 0 is off, any other on
-pub byte-on : (line : List ℕ) (i : ℕ) → (get_or line i 0 ≡ 0 → ⊥) → is_on line i ≡ true
-unfolding is_on on
-byte-on line i e = rw (ne_eqb (get_or line i 0) 0 e)
+-- the first place of a list that passes; its length where none does
+pub first_position : (p : ℕ → Bool) (xs : List ℕ) → unwrap_or (position p xs) (length xs) ≡ first_below (length xs) (λ (k : ℕ). p (get_or xs k 0))
+first_position p xs =
+    let i = position_or_len p xs in
+    let n = length xs in
+    let q : ℕ → Bool = λ k. p (get_or xs k 0) in
+    ⊎_elim {C = unwrap_or (cond (ltb i n) (Some i) None) n ≡ first_below n q}
+    (λ (l : i < n).
+    rw (lt-ltb i n l) (sym (first_is q n i (record { inside = l; holds = passes_at_first p xs 0 l; before = λ k m. fails_before_first p xs k 0 m }))))
+    (λ (l : n ≤ i). rw (le-ltb i n l) (sym (first-none q n (λ k m. fails_before_first p xs k 0 (omega arith)))))
+    (which i n)
 
-pub byte-off : (line : List ℕ) (i : ℕ) → get_or line i 0 ≡ 0 → is_on line i ≡ false
-unfolding is_on on
-byte-off line i e = rw (eq-eqb (get_or line i 0) 0 e)
+-- the last number below n of which p holds, that is told by an Option; 0 where there is none
+pub last_told : (p : ℕ → Bool) (n : ℕ) (r : Option ℕ) → MatchOption r ((k : ℕ) → k < n → p k ≡ false) (Last n p) → unwrap_or r 0 ≡ last_below n p
+last_told p n None none = sym (last_none p n none)
+last_told p n (Some i) found = sym (last-is p n i found)
 
 -- the last number below k + 1 of which p holds
 pub last_step : (p : ℕ → Bool) (n k : ℕ) (t : Bool) → n ≡ suc k → t ≡ p k → last_below n p ≡ cond t k (last_below k p)

@@ -7,21 +7,14 @@ ghost use Rattle.plane.specs.Search.{first_below, last_below};
 ghost use Rattle.plane.specs.Mask.{is_on};
 ghost use Rattle.plane.specs.Box.{row_has, column_has, box_of};
 
-// The first on-pixel of a line; its length where there is none.
+// The first on-pixel of a line; its length where there is none. In a long line without one `any` sees that sooner.
 fn first(line: &[u8]) -> usize
     ensures { result ≡ first_below (length line.now) (is_on line.now) }
 {
     if !plane::any(line) {
         return line.len();
     }
-    let mut i = 0usize;
-    while i < line.len() {
-        if line[i] != 0 {
-            return i;
-        }
-        i += 1;
-    }
-    i
+    line.iter().position(|m| *m != 0).unwrap_or(line.len())
 }
 
 // The last on-pixel of a line; 0 where there is none.
@@ -31,14 +24,7 @@ fn last(line: &[u8]) -> usize
     if !plane::any(line) {
         return 0;
     }
-    let mut i = line.len();
-    while 0 < i {
-        i -= 1;
-        if line[i] != 0 {
-            return i;
-        }
-    }
-    0
+    line.iter().rposition(|m| *m != 0).unwrap_or(0)
 }
 
 // The last row with an on-pixel; 0 where there is none.
@@ -46,37 +32,12 @@ fn last_row(mask: &[u8], h: usize, w: usize) -> usize
     requires { length mask.now ≡ h * w }
     ensures { result ≡ last_below h (row_has mask.now w) }
 {
-    let mut y = h;
-    while 0 < y {
-        y -= 1;
+    for y in (0..h).rev() {
         if plane::any(&mask[y * w..y * w + w]) {
             return y;
         }
     }
     0
-}
-
-// The margin before the first place, within the picture.
-fn start(at: usize, margin: usize) -> usize
-    ensures { result ≡ at - margin }
-{
-    if at < margin {
-        return 0;
-    }
-    at - margin
-}
-
-// The end of the last place and the margin behind it, within the picture.
-fn end(at: usize, margin: usize, side: usize) -> usize
-    requires at_le_longest_side { at ≤ longest_side }
-    requires margin_le_longest_side { margin ≤ longest_side }
-    ensures { result ≡ side - (side - (at + 1 + margin)) }
-{
-    let past = at + 1 + margin;
-    if side <= past {
-        return side;
-    }
-    past
 }
 
 // The box of a mask's on-pixels with a margin on each side, clamped to the picture. Of each row only what stands in front of
@@ -87,24 +48,22 @@ pub fn box_of(mask: &[u8], h: usize, w: usize, margin: usize) -> plane::Box
     requires margin_le_longest_side { margin ≤ longest_side }
     ensures { result ≡ box_of mask.now h w margin }
 {
-    let mut y0 = 0usize;
+    let mut y0 = 0;
     let mut x0 = w;
-    let mut x1 = 0usize;
-    let mut y = 0usize;
-    while y < h {
+    let mut x1 = 0;
+    for y in 0..h {
         let row = &mask[y * w..y * w + w];
         x0 = first(&row[..x0]);
-        x1 = x1 + last(&row[x1..]);
-        y += 1;
+        x1 += last(&row[x1..]);
         if x0 == w {
-            y0 = y;
+            y0 = y + 1;
         }
     }
     let y1 = last_row(mask, h, w);
     plane::Box {
-        y0: start(y0, margin),
-        y1: end(y1, margin, h),
-        x0: start(x0, margin),
-        x1: end(x1, margin, w),
+        y0: y0.saturating_sub(margin),
+        y1: h.min(y1 + 1 + margin),
+        x0: x0.saturating_sub(margin),
+        x1: w.min(x1 + 1 + margin),
     }
 }

@@ -8,8 +8,8 @@ use lib.Ieee.{binary64, to_bits, div, of_int}
 use Rattle.colour.specs.Weight.{weight_of}
 use Rattle.card.specs.Hex.{hex_of, all_hex}
 use Rattle.card.specs.Card.{is_colour_text, text_channel, text_colour, card_of, is_readable}
-use Rattle.card.specs.declared.Card.{Card}
-use Rattle.card.specs.declared.Card.TheVariants as card
+use Rattle.card.specs.Card.{Card}
+use Rattle.card.specs.Card.{Border, Given, Unreadable}
 
 all : List Bool → Bool
 all [] = true
@@ -17,9 +17,9 @@ all (b ∷ bs) = b && all bs
 
 -- a card has this colour, its channels by their bits
 is_colour : Card → ℕ → ℕ → ℕ → Bool
-is_colour card.Border r g b = false
-is_colour (card.Given c) r g b = eqb (to_bits binary64 c.r) r && eqb (to_bits binary64 c.g) g && eqb (to_bits binary64 c.b) b
-is_colour card.Unreadable r g b = false
+is_colour Border r g b = false
+is_colour (Given c) r g b = eqb (to_bits binary64 c.r) r && eqb (to_bits binary64 c.g) g && eqb (to_bits binary64 c.b) b
+is_colour Unreadable r g b = false
 
 -- a text is declined
 is_declined : List ℕ → Bool
@@ -58,7 +58,7 @@ cases =
     ∷ is_declined (holding 96)
     ∷ is_declined (holding 103)
     -- a cut without a colour is not declined for it
-    ∷ is_readable card.Border
+    ∷ is_readable Border
     ∷ []
 
 cases-hold : T (all cases)

@@ -1,7 +1,7 @@
 -- Laws of texts that name a colour: that only the values of their digits count, and that the channels of such a colour are from 0 to 1.
 -- Assumes nothing.
 use mathlib.Core.Path.{◌≡◌, refl, sym, ap, ◌∙◌}
-use mathlib.Core.Bool.{Bool, true, false, ◌&&◌}
+use mathlib.Core.Bool.{Bool, true, false, cond, ◌&&◌}
 use mathlib.Core.List.{List, [], ◌∷◌, map}
 use mathlib.Core.Logic.{⊎_elim}
 use Prim.Native.Nat.{ℕ, zero, suc, ◌+◌, ◌*◌, ◌≤◌, ◌<◌}
@@ -16,7 +16,11 @@ use Rattle.colour.specs.Colour.{colour_ok, rgb_ok}
 use Rattle.colour.proofs.Range.{rgb-from}
 use Rattle.colour.proofs.Bytes.{byte-ok}
 use Rattle.card.specs.Hex.{hex_of, all_hex}
-use Rattle.card.specs.Card.{is_colour_text, text_channel, text_colour, card_of}
+use Rattle.card.specs.Card.{is_colour_text, text_channel, text_colour, card_of, Given, Unreadable}
+use Rattle.card.specs.steps.Named.{colour_named, card_with}
+use Rattle.std.specs.Prelude.{Some, None}
+use Rattle.std.specs.Bool.{then_some}
+use Rattle.colour.specs.declared.Rgb.{Rgb}
 use Rattle.card.specs.steps.Range.{card_ok}
 
 -- every byte of a text of digits is one
@@ -52,6 +56,23 @@ card-ok text =
     (λ (e : is_colour_text text ≡ true). rw e (text-colour-ok text e))
     (λ (e : is_colour_text text ≡ false). rw e)
     (either (is_colour_text text))
+
+-- a text that names a colour is the card on which it is given, and any other is unreadable
+pub card-named : (text : List ℕ) (c : Rgb) → Some c ≡ colour_named text → card_of text ≡ card_with (Some c)
+unfolding card_of colour_named
+card-named text c e = at (is_colour_text text) e
+  where
+    at : (b : Bool) → Some c ≡ then_some b (text_colour text) → cond b (Given (text_colour text)) Unreadable ≡ Given c
+    at true f = cc
+    at false f = cc
+
+pub card-unnamed : (text : List ℕ) → None ≡ colour_named text → card_of text ≡ Unreadable
+unfolding card_of colour_named
+card-unnamed text e = at (is_colour_text text) e
+  where
+    at : (b : Bool) → None ≡ then_some b (text_colour text) → cond b (Given (text_colour text)) Unreadable ≡ Unreadable
+    at true f = cc
+    at false f = refl
 
 -- ---- letters of either case
 

@@ -4,8 +4,13 @@ use Rattle.std.specs.Prelude.{ℕ, ◌+◌, ◌*◌, Bool, true, false, cond, �
 use Rattle.colour.specs.declared.Rgb.{Rgb}
 use Rattle.colour.specs.Weight.{weight_of}
 use Rattle.card.specs.Hex.{hex_of, all_hex}
-use Rattle.card.specs.declared.Card.{Card}
-use Rattle.card.specs.declared.Card.TheVariants as card
+
+-- where the reference colour comes from (R81): the picture's border, where no colour is given; the colour that is given; or a text was
+-- given that names no colour
+pub data Card : Type 0 where
+  Border : Card
+  Given : Rgb → Card
+  Unreadable : Card
 
 -- a text names a colour (R81): it is six hexadecimal digits and nothing else
 unfoldable pub is_colour_text : List ℕ → Bool
@@ -21,10 +26,10 @@ text_colour text = record { r = text_channel text 0; g = text_channel text 1; b 
 
 -- the card of a text that was given (R81)
 unfoldable pub card_of : List ℕ → Card
-card_of text = cond (is_colour_text text) (card.Given (text_colour text)) card.Unreadable
+card_of text = cond (is_colour_text text) (Given (text_colour text)) Unreadable
 
 -- whether a card can be cut on (R82): no colour was given, or one that can be read
 abbrev pub is_readable : Card → Bool
-is_readable card.Border = true
-is_readable (card.Given colour) = true
-is_readable card.Unreadable = false
+is_readable Border = true
+is_readable (Given colour) = true
+is_readable Unreadable = false

@@ -1,1 +1,3 @@
+pub mod Digit
 pub mod Range
+pub mod Named

@@ -2,7 +2,7 @@
 -- is three tests, one for each channel.
 -- Assumes nothing.
 use mathlib.Core.Path.{◌≡◌, refl, sym, ap, ◌∙◌, subst}
-use mathlib.Core.Bool.{Bool, true, false, not, ◌&&◌, beq, cond, and_assoc}
+use mathlib.Core.Bool.{Bool, true, false, not, ◌&&◌, beq, cond, and_assoc, and-true}
 use mathlib.Core.List.{List, [], ◌∷◌, ◌++◌}
 use Prim.Native.Nat.{ℕ, zero, suc, ◌+◌, ◌*◌, ◌^◌, ◌<◌}
 use native.Mathlib.Nat.{le_of_suc-le-suc, not-suc-le-zero}
@@ -13,6 +13,7 @@ use lib.Ieee.{Float, nan, inf, fin, Format, binary64, up, down, low, prec, emax,
 use lib.Ieee.Bits.{is_true}
 use lib.Ieee.Fits.{and_l, and_r}
 use lib.Ieee.Scale.{finite}
+use Rattle.std.specs.Prelude.{fold}
 use Rattle.colour.specs.declared.Rgb.{Rgb}
 use Rattle.colour.specs.Number.{zero64, abs_of, larger}
 use Rattle.colour.specs.Colour.{difference_of, close_to, colour_ok, colours_ok, rgb_ok}
@@ -126,6 +127,12 @@ pub colours-all : (l : List Float) → ((i : ℕ) → i < length l → colour_ok
 unfolding colours_ok
 colours-all [] h = refl
 colours-all (x ∷ l) h = rw (h 0 (omega arith), colours-all l (λ i k. h (suc i) (omega arith)))
+
+-- a fold along a list tests it
+pub colours-fold : (ok : Bool) (l : List Float) → fold (λ (known : Bool) (x : Float). known && colour_ok x) ok l ≡ ok && colours_ok l
+unfolding colours_ok
+colours-fold ok [] = sym (and-true ok)
+colours-fold ok (x ∷ l) = colours-fold (ok && colour_ok x) l ∙ and_assoc ok (colour_ok x) (colours_ok l)
 
 -- two lists in a row are in range exactly when each is
 pub colours-append : (l m : List Float) → colours_ok (l ++ m) ≡ colours_ok l && colours_ok m

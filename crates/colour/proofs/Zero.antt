@@ -2,9 +2,9 @@
 -- gives the same number. `Alike x y`: x and y are the same number, up to the sign of a zero.
 -- Assumes nothing.
 use mathlib.Core.Path.{◌≡◌, refl, sym, ap, ◌∙◌, subst}
-use mathlib.Core.Bool.{Bool, true, false, not, ◌&&◌, ◌||◌, beq, cond}
+use mathlib.Core.Bool.{Bool, true, false, ◌&&◌, ◌||◌, beq, cond}
 use Prim.Native.Nat.{ℕ, zero, suc, ◌*◌, ◌^◌, ◌<◌}
-use native.Mathlib.Nat.{zero-mul, mul-zero, zero-add, add-zero, sub-zero, sub_self, le_refl, mul-pos, mul_comm, mul_assoc}
+use native.Mathlib.Nat.{zero-mul, mul-zero, zero-add, add-zero, sub-zero, mul-pos, mul_comm, mul_assoc}
 use native.Mathlib.Nat.{mul_left_comm}
 use native.Mathlib.Omega.{arith}
 use lib.IntN.{ℤ, pos}
@@ -15,7 +15,7 @@ use lib.Ieee.{to_bits, of_bits, low, unlike}
 use lib.Ieee.Bits.{of_bits-to_bits}
 use lib.Ieee.Fits.{up_pos, down_pos, and_l, and_r}
 use lib.Ieee.Nearest.{div_same}
-use lib.Ieee.Scale.{round_same, finite}
+use lib.Ieee.Scale.{round_same}
 use Rattle.colour.specs.Number.{zero64, plus_zero}
 
 -- x with a zero's sign cleared
@@ -290,20 +290,6 @@ eq-alike f (fin s m e) (fin t n d) a b h =
     let j = n * up d * down e in
     fin-alike f s m e t n d a b (eqb→eq i j (and_l (eqb i j) (beq s t || eqb i 0) h))
     (and_r (eqb (m * up e * down d) (n * up d * down e)) (beq s t || eqb (m * up e * down d) 0) h)
-
--- ---- x - x is 0 exactly where x is finite
-self-zero : (f : Format) (s : Bool) (a c : ℕ) → 0 < c → sum f s a (not s) a c ≡ fin false 0 (pos 0)
-unfolding sum
-self-zero f true a c h = rw (le-ltb a a (le_refl a), sub_self a) (round-zero f false c h)
-self-zero f false a c h = rw (le-ltb a a (le_refl a), sub_self a) (round-zero f false c h)
-
-pub finite-test : (x : Float) → eq (sub binary64 x x) zero64 ≡ finite x
-unfolding sub add neg of_bits eq
-finite-test nan = refl
-finite-test (inf true) = refl
-finite-test (inf false) = refl
-finite-test (fin s m e) =
-    ap (λ (z : Float). eq z zero64) (self-zero binary64 s (m * up e * down e) (down e * down e) (mul-pos (down_pos e) (down_pos e)))
 
 -- ---- a zero as +0
 -- numbers that are alike have one plus_zero

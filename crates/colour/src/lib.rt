@@ -31,14 +31,14 @@ pub struct Settings {
     pub crop_to_alpha: bool,
 }
 
-// The absolute value, by a comparison and a negation.
+// The absolute value, by a comparison and a negation. Not f64::abs: -0 stays -0.
 pub fn abs(x: f64) -> f64
     ensures { result ≡ abs_of x }
 {
     if x < 0.0 { -x } else { x }
 }
 
-// y where x < y, else x.
+// y where x < y, else x. Not f64::max: where x is a NaN the answer is x.
 fn larger_of(x: f64, y: f64) -> f64
     ensures { result ≡ larger x y }
 {
@@ -87,42 +87,36 @@ const BLOCK: usize = 256;
 fn block_ok(colours: &[f64]) -> bool
     ensures { result ≡ colours_ok colours.now }
 {
-    let mut ok = true;
-    for i in 0..colours.len() {
-        ok = ok & colour_ok(colours[i]);
-    }
-    ok
+    colours.iter().fold(true, |ok, x| ok & colour_ok(*x))
 }
 
 // Whether every number is from 0 to 1. No block after the first that has another number is read.
 pub fn colours_ok(colours: &[f64]) -> bool
     ensures { Checked colours.now result }
 {
-    let mut i = 0usize;
-    while BLOCK <= colours.len() - i {
-        if !block_ok(&colours[i..i + BLOCK]) {
+    for block in colours.chunks(BLOCK) {
+        if !block_ok(block) {
             return false;
         }
-        i += BLOCK;
     }
-    block_ok(&colours[i..colours.len()])
+    true
 }
 
 // Whether x is neither an infinity nor a NaN.
 pub fn is_finite(x: f64) -> bool
     ensures { result ≡ finite x }
 {
-    x - x == 0.0
+    x.is_finite()
 }
 
-// A zero as +0, and any other number as it is.
+// A zero as +0, and any other number as it is. No method of f64 does that.
 pub fn plus_zero(x: f64) -> f64
     ensures { result ≡ plus_zero x }
 {
     if x == 0.0 { 0.0 } else { x }
 }
 
-// Half of the sum of two numbers.
+// Half of the sum of two numbers. Not f64::midpoint: the sum is rounded, and then the half.
 pub fn half(lo: f64, hi: f64) -> f64
     ensures { result ≡ half_of lo hi }
 {
@@ -133,10 +127,7 @@ pub fn half(lo: f64, hi: f64) -> f64
 pub fn count_of(p: i64) -> u64
     ensures { result ≡ at_least_zero p }
 {
-    if p < 0 {
-        return 0;
-    }
-    p as u64
+    u64::try_from(p).unwrap_or(0)
 }
 
 // The passes of growth that the settings ask for.

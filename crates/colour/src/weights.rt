@@ -1,4 +1,4 @@
-// Weights: a table of 256 f64 whose entry v is v / 255, rounded once.
+// Weights: a table of 256 f64 whose entry v is v / 255, rounded once. It is written out, as no const fn can fill a table of floats.
 ghost use Rattle.std.specs.Prelude.{◌≡◌};
 ghost use Rattle.colour.specs.Weight.{weight_of};
 

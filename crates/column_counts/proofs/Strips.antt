@@ -1,19 +1,28 @@
 -- Laws of the pass down the columns: the counts of a strip, and the plane that is written.
 -- Assumes nothing.
-use Rattle.std.proofs.Common.{◌≡◌, ℕ, ◌+◌, ◌-◌, ◌*◌, ◌<◌, ◌≤◌, Bool, List, length, get_or, take, drop, sym, ap, ◌∙◌, ⊎_elim, arith}
+use Rattle.std.proofs.Common.{◌≡◌, ℕ, ◌+◌, ◌-◌, ◌*◌, ◌<◌, ◌≤◌, Bool, Option, Some, None, List, length, get_or, take, sym, ap, ◌∙◌, ⊎_elim, arith}
 use borrow.Rule.Slice.PartMut.{put_mid}
-use Rattle.plane.specs.Plane.{on, bit, on_at}
+use Rattle.plane.specs.Plane.{on, bit, on_at, table}
 use Rattle.plane.specs.Mask.{is_on, mask_of}
 use Rattle.plane.specs.steps.Sides.{longest_side}
 use Rattle.plane.proofs.Search.{which}
-use Rattle.plane.proofs.Plane.{row_in, table-length, table_at, plane-is}
+use Rattle.plane.proofs.Plane.{row_in, table-length, table_at, table_is, plane-is}
 use Rattle.plane.proofs.Mask.{mask_at}
-use Rattle.counts.specs.Running.{window_count}
-use Rattle.counts.specs.steps.Parts.{full_byte, rest_of, changed, moved_line}
-use Rattle.column_counts.specs.steps.Columns.{on_down, column_byte, dilated_columns, balanced_low, balanced_rest}
-use Rattle.column_counts.specs.steps.Columns.{Balanceable, Counted, Swept}
+use Rattle.counts.specs.Running.{window_count, enters, leaves}
+use Rattle.counts.specs.steps.Parts.{step_by, full_byte, rest_of, changed, moved_line}
+use Rattle.column_counts.specs.steps.Columns.{on_down, strip_row, column_byte, dilated_columns, balanced_low, balanced_rest}
+use Rattle.column_counts.specs.steps.Columns.{Balanceable, Counted}
+use Rattle.column_counts.specs.declared.columns.Strip.{Strip}
+use Rattle.column_counts.specs.steps.Strip.{on_strip, moves, MovedRow, Followed, Swept}
+use Rattle.counts.specs.declared.Change.{Change}
+use Rattle.counts.specs.declared.Change.TheVariants as change_is
+use Rattle.std.specs.Bool.{then_some}
+use Rattle.std.specs.Option.{SomeIff}
+use Rattle.std.proofs.Common.{true, false, ◌&&◌, ltb, refl, lt-ltb, le-ltb, replicate}
+use Rattle.std.proofs.Common.{rules}
+use Rattle.std.proofs.lemmas.List.{places, get_or-replicate, get_or-take}
 use Rattle.counts.proofs.Counting.{window-some}
-use Rattle.counts.proofs.Parts.{split-new, split-later, split-enter, split-leave, split-test}
+use Rattle.counts.proofs.Parts.{not-moved, split-new, split-later, split-enter, split-leave, split-test}
 use Rattle.counts.proofs.Put.{part_at, put-length, put_front, put-part, put_back}
 
 -- ---- rows that enter and leave
@@ -23,13 +32,11 @@ pub strip-in : (j c n h w : ℕ) → j < h → c + n ≤ w → j * w + c + n ≤
 strip-in j c n h w a b = omega (arith, row_in j h w a)
 
 -- the part of row j from column c on has the pixels of these columns
-pub strip-pixel : (plane : List ℕ) (n j w c x : ℕ) → x < n
-    → let s = j * w + c in is_on (take (s + n - s) (drop s plane)) x ≡ on_down plane w (c + x) j
+pub strip-pixel : (plane : List ℕ) (w c n j x : ℕ) → x < n → is_on (strip_row plane w c n j) x ≡ on_down plane w (c + x) j
 unfolding is_on on_at
-strip-pixel plane n j w c x l =
-    let s = j * w + c in
-    let q : s + x ≡ j * w + (c + x) = omega arith in
-    ap on (part_at plane s (s + n - s) x (omega arith) ∙ ap (λ (y : ℕ). get_or plane y 0) q)
+strip-pixel plane w c n j x l =
+    let q : j * w + c + x ≡ j * w + (c + x) = omega arith in
+    ap on (part_at plane (j * w + c) n x l ∙ ap (λ (y : ℕ). get_or plane y 0) q)
 
 -- a line of bytes that is moved: its length, and each byte
 pub moved_length : (line : List ℕ) (change : ℕ) (low : List ℕ) → length (moved_line line change low) ≡ length low
@@ -40,6 +47,66 @@ pub moved_at : (line : List ℕ) (change : ℕ) (low : List ℕ) (x : ℕ) → x
     → get_or (moved_line line change low) x 0 ≡ changed (get_or low x 0) (is_on line x) change
 unfolding moved_line
 moved_at line change low x l = table_at (λ (y : ℕ). changed (get_or low y 0) (is_on line y) change) (length low) x 0 l
+
+-- ---- rows of a strip
+
+module _ (s : Strip) where
+  module _ {j : Option ℕ} (change : Change) {low : List ℕ} where
+    -- a row that is there moves the bytes, and one that is not leaves them as they are
+    pub row-moved : {i : ℕ} {row low' : List ℕ} → j ≡ Some i → length low ≡ s.n → row ≡ strip_row s.plane.now s.w s.c s.n i
+        → low' ≡ moved_line row (step_by change) low → MovedRow s j change low low'
+    row-moved {i} {row} q size here made =
+        rw q
+        (record {
+          each =
+              λ x l.
+              ap (λ (u : List ℕ). get_or u x 0) made
+              ∙ moved_at row (step_by change) low x l
+              ∙ ap (λ (t : Bool). changed (get_or low x 0) t (step_by change))
+              (ap (λ (u : List ℕ). is_on u x) here ∙ strip-pixel s.plane.now s.w s.c s.n i x (omega arith));
+        })
+
+    pub none-moved : j ≡ None → ((x : ℕ) → get_or low x 0 < 256) → MovedRow s j change low low
+    none-moved q small = rw q (record { each = λ x l. sym (not-moved (get_or low x 0) (step_by change) (small x)) })
+
+  module _ (y x : ℕ) where
+    -- the row that enters at the step to row y, and the one that leaves
+    pub moves-enter : {j : Option ℕ} → j ≡ then_some (ltb (y + s.k) s.h) (y + s.k) → moves s j x ≡ enters s.h s.k (on_strip s x) y
+    unfolding enters
+    moves-enter q = rw q (go (ltb (y + s.k) s.h))
+      where
+        go : (t : Bool) → moves s (then_some t (y + s.k)) x ≡ t && on_strip s x (y + s.k)
+        go true = refl
+        go false = refl
+
+    pub moves-leave : (j : Option ℕ) → SomeIff j (s.k + 1 ≤ y) (y - (s.k + 1)) → moves s j x ≡ leaves s.k (on_strip s x) y
+    unfolding leaves
+    moves-leave None none =
+        let l : y ≤ s.k = ⊎_elim (λ (a : s.k < y). absurd (none (omega arith))) (λ (a : y ≤ s.k). a) (which s.k y) in
+        rw (le-ltb s.k y l)
+    moves-leave (Some j) some = rw (lt-ltb s.k y (omega (arith, some.0)), some.1)
+
+  -- both of them have moved the bytes
+  pub rows-followed : (y : ℕ) {j i : Option ℕ} {low mid low' out : List ℕ} → j ≡ then_some (ltb (y + s.k) s.h) (y + s.k)
+      → SomeIff i (s.k + 1 ≤ y) (y - (s.k + 1)) → length mid ≡ length low → MovedRow s j change_is.Enters low mid
+      → MovedRow s i change_is.Leaves mid low' → out ≡ mask_of (length low) (is_on low') → Followed s y low low' out
+  rows-followed y {j} {i} q r long a b made = record {
+    each = λ x l. b.each x (omega arith) ∙ rw (a.each x l, moves-enter y x q, moves-leave y x i r);
+    tested = made;
+  }
+
+-- ---- lines that are moved twice
+
+-- each byte of a line after a line has entered and one has left, in turn
+abbrev pub twice_moved : List ℕ → List ℕ → List ℕ → ℕ → ℕ
+twice_moved enter leave low x = changed (changed (get_or low x 0) (is_on enter x) 1) (is_on leave x) 255
+
+pub twice-moved : (enter leave low : List ℕ) → moved_line leave 255 (moved_line enter 1 low) ≡ table (twice_moved enter leave low) 0 (length low)
+twice-moved enter leave low =
+    let one = moved_line enter 1 low in
+    let size = moved_length enter 1 low in
+    table_is _ (length low) (moved_line leave 255 one) 0 (moved_length leave 255 one ∙ size)
+    (λ i g. moved_at leave 255 one i (omega arith) ∙ rw (moved_at enter 1 low i g))
 
 -- ---- the counts of a strip
 
@@ -104,6 +171,22 @@ unfolding is_on
 column-tested plane h w k c y {low} n l x g =
     mask_at (length low) (is_on low) x g ∙ ap bit (split-test (n.each x g) l ∙ window-some k y (on_down plane w (c + x)) h)
 
+-- counts of 0 for n columns
+pub zeros-long : (n : ℕ) → n ≤ 4096 → length (take n (replicate {A = ℕ} 4096 0)) ≡ n
+zeros-long n l = search (rules, places)
+
+pub zeros-counted : (n : ℕ) → n ≤ 4096 → Counted (λ (x : ℕ). 0) 0 (take n (replicate 4096 0)) (take n (replicate 4096 0))
+zeros-counted n l =
+    let long = zeros-long n l in
+    record {
+      size = refl;
+      each =
+          λ x g.
+          let z : get_or (take n (replicate {A = ℕ} 4096 0)) x 0 ≡ 0 =
+          get_or-take n _ x 0 (omega arith) ∙ get_or-replicate 4096 x 0 0 (omega arith) in
+          rw z (split-new 0);
+    }
+
 -- ---- the plane that is written, row by row of a strip
 
 -- row y of the strip is put into its place
@@ -112,18 +195,25 @@ module _ {plane new : List ℕ} {h w k c n y : ℕ} (t : Swept plane h w k c (c 
   abbrev s : ℕ
   s = y * w + c
 
+  abbrev m : ℕ
+  m = s + n - s
+
   abbrev put : List ℕ
-  put = put_mid s (s + n - s) new row
+  put = put_mid s m new row
+
+  fits : s + m ≤ length new
+  fits = omega (arith, strip-in y c n h w low inside, t.size)
+
+  fill : length row ≡ m
+  fill = omega arith
 
   -- elsewhere the plane is as it was
   elsewhere : (j x : ℕ) → x < w → (j ≡ y → x < c) → get_or put (j * w + x) 0 ≡ get_or new (j * w + x) 0
   elsewhere j x l d =
-      let room = strip-in y c n h w low inside in
-      let fits : s + n ≤ length new = omega (arith, t.size) in
       ⊎_elim {C = get_or put (j * w + x) 0 ≡ get_or new (j * w + x) 0}
-      (λ (a : y < j). (let r = row_in y j w a in put_back s (s + n) new row fits (omega arith) (j * w + x) (omega arith)))
+      (λ (a : y < j). (let r = row_in y j w a in put_back s m new row fits fill (j * w + x) (omega arith)))
       (λ (a : j ≤ y).
-      put_front s (s + n) new row fits (omega arith) (j * w + x)
+      put_front s m new row fits fill (j * w + x)
       (⊎_elim {C = j * w + x < s}
       (λ (b : j < y). (let r = row_in j y w b in omega arith))
       (λ (b : y ≤ j). (let e : j ≡ y = omega arith in let g = d e in rw e (omega arith)))
@@ -131,13 +221,11 @@ module _ {plane new : List ℕ} {h w k c n y : ℕ} (t : Swept plane h w k c (c 
       (which y j)
 
   pub row-swept : Swept plane h w k c (c + n) (y + 1) put
-  row-swept =
-      let fits : s + n ≤ length new = omega (arith, strip-in y c n h w low inside, t.size) in
-      record {
-        size = put-length s (s + n) new row fits (omega arith) ∙ t.size;
-        before = λ j x l g. elsewhere j x (omega arith) (λ e. g) ∙ t.before j x l g;
-        done = λ j x l g. done j x (omega arith) g;
-      }
+  row-swept = record {
+    size = put-length s m new row fits fill ∙ t.size;
+    before = λ j x l g. elsewhere j x (omega arith) (λ e. g) ∙ t.before j x l g;
+    done = λ j x l g. done j x (omega arith) g;
+  }
     where
       done : (j x : ℕ) → j ≤ y → x < c + n → get_or put (j * w + x) 0 ≡ column_byte plane h w k j x
       done j x l g =
@@ -150,8 +238,7 @@ module _ {plane new : List ℕ} {h w k c n y : ℕ} (t : Swept plane h w k c (c 
           let e : j ≡ y = omega arith in
           let i : c + (x - c) ≡ x = omega arith in
           let q : s + (x - c) ≡ y * w + x = omega arith in
-          let fits : s + n ≤ length new = omega (arith, strip-in y c n h w low inside, t.size) in
-          let z = put-part s (s + n) new row fits (omega arith) (x - c) (omega arith) ∙ each (x - c) (omega arith) in
+          let z = put-part s m new row fits fill (x - c) (omega arith) ∙ each (x - c) (omega arith) in
           rw e (rw (q, i) at z))
           (which j y))
           (which x c)

@@ -1,16 +1,21 @@
 // The pass down the columns of a plane for the dilation by squares: row by row, so that memory is read in order, with a running count
 // for each column of a strip. A strip has a fixed number of columns, however wide the plane is.
 //
-// The count of each column stands in two parts, a byte that follows every row and the rest, and is their sum.
+// The count of each column stands in two parts, a byte that follows every row and the rest, and is their sum. They are two arrays, and
+// not one of pairs: so a row changes the bytes of many columns at once.
 #![tactic(auto)]
 
-ghost use Rattle.std.specs.Prelude.{◌≡◌, ◌+◌, length};
+ghost use Rattle.std.specs.Prelude.{◌≡◌, ℕ, ◌+◌, ◌<◌, ◌≤◌, length, IfSome};
+ghost use Rattle.plane.specs.Search.{count_below};
 ghost use Rattle.plane.specs.Mask.{is_on, mask_of};
 ghost use Rattle.counts.specs.steps.Parts.{moved_line};
-ghost use Rattle.column_counts.specs.steps.Columns.{dilated_columns, balanced_low, balanced_rest, Balanceable, Balanced};
-ghost use Rattle.column_counts.specs.steps.Columns.{MovableRow, MovedRow, Fillable, Filled, Following, Followed};
-ghost use Rattle.column_counts.specs.steps.Columns.{Lines, Slidable, Slid};
-ghost use Rattle.column_counts.specs.steps.Columns.{Start, Swept, ColumnPlanes};
+ghost use Rattle.column_counts.specs.steps.Columns.{dilated_columns, balanced_low, balanced_rest, Balanceable, Balanced, ColumnPlanes};
+ghost use Rattle.column_counts.specs.steps.Strip.{on_strip, Counted, MovedRow, Following, Followed, Lines, Slidable, Slid, Start, Swept};
+
+mod columns;
+
+use columns::Strip;
+use counts::Change;
 
 // How many columns a strip has at most.
 const STRIP: usize = 4096;
@@ -21,13 +26,11 @@ fn balance(low: &mut [u8], rest: &mut [u32])
     ensures low_after { low.new ≡ balanced_low low.old rest.old }
     ensures rest_after { rest.new ≡ balanced_rest low.old rest.old }
 {
-    let mut x = 0usize;
-    while x < low.len() {
-        let n = rest[x] + low[x] as u32;
-        let b = if n < 128 { n } else { 128 };
+    for x in 0..low.len() {
+        let n = rest[x] + u32::from(low[x]);
+        let b = n.min(128);
         low[x] = b as u8;
         rest[x] = n - b;
-        x += 1;
     }
 }
 
@@ -44,48 +47,29 @@ fn balance_after(t: usize, low: &mut [u8], rest: &mut [u32]) -> usize
     0
 }
 
-// Row j of a plane, where there is one, enters the windows of the columns from column c on, or leaves them: by a change of 1 or of 255.
-fn move_row(
-    plane: &[u8],
-    h: usize,
-    w: usize,
-    c: usize,
-    there: bool,
-    j: usize,
-    change: u8,
-    low: &mut [u8],
-)
-    requires { MovableRow plane.now h w c there j low.old }
-    ensures { MovedRow plane.now w c there j change low.old low.new }
+// Row j of a strip, where there is one, enters the windows of its columns, or leaves them.
+fn move_row(strip: Strip, j: Option<usize>, change: Change, low: &mut [u8])
+    requires size { length low.old ≡ strip.n }
+    requires row { IfSome j (λ j. j < strip.h) }
+    ensures { MovedRow strip.entry j change low.old low.new }
 {
-    if !there {
-        return;
+    if let Some(j) = j {
+        counts::move_line(strip.row(j), change.step(), low);
     }
-    let s = j * w + c;
-    let e = s + low.len();
-    counts::move_line(&plane[s..e], change, low);
 }
 
 // The first m rows enter the windows.
-fn enter_rows(
-    plane: &[u8],
-    h: usize,
-    w: usize,
-    c: usize,
-    m: usize,
-    low: &mut [u8],
-    rest: &mut [u32],
-)
-    requires { Fillable plane.now h w c m low.old rest.old }
-    ensures { Filled plane.now w c m low.new rest.new }
+fn enter_rows(strip: Strip, m: usize, low: &mut [u8], rest: &mut [u32])
+    requires size { length low.old ≡ strip.n }
+    requires rows { m ≤ strip.h }
+    requires zeros { Counted (λ _. 0) 0 low.old rest.old }
+    ensures { Counted (λ (x : ℕ). count_below m (on_strip strip.entry x)) 127 low.new rest.new }
 {
-    let mut t = 0usize;
-    let mut j = 0usize;
-    while j < m {
+    let mut t = 0;
+    for j in 0..m {
         t = balance_after(t, low, rest);
-        move_row(plane, h, w, c, true, j, 1, low);
+        move_row(strip, Some(j), Change::Enters, low);
         t += 1;
-        j += 1;
     }
 }
 
@@ -94,124 +78,70 @@ fn test_line(low: &[u8], out: &mut [u8])
     requires { length out.old ≡ length low.now }
     ensures { out.new ≡ mask_of (length low.now) (is_on low.now) }
 {
-    let mut x = 0usize;
-    while x < out.len() {
-        out[x] = plane::byte(low[x] != 0);
-        x += 1;
+    for x in 0..out.len() {
+        out[x] = u8::from(low[x] != 0);
     }
 }
 
-// The bytes follow the window to row y, and are tested: the row k rows below enters, and the one k + 1 rows above leaves. Near the ends of
-// the columns there may be no such row.
-fn end_row(
-    plane: &[u8],
-    h: usize,
-    w: usize,
-    k: usize,
-    c: usize,
-    y: usize,
-    low: &mut [u8],
-    out: &mut [u8],
-)
-    requires { Following plane.now h w k c y low.old out.old }
-    ensures { Followed plane.now h w k c y low.old low.new out.new }
-{
-    move_row(plane, h, w, c, y + k < h, y + k, 1, low);
-    move_row(plane, h, w, c, k < y, counts::behind(y, k), 255, low);
-    test_line(low, out);
-}
-
-// The same for a line that enters and one that leaves, in one pass.
+// The bytes follow a line that enters and one that leaves, and are tested, in one pass.
 fn step_line(enter: &[u8], leave: &[u8], low: &mut [u8], out: &mut [u8])
     requires { Lines enter.now leave.now low.old out.old }
     ensures low_after { low.new ≡ moved_line leave.now 255 (moved_line enter.now 1 low.old) }
     ensures out_after { out.new ≡ mask_of (length low.old) (is_on low.new) }
 {
-    let mut x = 0usize;
-    while x < enter.len() {
-        let e = plane::byte(enter[x] != 0);
-        let l = if leave[x] != 0 { 255u8 } else { 0 };
-        let v = std::num::wrapping_add_u8(std::num::wrapping_add_u8(low[x], e), l);
+    for x in 0..enter.len() {
+        let v = low[x].wrapping_add(u8::from(enter[x] != 0));
+        let v = v.wrapping_sub(u8::from(leave[x] != 0));
         low[x] = v;
-        out[x] = plane::byte(v != 0);
-        x += 1;
+        out[x] = u8::from(v != 0);
     }
 }
 
-// The same; away from the ends a row enters and one leaves.
-fn follow(
-    plane: &[u8],
-    h: usize,
-    w: usize,
-    k: usize,
-    c: usize,
-    y: usize,
-    low: &mut [u8],
-    out: &mut [u8],
-)
-    requires { Following plane.now h w k c y low.old out.old }
-    ensures { Followed plane.now h w k c y low.old low.new out.new }
+// The bytes follow the window to row y, and are tested: the row k rows below enters, and the one k + 1 rows above leaves. Near the ends of
+// the columns there may be no such row.
+fn follow(strip: Strip, y: usize, low: &mut [u8], out: &mut [u8])
+    requires { Following strip y low.old out.old }
+    ensures { Followed strip.entry y low.old low.new out.new }
 {
-    if y <= k {
-        end_row(plane, h, w, k, c, y, low, out);
-        return;
+    let enter = (y + strip.k < strip.h).then_some(y + strip.k);
+    let leave = y.checked_sub(strip.k + 1);
+    if let (Some(j), Some(i)) = (enter, leave) {
+        step_line(strip.row(j), strip.row(i), low, out);
+    } else {
+        move_row(strip, enter, Change::Enters, low);
+        move_row(strip, leave, Change::Leaves, low);
+        test_line(low, out);
     }
-    if h <= y + k {
-        end_row(plane, h, w, k, c, y, low, out);
-        return;
-    }
-    let n = low.len();
-    let a = (y + k) * w + c;
-    let b = (y - k - 1) * w + c;
-    step_line(&plane[a..a + n], &plane[b..b + n], low, out);
 }
 
 // The window slides to row y, and with it the counts, and a pixel is 1 where its count is above 0. t rows have moved since the counts were
 // balanced; how many have then is handed back.
 fn slide(
-    plane: &[u8],
-    h: usize,
-    w: usize,
-    k: usize,
-    c: usize,
+    strip: Strip,
     y: usize,
     t: usize,
     low: &mut [u8],
     rest: &mut [u32],
     out: &mut [u8],
 ) -> usize
-    requires { Slidable plane.now h w k c y t low.old rest.old out.old }
-    ensures { Slid plane.now h w k c y result low.new rest.new out.new }
+    requires { Slidable strip y t low.old rest.old out.old }
+    ensures { Slid strip.entry y result low.new rest.new out.new }
 {
     let u = balance_after(t, low, rest);
-    follow(plane, h, w, k, c, y, low, out);
+    follow(strip, y, low, out);
     u + 2
 }
 
-// Row by row down the columns from column c on, as many as there are counts: the window slides, and its counts are tested.
-fn sweep(
-    plane: &[u8],
-    h: usize,
-    w: usize,
-    k: usize,
-    c: usize,
-    low: &mut [u8],
-    rest: &mut [u32],
-    out: &mut [u8],
-)
-    requires { Start plane.now h w k c low.old rest.old out.old }
-    ensures { Swept plane.now h w k c (c + length low.old) h out.new }
+// Row by row down a strip: the window slides, and its counts, which begin at 0, are tested.
+fn sweep(strip: Strip, low: &mut [u8], rest: &mut [u32], out: &mut [u8])
+    requires { Start strip low.old rest.old out.old }
+    ensures { let s = strip.entry in Swept s.plane.now s.h s.w s.k s.c (s.c + s.n) s.h out.new }
 {
-    let n = low.len();
-    let first = counts::lesser(k, h);
-    enter_rows(plane, h, w, c, first, low, rest);
-    let mut t = 127usize;
-    let mut y = 0usize;
-    while y < h {
-        let s = y * w + c;
-        let e = s + n;
-        t = slide(plane, h, w, k, c, y, t, low, rest, &mut out[s..e]);
-        y += 1;
+    enter_rows(strip, strip.h.min(strip.k), low, rest);
+    let mut t = 127;
+    for y in 0..strip.h {
+        let s = y * strip.w + strip.c;
+        t = slide(strip, y, t, low, rest, &mut out[s..s + strip.n]);
     }
 }
 
@@ -220,12 +150,18 @@ pub fn dilate_columns(plane: &[u8], h: usize, w: usize, k: usize, out: &mut [u8]
     requires { ColumnPlanes plane.now h w k out.old }
     ensures { out.new ≡ dilated_columns plane.now h w k }
 {
-    let mut c = 0usize;
-    while c < w {
-        let n = counts::lesser(STRIP, w - c);
+    for c in (0..w).step_by(STRIP) {
+        let n = STRIP.min(w - c);
         let mut low = [0u8; STRIP];
         let mut rest = [0u32; STRIP];
-        sweep(plane, h, w, k, c, &mut low[0..n], &mut rest[0..n], out);
-        c += n;
+        let strip = Strip {
+            plane,
+            h,
+            w,
+            k,
+            c,
+            n,
+        };
+        sweep(strip, &mut low[..n], &mut rest[..n], out);
     }
 }

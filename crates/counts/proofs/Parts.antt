@@ -1,6 +1,7 @@
 -- Laws of counts in two parts: what enters and leaves changes the byte alone, and the byte tells whether the count is 0.
 -- Assumes nothing.
 use Rattle.std.proofs.Common.{◌≡◌, ℕ, ◌+◌, ◌-◌, ◌%◌, ◌<◌, ◌≤◌, Bool, true, false, not, eqb, ltb, refl, ⊎_elim, arith, lt-ltb, ne_eqb}
+use Rattle.std.specs.Int.{from_bool}
 use Rattle.plane.proofs.Search.{which}
 use Rattle.plane.specs.Plane.{on, bit}
 use Rattle.counts.specs.steps.Parts.{full_byte, rest_of, changed, step_of, Split}
@@ -13,6 +14,22 @@ not-moved v change l = omega arith
 pub moved-small : (v : ℕ) (t : Bool) (change : ℕ) → changed v t change < 256
 unfolding changed
 moved-small v t change = omega arith
+
+-- what the truth of a pixel adds to a byte, and takes from one
+pub changed-add : (v : ℕ) (t : Bool) → (v + from_bool t) % 256 ≡ changed v t 1
+unfolding changed
+changed-add v true = refl
+changed-add v false = refl
+
+pub changed-sub : (v : ℕ) (t : Bool) → (v + (256 - from_bool t)) % 256 ≡ changed v t 255
+unfolding changed
+changed-sub v true = refl
+changed-sub v false = omega arith
+
+pub changed-first : (t : Bool) → from_bool t ≡ changed 0 t 1
+unfolding changed
+changed-first true = refl
+changed-first false = refl
 
 -- a count that is balanced
 pub split-new : (n : ℕ) → Split n 0 (full_byte n) (rest_of n)

@@ -2,36 +2,35 @@
 // on-pixels in it is a running value: at each step the pixel that enters is added and the one that leaves is taken off.
 #![tactic(auto)]
 
-ghost use Rattle.std.specs.Prelude.{◌≡◌, ◌+◌, ◌-◌, length};
-ghost use Rattle.counts.specs.steps.Parts.{moved_line};
+ghost use Rattle.std.specs.Prelude.{◌≡◌, length};
+ghost use Rattle.counts.specs.steps.Parts.{step_by, moved_line};
 
-// The lesser of two numbers,
-pub fn lesser(a: usize, b: usize) -> usize
-    ensures { result ≡ a - (a - b) }
-{
-    if a <= b { a } else { b }
+// What a pixel does that is on: it enters a window, or it leaves.
+#[derive(Clone, Copy)]
+pub enum Change {
+    Enters,
+    Leaves,
 }
 
-// and the place that leaves the window at the step to x, k + 1 places back; the first where there are not so many.
-pub fn behind(x: usize, k: usize) -> usize
-    ensures { result ≡ x - (k + 1) }
-{
-    if k < x {
-        return x - k - 1;
+impl Change {
+    // By how much a count changes, modulo 256: by 1, or by 255, which is one less.
+    pub fn step(self) -> u8
+        ensures { result ≡ step_by self }
+    {
+        match self {
+            Change::Enters => 1,
+            Change::Leaves => 255,
+        }
     }
-    0
 }
 
-// Each of a line of counts, modulo 256, changed where the pixel beside it is on: by 1 where it enters a window, and by 255, which is one
-// less, where it leaves.
+// Each of a line of counts, modulo 256, changed by a step where the pixel beside it is on.
 pub fn move_line(line: &[u8], change: u8, counts: &mut [u8])
     requires { length line.now ≡ length counts.old }
     ensures { counts.new ≡ moved_line line.now change counts.old }
 {
-    let mut x = 0usize;
-    while x < line.len() {
-        let b = if line[x] != 0 { change } else { 0 };
-        counts[x] = std::num::wrapping_add_u8(counts[x], b);
-        x += 1;
+    for x in 0..line.len() {
+        let moved = if line[x] != 0 { change } else { 0 };
+        counts[x] = counts[x].wrapping_add(moved);
     }
 }

@@ -10,6 +10,8 @@ use native.Mathlib.Omega.{arith}
 use lib.Dec.{eqb, leb}
 use lib.ListN.{length, get_or, take}
 use lib.Seq.{take_all}
+use Rattle.std.proofs.Common.{Option, Some, None}
+use Rattle.std.specs.Option.{is_some, IsSome, IsNone}
 use Rattle.plane.specs.Refusal.{refusal_of}
 use Rattle.plane.specs.Search.{some_below}
 use Rattle.plane.proofs.Search.{which, either, not-both}
@@ -39,50 +41,51 @@ first-bytes input =
     let d = long-declined input l in
     let first = take most_input input in
     let number = file_refusal (header_of input) input in
-    sym (card-declined (header_of first) first number (sym d.first_same) d.declined)
-    ∙ card-declined (header_of input) input number refl d.declined)
+    sym (card-declined first (header_of first) number (sym d.first_same) d.declined)
+    ∙ card-declined input (header_of input) number refl d.declined)
     (which (length input) most_input)
 
 -- 8 is the answer to a header that is not accepted, and to nothing else
-eight : (a b c d : Bool) → ◌≡◌ {A = ℕ} (cond a (cond b (cond c (cond d 0 6) 9) 10) 8) 8 → a ≡ false
-eight true true true true e = absurd (let z : ◌≡◌ {A = ℕ} 0 8 = e in omega arith)
-eight true true true false e = absurd (let z : ◌≡◌ {A = ℕ} 6 8 = e in omega arith)
-eight true true false d e = absurd (let z : ◌≡◌ {A = ℕ} 9 8 = e in omega arith)
-eight true false c d e = absurd (let z : ◌≡◌ {A = ℕ} 10 8 = e in omega arith)
-eight false b c d e = refl
+not-eight : (b c d : Bool) → ◌≡◌ {A = ℕ} (cond b (cond c (cond d 0 6) 9) 10) 8 → ⊥
+not-eight true true true e = omega (arith, e)
+not-eight true true false e = omega (arith, e)
+not-eight true false d e = omega (arith, e)
+not-eight false c d e = omega (arith, e)
 
-module _ (header : Header) (input : List ℕ) where
-  eight-header : refusal_under header input ≡ 8 → header.ok ≡ false
-  unfolding refusal_under refusal_of
-  eight-header e =
-      eight header.ok (leb (pixels_of header) most_pixels) (eqb (length input) (header.body + 4 * pixels_of header))
-      (some_below (length (alpha_of header input)) (λ (i : ℕ). leb threshold (get_or (alpha_of header input) i 0)))
-      e
+eight-header : (header : Option Header) (input : List ℕ) → refusal_under header input ≡ 8 → IsNone header
+unfolding refusal_under refusal_of
+eight-header None input e = refl
+eight-header (Some header) input e =
+    absurd
+    (not-eight (leb (pixels_of header) most_pixels) (eqb (length input) (header.body + 4 * pixels_of header))
+    (some_below (length (alpha_of header input)) (λ (i : ℕ). leb threshold (get_or (alpha_of header input) i 0)))
+    e)
 
-  header-eight : header.ok ≡ false → refusal_under header input ≡ 8
-  unfolding refusal_under refusal_of
-  header-eight e = rw e
+header-eight : (header : Option Header) (input : List ℕ) → IsNone header → refusal_under header input ≡ 8
+unfolding refusal_under refusal_of
+header-eight None input e = refl
+header-eight (Some header) input e = not-both true refl e
 
 -- the first most_header bytes decide whether it is 8
 pub first-eight : (a b : List ℕ) → take most_header a ≡ take most_header b → card_refusal a ≡ 8 → card_refusal b ≡ 8
 first-eight a b e n =
     let same : header_of a ≡ header_of b =
     sym (header-first most_header a (omega arith)) ∙ ap header_of e ∙ header-first most_header b (omega arith) in
-    header-eight (header_of b) b (sym (ap (λ (h : Header). h.ok) same) ∙ eight-header (header_of a) a n)
+    header-eight (header_of b) b (sym (ap is_some same) ∙ eight-header (header_of a) a n)
 
 -- ---- what 8 means: just the inputs that start with a header of R38 get another answer
 
 pub header-not-eight : (input : List ℕ) → HasHeader input → card_refusal input ≡ 8 → ⊥
 unfolding said_by
 header-not-eight input has e =
-    not-both (header_of input).ok (ap (λ (h : Header). h.ok) has.header_is) (eight-header (header_of input) input e)
+    not-both (is_some (header_of input)) (ap is_some has.header_is) (eight-header (header_of input) input e)
 
 pub not-eight-header : (input : List ℕ) → (card_refusal input ≡ 8 → ⊥) → HasHeader input
 not-eight-header input n =
     ⊎_elim {C = HasHeader input}
-    (λ (t : (header_of input).ok ≡ true). header-means input t)
-    (λ (t : (header_of input).ok ≡ false). absurd (n (header-eight (header_of input) input t)))
-    (either (header_of input).ok)
+    (λ (t : IsSome (header_of input)). header-means input t)
+    (λ (t : IsNone (header_of input)). absurd (n (header-eight (header_of input) input t)))
+    (either (is_some (header_of input)))
 
 -- ---- what was accepted at first
 
@@ -94,14 +97,14 @@ pub record Kept (input : List ℕ) : Type 0 where
 pub earlier-kept : (input : List ℕ) → (earlier_refusal input ≡ 8 → ⊥) → Kept input
 earlier-kept input n =
     ⊎_elim {C = Kept input}
-    (λ (t : (earlier_of input).ok ≡ true).
+    (λ (t : IsSome (earlier_of input)).
     let same = earlier-same input t in
     record {
-      number_kept = ap (λ (h : Header). refusal_under h input) same;
-      text_kept = ap (λ (h : Header). text_under h input) same;
+      number_kept = ap (λ (h : Option Header). refusal_under h input) same;
+      text_kept = ap (λ (h : Option Header). text_under h input) same;
     })
-    (λ (t : (earlier_of input).ok ≡ false). absurd (n (header-eight (earlier_of input) input t)))
-    (either (earlier_of input).ok)
+    (λ (t : IsNone (earlier_of input)). absurd (n (header-eight (earlier_of input) input t)))
+    (either (is_some (earlier_of input)))
 
 -- so a file that was accepted prints the same bytes
 pub earlier-accepted : (input : List ℕ) → earlier_refusal input ≡ 0 → card_text input ≡ earlier_text input

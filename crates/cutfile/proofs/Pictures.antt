@@ -10,9 +10,11 @@ use native.Mathlib.Omega.{arith}
 use lib.Dec.{eqb, leb}
 use lib.ListN.{length, get_or}
 use lib.Ieee.{Float}
-use borrow.Author.Tests.{eq-eqb, le-leb, leb-false, eqb-true}
+use borrow.Author.Tests.{eq-eqb, le-leb, leb-false, eqb-true, eqb-false}
 use Rattle.plane.specs.Search.{some_below, first_below, last_below}
-use Rattle.plane.specs.Refusal.{refusal_of, room_for}
+use Rattle.std.specs.Prelude.{Result, Ok, Err}
+use Rattle.plane.specs.declared.answer.Refusal.{Refusal}
+use Rattle.plane.specs.Refusal.{refusal_of, room_for, number_of, refusal_by, answer_for}
 use Rattle.plane.specs.Mask.{is_on, some_off}
 use Rattle.plane.specs.Box.{lesser_of, row_has, column_has, box_of, whole_of}
 use Rattle.plane.proofs.Search.{either, some_same}
@@ -22,10 +24,9 @@ use Rattle.colour.specs.declared.Settings.{Settings}
 use Rattle.colour.specs.Colour.{colours_ok}
 use Rattle.colour.specs.Settings.{on_of}
 use Rattle.outline.specs.Cut.{Cut, alpha_mask, cut_of, crop_of, margin}
-use Rattle.card.specs.declared.Card.TheVariants.{Border}
+use Rattle.card.specs.Card.{Border}
 use Rattle.outline.specs.Refusal.{work_tests, cut_lengths, picture_tests, cut_contents, cut_refusal}
 use Rattle.outline.specs.declared.Outcome.{Outcome}
-use Rattle.outline.specs.declared.Outcome.TheVariants as outcome
 use Rattle.outline.specs.Answer.{outcome_for}
 use Rattle.outline.specs.Calls.{Buffers, refusal_in, cut_in}
 use Rattle.keying.specs.Calls.{Called}
@@ -85,6 +86,14 @@ alpha-small alpha = small (some_below (length alpha) (λ (i : ℕ). leb threshol
     small true = omega arith
     small false = omega arith
 
+alpha-named : (alpha : List ℕ) → (alpha_refusal alpha ≡ 0 → ⊥) → number_of (refusal_by (alpha_refusal alpha)) ≡ alpha_refusal alpha
+unfolding alpha_refusal refusal_of
+alpha-named alpha = by (some_below (length alpha) (λ (i : ℕ). leb threshold (get_or alpha i 0)))
+  where
+    by : (t : Bool) → (◌≡◌ {A = ℕ} (cond t 0 6) 0 → ⊥) → number_of (refusal_by (cond t 0 6)) ≡ cond t 0 6
+    by true bad = absurd (bad refl)
+    by false bad = refl
+
 -- ---- the crop box is inside the picture
 
 first-most : (n : ℕ) (p : ℕ → Bool) → first_below n p ≤ n
@@ -132,39 +141,45 @@ lines-short colours alpha h w keyed tall wide =
 -- ---- the text of an answer
 
 -- by the refusal it is that of the cut or of the refusal
-answer-text : (h w n : ℕ) (c : Cut) (mask : List ℕ) → (n ≡ 0 → mask ≡ c.mask)
+answer-text : (h w n : ℕ) (c : Cut) (mask : List ℕ) → (n ≡ 0 → mask ≡ c.mask) → ((n ≡ 0 → ⊥) → number_of (refusal_by n) ≡ n)
     → answer_text mask h w (outcome_for n c) ≡ cond (eqb n 0) (mask_text c.mask h w c.box c.keyed) (refusal_text n)
-unfolding outcome_for
-answer-text h w n c mask m = by (eqb n 0) (λ e. m (eqb-true n 0 e))
+unfolding answer_for
+answer-text h w n c mask m named = by (eqb n 0) (λ e. m (eqb-true n 0 e)) (λ e. named (eqb-false n 0 e))
   where
-    by : (t : Bool) → (t ≡ true → mask ≡ c.mask)
-        → answer_text mask h w (cond t (outcome.Done c.keyed c.box) (outcome.Refused n))
+    by : (t : Bool) → (t ≡ true → mask ≡ c.mask) → (t ≡ false → number_of (refusal_by n) ≡ n)
+        → answer_text mask h w (cond {A = Result Outcome Refusal} t (Ok (record { keyed = c.keyed; crop = c.box })) (Err (refusal_by n)))
         ≡ cond t (mask_text c.mask h w c.box c.keyed) (refusal_text n)
-    by true e = rw (e refl)
-    by false e = refl
+    by true e f = rw (e refl)
+    by false e f = rw (f refl)
 
 answer-short : (h w n : ℕ) (c : Cut) (most : ℕ) → length (crop_lines c.box c.keyed) + length (size_line h w) + 2 * (h * w) ≤ most
+    → ((n ≡ 0 → ⊥) → number_of (refusal_by n) ≡ n)
     → length (refusal_text n) ≤ most → answer_length h w (outcome_for n c) ≤ most
-unfolding outcome_for
-answer-short h w n c most l m = by (eqb n 0)
+unfolding answer_for
+answer-short h w n c most l named m = by (eqb n 0) (λ e. named (eqb-false n 0 e))
   where
-    by : (t : Bool) → answer_length h w (cond t (outcome.Done c.keyed c.box) (outcome.Refused n)) ≤ most
-    by true = l
-    by false = m
+    by : (t : Bool) → (t ≡ false → number_of (refusal_by n) ≡ n)
+        → answer_length h w (cond {A = Result Outcome Refusal} t (Ok (record { keyed = c.keyed; crop = c.box })) (Err (refusal_by n))) ≤ most
+    by true f = l
+    by false f = rw (f refl) m
 
 -- the cut of a picture of bytes, with the settings of cutcard, has answered r
-module _ (colours : List Float) (alpha : List ℕ) (h w : ℕ) (s : Settings) (b b' : Buffers) (out : ℕ) (r : Outcome)
+module _ (colours : List Float) (alpha : List ℕ) (h w : ℕ) (s : Settings) (b b' : Buffers) (out : ℕ) (r : Result Outcome Refusal)
     (room : Room h w (length colours) (length alpha) (length b.nearest) (length b.shallow) (length b.deep) (length b.marks)
     (length b.mask) (length b.weights) out)
     (ok : colours_ok colours ≡ true) (given : s ≡ settings) (call : Called colours alpha h w Border s b r b') where
   number : refusal_in colours alpha h w Border s b ≡ alpha_refusal alpha
   number = rw given (number_is colours alpha h w _ _ _ _ _ _ out room ok)
 
+  named : (refusal_in colours alpha h w Border s b ≡ 0 → ⊥)
+      → number_of (refusal_by (refusal_in colours alpha h w Border s b)) ≡ refusal_in colours alpha h w Border s b
+  named bad = rw number (alpha-named alpha (λ z. bad (number ∙ z)))
+
   pub text-is : answer_text b'.mask h w r ≡ picture_text colours alpha h w
   unfolding picture_text cut_text
   text-is =
       ap (answer_text b'.mask h w) call.answer
-      ∙ answer-text h w _ (cut_in colours alpha h w Border s) b'.mask (λ z. call.mask_is ∙ written _ _ _ z)
+      ∙ answer-text h w _ (cut_in colours alpha h w Border s) b'.mask (λ z. call.mask_is ∙ written _ _ _ z) named
       ∙ rw (number, given)
 
   pub text-fits : answer_length h w r ≤ out
@@ -172,6 +187,7 @@ module _ (colours : List Float) (alpha : List ℕ) (h w : ℕ) (s : Settings) (b
       rw (call.answer, given)
       (answer-short h w _ (cut_with colours alpha h w) out
       (omega (arith, lines-short colours alpha h w (cut_with colours alpha h w).keyed room.tall room.wide, room.few, room.out_long))
+      (rw given at named)
       (omega (arith, refusal-short (refusal_in colours alpha h w Border settings b) (rw given at small), room.out_long)))
     where
       small : refusal_in colours alpha h w Border s b < 10000

@@ -11,6 +11,7 @@ use lib.Dec.{eqb, leb}
 use lib.ListN.{length, get_or, take, drop}
 use lib.Seq.{sets-eq, length-take-le}
 use borrow.Author.Tests.{ne_eqb, le-leb, eqb-true, eqb-false}
+use Rattle.std.proofs.Common.{Option, Some, None}
 use Rattle.plane.specs.Refusal.{refusal_of}
 use Rattle.plane.specs.Search.{some_below}
 use Rattle.plane.proofs.Search.{either}
@@ -34,43 +35,61 @@ pub part-long : {A : Type 0} (n : ℕ) (xs : List A) → n ≤ length xs → len
 part-long n xs l = let e : n - 0 ≡ n = omega arith in rw e (length-take-le n xs l)
 
 -- the number is one of four, or 0
-small : (a b c d : Bool) → cond a (cond b (cond c (cond d 0 6) 9) 10) 8 < 10000
-small true true true true = omega arith
-small true true true false = omega arith
-small true true false d = omega arith
-small true false c d = omega arith
-small false b c d = omega arith
+small : (b c d : Bool) → cond b (cond c (cond d 0 6) 9) 10 < 10000
+small true true true = omega arith
+small true true false = omega arith
+small true false d = omega arith
+small false c d = omega arith
 
-module _ (header : Header) (input : List ℕ) where
-  pub card-declined : (n : ℕ) → n ≡ file_refusal header input → (n ≡ 0 → ⊥) → refusal_text n ≡ text_under header input
+module _ (input : List ℕ) where
+  pub card-declined : (header : Option Header) (n : ℕ) → n ≡ file_refusal header input → (n ≡ 0 → ⊥) → refusal_text n ≡ text_under header input
   unfolding text_under refusal_under file_refusal
-  card-declined n e z =
-      let f = declined-first (file_tests header input) (alpha_test (alpha_of header input) ∷ []) (λ g. z (e ∙ g)) in
+  card-declined None n e z = ap refusal_text e
+  card-declined (Some header) n e z =
+      let f = declined-first (file_tests (Some header) input) (alpha_test (alpha_of header input) ∷ []) (λ g. z (e ∙ g)) in
       rw (f, ← e, ne_eqb n 0 z)
 
-  pub card-picture : file_refusal header input ≡ 0
-      → picture_text (colours_of header input) (alpha_of header input) header.height header.width ≡ text_under header input
+  pub none-declined : (header : Option Header) → header ≡ None → file_refusal header input ≡ 0 → ⊥
+  unfolding file_refusal refusal_of
+  none-declined header n e = let z : ◌≡◌ {A = ℕ} 8 0 = rw n at e in omega (arith, z)
+
+  number_small : (header : Option Header) → refusal_under header input < 10000
+  unfolding refusal_under refusal_of
+  number_small None = omega arith
+  number_small (Some header) =
+      small (leb (pixels_of header) most_pixels) (eqb (length input) (header.body + 4 * pixels_of header))
+      (some_below (length (alpha_of header input)) (λ (i : ℕ). leb threshold (get_or (alpha_of header input) i 0)))
+
+  pub file-small : (header : Option Header) → file_refusal header input < 10000
+  unfolding file_refusal refusal_of
+  file-small None = omega arith
+  file-small (Some header) =
+      small (leb (pixels_of header) most_pixels) (eqb (length input) (header.body + 4 * pixels_of header)) true
+
+module _ (header : Header) (input : List ℕ) where
+  pub card-picture : file_refusal (Some header) input ≡ 0
+      → picture_text (colours_of header input) (alpha_of header input) header.height header.width ≡ text_under (Some header) input
   unfolding text_under refusal_under file_refusal alpha_refusal picture_text
-  card-picture e = rw (passed_first (file_tests header input) (alpha_test (alpha_of header input) ∷ []) refl e)
+  card-picture e = rw (passed_first (file_tests (Some header) input) (alpha_test (alpha_of header input) ∷ []) refl e)
 
   -- a file that is declined for nothing has passed the tests of the file
-  accepted-file : refusal_under header input ≡ 0 → file_refusal header input ≡ 0
+  accepted-file : refusal_under (Some header) input ≡ 0 → file_refusal (Some header) input ≡ 0
   unfolding refusal_under file_refusal
   accepted-file e =
-      let n = file_refusal header input in
+      let n = file_refusal (Some header) input in
       ⊎_elim {C = n ≡ 0}
       (λ (t : eqb n 0 ≡ true). eqb-true n 0 t)
       (λ (t : eqb n 0 ≡ false).
-      sym (declined-first (file_tests header input) (alpha_test (alpha_of header input) ∷ []) (eqb-false n 0 t)) ∙ e)
+      sym (declined-first (file_tests (Some header) input) (alpha_test (alpha_of header input) ∷ []) (eqb-false n 0 t)) ∙ e)
       (either (eqb n 0))
 
-  accepted-short : Small header → refusal_under header input ≡ 0
+  accepted-short : Small header → refusal_under (Some header) input ≡ 0
       → length (cut_text (colours_of header input) (alpha_of header input) header.height header.width) ≤ most_text
   unfolding cut_text
   accepted-short small e =
       let f = file-ok header input (accepted-file e) in
       let few : header.height * header.width ≤ most_pixels = f.few in
-      let s = sides-of header small f.header_ok f.few in
+      let s = sides-of header small f.few in
       let colours = colours_of header input in
       let alpha = alpha_of header input in
       let c = cut_with colours alpha header.height header.width in
@@ -81,29 +100,19 @@ module _ (header : Header) (input : List ℕ) where
         lines-short colours alpha header.height header.width c.keyed s.tall s.wide,
       )
 
-  long : Bool
-  long = eqb (length input) (header.body + 4 * pixels_of header)
-
-  number_small : refusal_under header input < 10000
-  unfolding refusal_under refusal_of long
-  number_small =
-      small header.ok (leb (pixels_of header) most_pixels) long
-      (some_below (length (alpha_of header input)) (λ (i : ℕ). leb threshold (get_or (alpha_of header input) i 0)))
-
-  pub file-small : file_refusal header input < 10000
-  unfolding file_refusal refusal_of long
-  file-small = small header.ok (leb (pixels_of header) most_pixels) long true
-
 -- no text is longer than most_text
 pub text-short : (input : List ℕ) → length (card_text input) ≤ most_text
 unfolding text_under
-text-short input =
-    let header = header_of input in
-    let n = refusal_under header input in
-    ⊎_elim {C = length (card_text input) ≤ most_text}
-    (λ (e : eqb n 0 ≡ true). rw e (accepted-short header input (header-small input) (eqb-true n 0 e)))
-    (λ (e : eqb n 0 ≡ false). rw e (omega (arith, refusal-short n (number_small header input))))
-    (either (eqb n 0))
+text-short input = by (header_of input) refl
+  where
+    by : (header : Option Header) → header_of input ≡ header → length (text_under header input) ≤ most_text
+    by None e = omega (arith, refusal-short (refusal_under None input) (number_small input None))
+    by (Some header) e =
+        let n = refusal_under (Some header) input in
+        ⊎_elim {C = length (text_under (Some header) input) ≤ most_text}
+        (λ (t : eqb n 0 ≡ true). rw t (accepted-short header input (header-small input header e) (eqb-true n 0 t)))
+        (λ (t : eqb n 0 ≡ false). rw t (omega (arith, refusal-short n (number_small input (Some header)))))
+        (either (eqb n 0))
 
 -- a buffer that is long enough, with the text written to its front
 pub whole : (input old new text : List ℕ) (r : ℕ) → most_text ≤ length old → text ≡ card_text input → Wrote text old new 0 r

@@ -1,6 +1,6 @@
 -- What cutcard prints for an input.
 -- Assumes nothing.
-use Rattle.std.specs.Prelude.{ℕ, ◌≡◌, cond, List, [], ◌∷◌, ◌++◌, eqb, leb, length, get_or, drop, Float}
+use Rattle.std.specs.Prelude.{ℕ, ◌≡◌, cond, List, [], ◌∷◌, ◌++◌, eqb, leb, length, get_or, drop, Float, Option, Some, None}
 use Rattle.plane.specs.Refusal.{Test, refusal_of}
 use Rattle.plane.specs.Search.{some_below}
 use Rattle.outline.specs.Border.{reference_of}
@@ -16,8 +16,9 @@ abbrev pub alpha_test : List ℕ → Test
 alpha_test alpha = (6, some_below (length alpha) (λ (i : ℕ). leb threshold (get_or alpha i 0)))
 
 -- the number of the refusal of an input whose header says this (R59), 0 where it is accepted
-unfoldable pub refusal_under : Header → List ℕ → ℕ
-refusal_under header input = refusal_of (file_tests header input ++ (alpha_test (alpha_of header input) ∷ []))
+unfoldable pub refusal_under : Option Header → List ℕ → ℕ
+refusal_under None input = refusal_of (file_tests None input)
+refusal_under (Some header) input = refusal_of (file_tests (Some header) input ++ (alpha_test (alpha_of header input) ∷ []))
 
 -- the picture cut with the settings of cutcard (R40)
 abbrev pub cut_with : List Float → List ℕ → ℕ → ℕ → Cut
@@ -28,11 +29,12 @@ unfoldable pub cut_text : List Float → List ℕ → ℕ → ℕ → List ℕ
 cut_text colours alpha h w = let c = cut_with colours alpha h w in mask_text c.mask h w c.box c.keyed
 
 -- what is printed for an input whose header says this (R41, R42)
-unfoldable pub text_under : Header → List ℕ → List ℕ
-text_under header input =
-    cond (eqb (refusal_under header input) 0)
+unfoldable pub text_under : Option Header → List ℕ → List ℕ
+text_under None input = refusal_text (refusal_under None input)
+text_under (Some header) input =
+    cond (eqb (refusal_under (Some header) input) 0)
     (cut_text (colours_of header input) (alpha_of header input) header.height header.width)
-    (refusal_text (refusal_under header input))
+    (refusal_text (refusal_under (Some header) input))
 
 -- the number of an input's refusal, and what is printed for it (R41, R42, R59)
 abbrev pub card_refusal : List ℕ → ℕ

@@ -13,6 +13,7 @@ ghost use Rattle.cutfile.specs.steps.Room.{Room, picture_text, answer_text, answ
 use outline::Outcome;
 use pam::{MOST_INPUT, MOST_PIXELS};
 use pam_header::Header;
+use plane::answer::Refusal;
 use std::io::Input;
 
 // How many colours the largest picture has, and how many numbers a work buffer for it holds at least.
@@ -24,14 +25,20 @@ const WORK: usize = 9234;
 pub const MOST_TEXT: usize = 4656;
 
 // The text of an answer of the cut: the mask with its crop box and keyed flag, or the refusal.
-fn write_answer(out: &mut [u8], mask: &[u8], h: usize, w: usize, answer: Outcome) -> usize
+fn write_answer(
+    out: &mut [u8],
+    mask: &[u8],
+    h: usize,
+    w: usize,
+    answer: Result<Outcome, Refusal>,
+) -> usize
     requires mask_len { (0 < w) × (length mask.now ≡ h * w) }
     requires out_len { answer_length h w answer ≤ length out.old }
     ensures { Wrote (answer_text mask.now h w answer) out.old out.new 0 result }
 {
     match answer {
-        Outcome::Done(keyed, crop) => pbm::write_mask(out, mask, h, w, crop, keyed),
-        Outcome::Refused(refusal) => pbm::write_refusal(out, refusal),
+        Ok(cut) => pbm::write_mask(out, mask, h, w, cut.crop, cut.keyed),
+        Err(refusal) => pbm::write_refusal(out, refusal.into()),
     }
 }
 
@@ -104,7 +111,7 @@ fn read_and_cut(
 
 // The text of a file that is not declined for its header or its length.
 fn write_picture(header: Header, input: &[u8], out: &mut [u8]) -> usize
-    requires { (header ≡ header_of input.now) × (file_refusal header input.now ≡ 0) × (most_text ≤ length out.old) }
+    requires { (Some header ≡ header_of input.now) × (file_refusal (Some header) input.now ≡ 0) × (most_text ≤ length out.old) }
     ensures { Wrote
         (picture_text (colours_of header input.now) (alpha_of header input.now) header.height header.width)
         out.old out.new 0 result }
@@ -147,12 +154,10 @@ pub fn cutcard(input: &[u8], out: &mut [u8]) -> usize
     if out.len() < MOST_TEXT {
         return 0;
     }
-    let header = pam_header::read_header(input);
-    let refusal = pam::file_refusal(header, input);
-    if refusal != 0 {
-        return pbm::write_refusal(out, refusal);
+    match pam::read(input) {
+        Ok(header) => write_picture(header, input, out),
+        Err(refusal) => pbm::write_refusal(out, refusal.into()),
     }
-    write_picture(header, input, out)
 }
 
 // From standard input, until it ends or MOST_INPUT bytes are read, to standard output: what the programs run. No byte after

@@ -20,30 +20,29 @@ use Rattle.colour.specs.declared.Settings.{Settings}
 use Rattle.colour.specs.Settings.{on_of, passes_of}
 use Rattle.outline.specs.Ground.{ground_of, is_found, ground_plane}
 use Rattle.outline.specs.Cut.{alpha_mask, is_sought, is_keyed, grown_ground, cut_mask}
-use Rattle.outline.specs.Answer.{ground_for}
-use Rattle.outline.specs.declared.Ground.{Ground}
-use Rattle.outline.specs.declared.Ground.TheVariants as ground
+use Rattle.std.specs.Prelude.{Option, Some, None}
+use Rattle.outline.specs.Answer.{found_reference}
 use Rattle.cutting.specs.steps.Key.{keyed_plane}
 
 -- ---- what the search of the ground answered
 
 module _ (colours : List Float) (h w : ℕ) (reference : Rgb) (t : Float) where
-  no-so : (b : Bool) (q : Rgb) → ((x : Rgb) → cond b (ground.Found q) ground.Absent ≡ ground.Found x → ⊥) → b ≡ false
+  no-so : (b : Bool) (q : Rgb) → ((x : Rgb) → cond b (Some q) None ≡ Some x → ⊥) → b ≡ false
   no-so true q none = absurd (none q refl)
   no-so false q none = refl
 
-  pub not_found : (g : Ground) → g ≡ ground_for 0 colours h w reference t → ((x : Rgb) → g ≡ ground.Found x → ⊥)
+  pub not_found : (g : Option Rgb) → g ≡ found_reference colours h w reference t → ((x : Rgb) → g ≡ Some x → ⊥)
       → is_found colours h w reference t ≡ false
-  unfolding ground_for
+  unfolding found_reference
   not_found g e none = no-so (is_found colours h w reference t) reference (λ x f. none x (e ∙ f))
 
-  yes-so : (b : Bool) (q r : Rgb) → cond b (ground.Found q) ground.Absent ≡ ground.Found r → (b ≡ true) × (r ≡ q)
+  yes-so : (b : Bool) (q r : Rgb) → cond b (Some q) None ≡ Some r → (b ≡ true) × (r ≡ q)
   yes-so true q r e = let z : q ≡ r = cc in (refl, sym z)
   yes-so false q r e = let z : ◌≡◌ {A = ℕ} 0 1 = cc in absurd (omega arith)
 
-  pub was-found : (r : Rgb) → ground_for 0 colours h w reference t ≡ ground.Found r
+  pub was-found : (r : Rgb) → found_reference colours h w reference t ≡ Some r
       → (is_found colours h w reference t ≡ true) × (r ≡ reference)
-  unfolding ground_for
+  unfolding found_reference
   was-found r e = yes-so (is_found colours h w reference t) reference r e
 
   pub found-plane : is_found colours h w reference t ≡ true → ground_plane colours h w reference t ≡ ground_of colours h w reference t

@@ -3,15 +3,14 @@
 
 ghost use Rattle.std.specs.Prelude.{◌≡◌, true, ℕ, ◌*◌, length};
 ghost use Rattle.plane.specs.steps.Sides.{Sides};
+ghost use Rattle.card.specs.steps.Named.{card_with};
 ghost use Rattle.card.specs.steps.Range.{card_ok};
 ghost use Rattle.outline.specs.Border.{reference_on};
 ghost use Rattle.outline.specs.Ground.{is_found};
 ghost use Rattle.outline.specs.Cut.{is_keyed, cut_mask, margin, crop_of};
 ghost use Rattle.cutting.specs.steps.Key.{keyed_plane, KeyRoom, Reference};
 
-use card::Card;
 use colour::{Rgb, Settings};
-use outline::Ground;
 use plane::Box;
 
 // How many pixels are added on each side of the mask's box (margin in the definitions).
@@ -37,7 +36,7 @@ fn key(
     ensures mask_after { mask.new ≡ keyed_plane colours.now h w given tolerance passes }
 {
     let answer = ground::ground_from(colours, h, w, given, tolerance, nearest, mask);
-    let Ground::Found(reference) = answer else {
+    let Some(reference) = answer else {
         plane::complement(mask);
         return false;
     };
@@ -54,7 +53,7 @@ pub fn cut_mask(
     alpha: &[u8],
     h: usize,
     w: usize,
-    card: Card,
+    given: Option<Rgb>,
     s: Settings,
     nearest: &mut [u32],
     shallow: &mut [u8],
@@ -64,17 +63,17 @@ pub fn cut_mask(
 ) -> bool
     requires key_room { KeyRoom colours.now h w nearest.old shallow.old deep.old marks.old mask.old }
     requires alpha_len { length alpha.now ≡ h * w }
-    requires card_in_range { card_ok card ≡ true }
-    ensures value { result ≡ is_keyed colours.now alpha.now h w (reference_on card colours.now h w) s }
+    requires given_in_range { card_ok (card_with given) ≡ true }
+    ensures value { result ≡ is_keyed colours.now alpha.now h w (reference_on (card_with given) colours.now h w) s }
     ensures mask_after { mask.new ≡ cut_mask colours.now alpha.now h w
-        (reference_on card colours.now h w) s }
+        (reference_on (card_with given) colours.now h w) s }
 {
     weights::reach(alpha, s.alpha_threshold, mask);
     let sought = s.key_bg & !plane::some_off(mask);
     if sought {
         let tolerance = s.key_bg_tolerance;
         let passes = colour::passes(s);
-        let reference = ground::reference_on(colours, h, w, card, nearest);
+        let reference = ground::reference_on(colours, h, w, given, nearest);
         return key(
             colours, h, w, reference, tolerance, passes, nearest, shallow, deep, marks, mask,
         );

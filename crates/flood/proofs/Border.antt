@@ -86,3 +86,6 @@ border-in {h} {w} k s l = border-inside h w s.some_rows s.some_columns _ (listed
 
 pub border-small : {h w : ℕ} (k : ℕ) → Sides h w → k < length (border_list h w) → get_or (border_list h w) k 0 < 4294967296
 border-small k s l = omega (arith, border-in k s l, area-most s.tall s.wide)
+
+-- for the check of what is read by place
+pub ruleset by_place = (border-length, first_row, last_row, first_column, last-column, border-in, border-small)

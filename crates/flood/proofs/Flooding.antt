@@ -3,6 +3,7 @@
 use Rattle.std.proofs.Common.{◌≡◌, ℕ, ◌+◌, ◌-◌, ◌%◌, ◌<◌, ◌≤◌, Bool, true, false, eqb, ltb, leb, ◌⊎◌, List, length, get_or, set, sym, refl, ap, ◌∙◌, inl, inr, ⊎_elim, arith, length-set, get_or-set_other, get_or-set_same, ltb-true, lt-ltb, eqb-true, le-leb, leb-true}
 use lib.ListN.{get_or-eq_default}
 use borrow.Author.Tests.{eqb-false}
+use Rattle.std.specs.Bool.{then_some}
 use Rattle.plane.proofs.Search.{which, either, not-both}
 use Rattle.plane.specs.Mask.{is_on}
 use Rattle.labels.specs.Labels.{beside, Joined, onward}
@@ -135,7 +136,7 @@ module _ (mask : List ℕ) (h w : ℕ) where
 
   -- the same where the plane may have no such pixel
   pub visits : (hold : ℕ) (has : Bool) (q : ℕ) (s : State) → (has ≡ true → is_on mask q ≡ true → Reach q)
-      → Flooding mask h w hold s → Visits hold has q s (visit_if has q s)
+      → Flooding mask h w hold s → Visits hold has q s (visit_if (then_some has q) s)
   unfolding visit_if
   visits hold true q s r f = visited-floods hold s f q (r refl)
   visits hold false q s r f = record { floods = f; stays = λ k l. l; done = λ z. not-both false z refl }

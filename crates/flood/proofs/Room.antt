@@ -1,8 +1,10 @@
 -- The stack of the flood has room for every close pixel that no step came to, and visits keep it so.
 -- Assumes nothing.
-use Rattle.std.proofs.Common.{◌≡◌, ℕ, ◌+◌, ◌-◌, ◌*◌, ◌%◌, ◌^◌, ◌<◌, ◌≤◌, Bool, true, false, eqb, ltb, leb, List, length, get_or, set, sym, refl, ap, ◌∙◌, ⊎_elim, arith, length-set, get_or-set_other, get_or-set_same, ltb-true, eq-eqb, ne_eqb, eqb-true}
+use Rattle.std.proofs.Common.{◌≡◌, ℕ, ◌+◌, ◌-◌, ◌*◌, ◌%◌, ◌<◌, ◌≤◌, Bool, true, false, eqb, ltb, leb, Option, Some, None, is_some, IfSome, SomeIff, List, length, get_or, set, sym, refl, ap, ◌∙◌, ⊎_elim, arith, length-set, get_or-set_other, get_or-set_same, ltb-true, eq-eqb, ne_eqb, eqb-true, le-leb}
+use borrow.Author.Tests.{lt-leb}
+use Rattle.std.specs.Bool.{then_some}
 use Rattle.plane.proofs.Plane.{area-most}
-use Rattle.plane.proofs.Search.{either, count_most}
+use Rattle.plane.proofs.Search.{which, either, count_most}
 use Rattle.labels.proofs.Counts.{count-without}
 use Rattle.flood.specs.steps.Flood.{State, state, pushed, visited, visit_if, spread_from}
 use Rattle.flood.specs.steps.Flood.{on_top, popped, spread_top, waiting, Room, Spreads, Closed}
@@ -88,25 +90,30 @@ visited-kept area q s l k =
     let i : q < length s.plane = omega (arith, k.long) in
     record { room = visited-room s q k.room i; long = k.long ∙ sym (visited-long s q) }
 
-pub if_kept : {area q : ℕ} {has : Bool} {s : State} → (has ≡ true → q < area) → Kept area s → Kept area (visit_if has q s)
+pub if_kept : (o : Option ℕ) {area : ℕ} {s : State} → IfSome o (λ q. q < area) → Kept area s → Kept area (visit_if o s)
 unfolding visit_if
-if_kept {has = true} l k = visited-kept _ _ _ (l refl) k
-if_kept {has = false} l k = k
+if_kept (Some q) l k = visited-kept _ q _ l k
+if_kept None l k = k
 
-if-total : {area q : ℕ} {has : Bool} {s : State} → (has ≡ true → q < area) → Kept area s → total (visit_if has q s) ≡ total s
+if-total : (o : Option ℕ) {area : ℕ} {s : State} → IfSome o (λ q. q < area) → Kept area s → total (visit_if o s) ≡ total s
 unfolding visit_if
-if-total {has = true} l k = visited-total _ _ (omega (arith, l refl, k.long))
-if-total {has = false} l k = refl
+if-total (Some q) l k = visited-total _ q (omega (arith, k.long))
+if-total None l k = refl
 
--- a visit asks for the pixel only where there is one
-pub if-same : (s : State) (has : Bool) {q r : ℕ} → (has ≡ true → q ≡ r) → visit_if has q s ≡ visit_if has r s
-unfolding visit_if
-if-same s true e = ap (λ (k : ℕ). visited k s) (e refl)
-if-same s false e = refl
+-- a pixel that is there where a test says so
+if-there : (t : Bool) {q area : ℕ} → (t ≡ true → q < area) → IfSome (then_some t q) (λ r. r < area)
+if-there true l = l refl
+if-there false l = tt
 
--- a difference that did not wrap
-pub unwrapped : {p b r : ℕ} → (r + b) % 2 ^ 64 ≡ p → r < 2 ^ 64 → b ≤ p → r ≡ p - b
-unwrapped e f l = omega arith
+-- a pixel by a difference that is there where it is not negative
+pub difference-is : (v : ℕ) (o : Option ℕ) (b a : ℕ) → SomeIff o (b ≤ a) v → o ≡ then_some (leb b a) v
+difference-is v (Some x) b a h = rw (le-leb b a h.0, h.1)
+difference-is v None b a h = rw (lt-leb b a (⊎_elim (λ (l : a < b). l) (λ (l : b ≤ a). absurd (h l)) (which a b)))
+
+-- and by a closure that is called where a test says so
+pub called-is : (v : ℕ) (o : Option ℕ) (t : Bool) → is_some o ≡ t → IfSome o (λ x. x ≡ v) → o ≡ then_some t v
+called-is v (Some x) t e h = rw (← e, h)
+called-is v None t e h = rw (← e)
 
 -- ---- the four visits of one spread
 
@@ -114,27 +121,47 @@ module _ {w : ℕ} {s : State} (g : Spreads w s) where
   abbrev area : ℕ
   area = length s.plane
 
+  abbrev p : ℕ
+  p = on_top s
+
+  -- the states after them
+  abbrev pub above : State
+  above = visit_if (then_some (leb w p) (p - w)) (popped s)
+
+  abbrev pub below : State
+  below = visit_if (then_some (ltb (p + w) area) (p + w)) above
+
+  abbrev pub left : State
+  left = visit_if (then_some (ltb 0 (p % w)) (p - 1)) below
+
   -- they are to pixels of the plane
-  pub above_in : leb w (on_top s) ≡ true → on_top s - w < area
-  above_in t = omega (arith, g.inside)
+  pub above-in : IfSome (then_some (leb w p) (p - w)) (λ q. q < area)
+  above-in = if-there (leb w p) (λ t. omega (arith, g.inside))
 
-  pub below_in : ltb (on_top s + w) area ≡ true → on_top s + w < area
-  below_in t = ltb-true (on_top s + w) area t
+  pub below-in : IfSome (then_some (ltb (p + w) area) (p + w)) (λ q. q < area)
+  below-in = if-there (ltb (p + w) area) (λ t. ltb-true (p + w) area t)
 
-  pub left_in : ltb 0 (on_top s % w) ≡ true → on_top s - 1 < area
-  left_in t = omega (arith, g.inside)
+  pub left-in : IfSome (then_some (ltb 0 (p % w)) (p - 1)) (λ q. q < area)
+  left-in = if-there (ltb 0 (p % w)) (λ t. omega (arith, g.inside))
 
-  pub right-in : ltb (on_top s % w) (w - 1) ≡ true → on_top s + 1 < area
-  right-in t = g.row (ltb-true (on_top s % w) (w - 1) t)
+  pub right-in : IfSome (then_some (ltb (p % w) (w - 1)) (p + 1)) (λ q. q < area)
+  right-in = if-there (ltb (p % w) (w - 1)) (λ t. g.row (ltb-true (p % w) (w - 1) t))
 
+  -- and keep the room
   pub kept-first : Kept area (popped s)
   kept-first = record { room = popped-room g.room; long = refl }
+
+  pub kept-above : Kept area above
+  kept-above = if_kept _ above-in kept-first
+
+  pub kept-below : Kept area below
+  kept-below = if_kept _ below-in kept-above
+
+  pub kept-left : Kept area left
+  kept-left = if_kept _ left-in kept-below
 
   -- so one spread takes one off the height with those that wait
   pub spread-total : total (spread_top w s) + 1 ≡ s.top + waiting s.plane
   unfolding spread_from total
   spread-total =
-      let k1 = if_kept above_in kept-first in
-      let k2 = if_kept below_in k1 in
-      let k3 = if_kept left_in k2 in
-      omega (arith, g.some, if-total above_in kept-first, if-total below_in k1, if-total left_in k2, if-total right-in k3)
+      omega (arith, g.some, if-total _ above-in kept-first, if-total _ below-in kept-above, if-total _ left-in kept-below, if-total _ right-in kept-left)

@@ -1,24 +1,23 @@
 // The flood: which close pixels of a plane the border reaches by steps up, down, left and right.
 #![tactic(auto)]
 
-ghost use Rattle.std.specs.Prelude.{◌≡◌, ◌*◌, ◌<◌, ◌≤◌, true, length, slice_index};
+ghost use Rattle.std.specs.Prelude.{◌≡◌, ◌*◌, ◌<◌, ◌≤◌, IfSome, length, slice_index};
 ghost use Rattle.plane.specs.steps.Sides.{Sides};
 ghost use Rattle.outline.specs.Border.{border_list};
 ghost use Rattle.outline.specs.Ground.{ground_from};
 ghost use Rattle.flood.specs.steps.Flood.{state, visit_if, spread_top, seeded, marked, Room, Spreads, Closed};
 
 // How many pixels the border list has.
+#[tactic(auto, using(crate::proofs::Border::by_place))]
 pub fn border_count(h: usize, w: usize) -> usize
     requires { Sides h w }
     ensures { result ≡ length (border_list h w) }
 {
-    if h < 2 {
-        return w + w;
-    }
-    w + w + (h - 2) + (h - 2)
+    2 * w + 2 * h.saturating_sub(2)
 }
 
-// Pixel k of the border list.
+// Pixel k of the border list. By place and no iterator: its readers need the place, and the count before they begin.
+#[tactic(auto, using(crate::proofs::Border::by_place))]
 pub fn border_pixel(h: usize, w: usize, k: usize) -> usize
     requires sides { Sides h w }
     requires k_in_bounds { k < length (border_list h w) }
@@ -27,32 +26,32 @@ pub fn border_pixel(h: usize, w: usize, k: usize) -> usize
     if k < w {
         return k;
     }
-    if k < w + w {
+    if k < 2 * w {
         return (h - 1) * w + (k - w);
     }
-    let y = k - (w + w) + 1;
+    let y = k - 2 * w + 1;
     if y < h - 1 {
-        return y * w;
+        y * w
+    } else {
+        (y - (h - 2)) * w + (w - 1)
     }
-    (y - (h - 2)) * w + (w - 1)
 }
 
-// Pixel q becomes ground and is pushed, if there is such a pixel and it is close and not ground yet; the new height of the stack.
-fn visit(has: bool, q: usize, top: usize, stack: &mut [u32], out: &mut [u8]) -> usize
-    requires q_in_bounds { has ≡ true → q < length out.old }
+// A pixel becomes ground and is pushed, if there is one and it is close and not ground yet; the new height of the stack.
+fn visit(pixel: Option<usize>, top: usize, stack: &mut [u32], out: &mut [u8]) -> usize
+    requires pixel_in_bounds { IfSome pixel (λ q. q < length out.old) }
     requires room { Room (state top stack.old out.old) }
     ensures { state result stack.new out.new
-        ≡ visit_if has q (state top stack.old out.old) }
+        ≡ visit_if pixel (state top stack.old out.old) }
 {
-    if !has {
-        return top;
+    match pixel {
+        Some(q) if out[q] == 1 => {
+            out[q] = 2;
+            stack[top] = q as u32;
+            top + 1
+        }
+        _ => top,
     }
-    if out[q] != 1 {
-        return top;
-    }
-    out[q] = 2;
-    stack[top] = q as u32;
-    top + 1
 }
 
 // The pixel on top of the stack is taken off, and its four neighbours are visited; the new height of the stack.
@@ -66,10 +65,10 @@ fn spread(w: usize, top: usize, stack: &mut [u32], out: &mut [u8]) -> usize
     let pixel = stack[t0];
     let p = pixel as usize;
     let x = (pixel % (w as u32)) as usize;
-    let t1 = visit(w <= p, std::num::wrapping_sub_usize(p, w), t0, stack, out);
-    let t2 = visit(p + w < area, p + w, t1, stack, out);
-    let t3 = visit(0 < x, std::num::wrapping_sub_usize(p, 1), t2, stack, out);
-    visit(x < w - 1, p + 1, t3, stack, out)
+    let t1 = visit(p.checked_sub(w), t0, stack, out);
+    let t2 = visit((p + w < area).then_some(p + w), t1, stack, out);
+    let t3 = visit((0 < x).then(|| p - 1), t2, stack, out);
+    visit((x < w - 1).then_some(p + 1), t3, stack, out)
 }
 
 // The pixels of the border list are visited; the height of the stack.
@@ -81,7 +80,7 @@ fn seed_border(h: usize, w: usize, stack: &mut [u32], out: &mut [u8]) -> usize
 {
     let mut top = 0usize;
     for k in 0..border_count(h, w) {
-        top = visit(true, border_pixel(h, w, k), top, stack, out);
+        top = visit(Some(border_pixel(h, w, k)), top, stack, out);
     }
     top
 }
@@ -92,6 +91,7 @@ fn reach(h: usize, w: usize, stack: &mut [u32], out: &mut [u8])
     requires stack_len { h * w ≤ length stack.old }
     ensures { marked out.new ≡ ground_from out.old h w }
 {
+    // A while: it ends when the stack is empty.
     let mut top = seed_border(h, w, stack, out);
     while 0 < top {
         top = spread(w, top, stack, out);
@@ -99,11 +99,12 @@ fn reach(h: usize, w: usize, stack: &mut [u32], out: &mut [u8])
 }
 
 // 2 becomes 1 and all else 0.
+#[tactic(auto, unfolding(plane::specs::Plane::bit))]
 fn settle(out: &mut [u8])
     ensures { out.new ≡ marked out.old }
 {
-    for i in 0..out.len() {
-        out[i] = plane::byte(out[i] == 2);
+    for b in out.iter_mut() {
+        *b = u8::from(*b == 2);
     }
 }
 

@@ -1,52 +1,34 @@
 -- What a call's refusal says: of its answer, and, where it is 0, of the buffers' lengths.
 -- Assumes nothing.
-use mathlib.Core.Path.{◌≡◌, refl, sym, ap, ◌∙◌}
+use mathlib.Core.Path.{◌≡◌, refl, sym, ◌∙◌}
 use mathlib.Core.List.{List}
 use Prim.Native.Nat.{ℕ, ◌+◌, ◌*◌, ◌≤◌, ◌<◌}
 use native.Mathlib.Nat.{mul-le-mul}
 use native.Mathlib.Omega.{arith}
 use lib.IntN.{ℤ}
-use borrow.Author.Tests.{eq-eqb, ne_eqb, eqb-true, leb-true, ltb-true}
+use borrow.Author.Tests.{eqb-true, leb-true, ltb-true}
 use Rattle.plane.specs.steps.Sides.{Sides}
-use Rattle.plane.specs.Refusal.{room_for}
+use Rattle.std.specs.Prelude.{Ok, Err}
+use Rattle.plane.specs.declared.answer.Refusal.{Refusal}
+use Rattle.plane.specs.Refusal.{room_for, done_for}
 use Rattle.plane.proofs.Plane.{row_in, area-most}
-use Rattle.plane.proofs.Refusal.{Within, passed, written, kept, sides-are, sides-within, three-lines}
+use Rattle.plane.proofs.Refusal.{Within, passed, accepted, is-declined, written, kept, sides-are, sides-within, three-lines}
 use Rattle.nearest.specs.steps.Room.{Room}
-use Rattle.geometry.specs.declared.Answer.TheVariants as answer
-use Rattle.geometry.specs.declared.Labelled.TheVariants as labelled
-use Rattle.geometry.specs.Answer.{answer_for, labelled_for}
 use Rattle.geometry.specs.Refusal.{plane_refusal, nearest_refusal, fill_refusal, crop_refusal}
 use Rattle.geometry.specs.Calls.{nearest_refusal_in, PlaneCalled}
 
 -- ---- answers
 
-pub done : (n : ℕ) → n ≡ 0 → answer.Done ≡ answer_for n
-unfolding answer_for
-done n e = rw (eq-eqb n 0 e)
-
-pub declined : (n : ℕ) → (n ≡ 0 → ⊥) → answer.Refused n ≡ answer_for n
-unfolding answer_for
-declined n e = rw (ne_eqb n 0 e)
-
-pub counted : (n parts : ℕ) → n ≡ 0 → labelled.Parts parts ≡ labelled_for n parts
-unfolding labelled_for
-counted n parts e = rw (eq-eqb n 0 e)
-
-pub not-counted : (n parts : ℕ) → (n ≡ 0 → ⊥) → labelled.Refused n ≡ labelled_for n parts
-unfolding labelled_for
-not-counted n parts e = rw (ne_eqb n 0 e)
-
 -- a call that is declined leaves its output and its work buffer as they were
-pub plane-refused : (n : ℕ) {refusal : ℕ} {new work out : List ℕ} → n ≡ refusal → (n ≡ 0 → ⊥)
-    → PlaneCalled refusal new work out (answer.Refused n) work out
-plane-refused n {refusal} e bad =
-    let bad' : refusal ≡ 0 → ⊥ = λ q. bad (e ∙ q) in
-    record { answer = ap answer.Refused e ∙ declined _ bad'; out_is = sym (kept _ _ _ bad'); kept = λ _. refl }
+pub plane-refused : {refusal : ℕ} {new work out : List ℕ} {r : Refusal} → Err r ≡ done_for refusal
+    → PlaneCalled refusal new work out (Err r) work out
+plane-refused {refusal} {r = r} e =
+    record { answer = e; out_is = sym (kept _ _ _ (is-declined refusal tt r e)); kept = λ _. refl }
 
 -- a call that is accepted has written its output
 pub plane-made : {refusal : ℕ} {new work out work' out' : List ℕ} → refusal ≡ 0 → out' ≡ new
-    → PlaneCalled refusal new work out answer.Done work' out'
-plane-made z e = record { answer = done _ z; out_is = e ∙ sym (written _ _ _ z); kept = λ bad. absurd (bad z) }
+    → PlaneCalled refusal new work out (Ok tt) work' out'
+plane-made z e = record { answer = sym (accepted _ _ z); out_is = e ∙ sym (written _ _ _ z); kept = λ bad. absurd (bad z) }
 
 -- ---- lengths
 

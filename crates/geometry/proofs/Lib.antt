@@ -1,2 +1,3 @@
 pub mod Accepted
 mod Filling
+pub mod Numbers

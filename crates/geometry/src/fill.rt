@@ -2,16 +2,6 @@
 ghost use Rattle.std.specs.Prelude.{◌≡◌, cond, ◌*◌, length, get_or};
 ghost use Rattle.geometry.specs.steps.Source.{source_at, colours_from, Reads};
 
-// Three numbers.
-fn copy_colour(from: &[u64], to: &mut [u64])
-    requires { (length from.now ≡ 3) × (length to.old ≡ 3) }
-    ensures { to.new ≡ from.now }
-{
-    to[0] = from[0];
-    to[1] = from[1];
-    to[2] = from[2];
-}
-
 // Pixel i's index where something is on, else the last row's first pixel.
 fn source(index: u32, some: bool, last: usize) -> usize
     ensures { result ≡ cond some index last }
@@ -33,11 +23,9 @@ pub fn colours_from(
 {
     let n = h * w;
     let last = n - w;
-    let mut i = 0usize;
-    while i < n {
+    for i in 0..n {
         let s = 3 * source(indices[i], some, last);
         let t = i * 3;
-        copy_colour(&colours[s..s + 3], &mut out[t..t + 3]);
-        i += 1;
+        out[t..t + 3].copy_from_slice(&colours[s..s + 3]);
     }
 }

@@ -1,38 +1,16 @@
-// Plane geometry: the public calls. Each declines by its number, and a call that declines writes nothing.
+// Plane geometry: the public calls. Each answers its value or why it declines, and a call that declines writes nothing.
 #![tactic(auto)]
 
 mod fill;
 mod refusals;
 
 ghost use Rattle.std.specs.Prelude.{◌≡◌, length};
-ghost use Rattle.geometry.specs.Answer.{refusal_of_answer};
+ghost use Rattle.plane.specs.Refusal.{done_for};
 ghost use Rattle.geometry.specs.Calls.{NearestCalled, LabelsCalled, SquaresCalled, DistanceCalled, FillCalled};
 ghost use Rattle.geometry.specs.Refusal.{crop_refusal};
 ghost use Rattle.geometry.specs.Crop.{crop_part};
 
-// What a call answers: it is done, or declined by its number.
-#[derive(Drop)]
-pub enum Answer {
-    Done,
-    Refused(u32),
-}
-
-// What labels answers: the number of parts, or the number by which it declines.
-#[derive(Drop)]
-pub enum Labelled {
-    Parts(u32),
-    Refused(u32),
-}
-
-// The number of an answer: 0 where the call was accepted.
-pub fn refusal_of(answer: Answer) -> u32
-    ensures { result ≡ refusal_of_answer answer }
-{
-    match answer {
-        Answer::Done => 0,
-        Answer::Refused(n) => n,
-    }
-}
+use plane::answer::Refusal;
 
 // Row and column of the nearest on-pixel of each pixel; with nothing on, row -1 and column 0.
 pub fn feature_transform(
@@ -42,32 +20,31 @@ pub fn feature_transform(
     work: &mut [u32],
     rows: &mut [i32],
     cols: &mut [i32],
-) -> Answer
+) -> Result<(), Refusal>
     ensures { NearestCalled mask.now h w
         work.old rows.old cols.old result
         work.new rows.new cols.new }
 {
-    let refusal = refusals::nearest_refusal(h, w, mask.len(), rows.len(), cols.len(), work.len());
-    if refusal != 0 {
-        return Answer::Refused(refusal);
-    }
+    refusals::nearest_refusal(h, w, mask.len(), rows.len(), cols.len(), work.len())?;
     nearest::nearest_planes(mask, h, w, work, rows, cols);
-    Answer::Done
+    Ok(())
 }
 
 // The labels of the parts of a mask, joined by steps up, down, left or right: 1 to n in raster order of each part's
 // first pixel, 0 off the mask. The answer carries n.
-pub fn label4(mask: &[u8], h: usize, w: usize, parents: &mut [u32], labels: &mut [u32]) -> Labelled
+pub fn label4(
+    mask: &[u8],
+    h: usize,
+    w: usize,
+    parents: &mut [u32],
+    labels: &mut [u32],
+) -> Result<u32, Refusal>
     ensures { LabelsCalled mask.now h w
         parents.old labels.old result
         parents.new labels.new }
 {
-    let refusal = refusals::plane_refusal(h, w, mask.len(), labels.len(), parents.len());
-    if 0 < refusal {
-        return Labelled::Refused(refusal);
-    }
-    let n = labels::label(mask, h, w, parents, labels);
-    Labelled::Parts(n)
+    refusals::plane_refusal(h, w, mask.len(), labels.len(), parents.len())?;
+    Ok(labels::label(mask, h, w, parents, labels))
 }
 
 // The dilation of a mask by the square of k rows and k columns each way: k is iterations, and 0 iterations mean the larger
@@ -79,31 +56,31 @@ pub fn binary_dilation8(
     iterations: u64,
     work: &mut [u8],
     out: &mut [u8],
-) -> Answer
+) -> Result<(), Refusal>
     ensures { SquaresCalled mask.now h w iterations
         work.old out.old result
         work.new out.new }
 {
-    let refusal = refusals::plane_refusal(h, w, mask.len(), out.len(), work.len());
-    if refusal != 0 {
-        return Answer::Refused(refusal);
-    }
+    refusals::plane_refusal(h, w, mask.len(), out.len(), work.len())?;
     squares::dilate(mask, h, w, iterations, work, out);
-    Answer::Done
+    Ok(())
 }
 
 // dy² + dx² of each pixel from its nearest on-pixel; with nothing on, (y + 1)² + x².
-pub fn square_distance(mask: &[u8], h: usize, w: usize, work: &mut [u32], out: &mut [u32]) -> Answer
+pub fn square_distance(
+    mask: &[u8],
+    h: usize,
+    w: usize,
+    work: &mut [u32],
+    out: &mut [u32],
+) -> Result<(), Refusal>
     ensures { DistanceCalled mask.now h w
         work.old out.old result
         work.new out.new }
 {
-    let refusal = refusals::plane_refusal(h, w, mask.len(), out.len(), work.len());
-    if refusal != 0 {
-        return Answer::Refused(refusal);
-    }
+    refusals::plane_refusal(h, w, mask.len(), out.len(), work.len())?;
     nearest::nearest_distances(mask, h, w, work, out);
-    Answer::Done
+    Ok(())
 }
 
 // The colours with each pixel's taken from its nearest on-pixel, as bit patterns, channel c of pixel i at 3 * i + c;
@@ -115,21 +92,18 @@ pub fn fill_transparent(
     w: usize,
     work: &mut [u32],
     out: &mut [u64],
-) -> Answer
+) -> Result<(), Refusal>
     ensures { FillCalled colours.now mask.now h w
         work.old out.old result
         work.new out.new }
 {
-    let refusal = refusals::fill_refusal(h, w, colours.len(), mask.len(), out.len(), work.len());
-    if refusal != 0 {
-        return Answer::Refused(refusal);
-    }
+    refusals::fill_refusal(h, w, colours.len(), mask.len(), out.len(), work.len())?;
     nearest::nearest_indices(mask, h, w, work);
     fill::colours_from(colours, h, w, work, plane::any(mask), out);
-    Answer::Done
+    Ok(())
 }
 
-// 0 where crop_row with the same arguments hands the row back, else the number by which it declines.
+// Whether crop_row with the same arguments hands the row back, or why it declines.
 pub fn crop_row_refusal(
     plane: &[u8],
     h: usize,
@@ -139,8 +113,8 @@ pub fn crop_row_refusal(
     x0: usize,
     x1: usize,
     y: usize,
-) -> u32
-    ensures { result ≡ crop_refusal (length plane.now) h w y0 y1 x0 x1 y }
+) -> Result<(), Refusal>
+    ensures { result ≡ done_for (crop_refusal (length plane.now) h w y0 y1 x0 x1 y) }
 {
     refusals::crop_refusal(plane.len(), h, w, y0, y1, x0, x1, y)
 }
@@ -158,8 +132,8 @@ pub fn crop_row(
 ) -> &[u8]
     ensures { result.now ≡ crop_part plane.now h w y0 y1 x0 x1 y }
 {
-    if crop_row_refusal(plane, h, w, y0, y1, x0, x1, y) != 0 {
-        return &plane[0..0];
+    match crop_row_refusal(plane, h, w, y0, y1, x0, x1, y) {
+        Ok(()) => &plane[y * w + x0..y * w + x1],
+        Err(_) => &[],
     }
-    &plane[y * w + x0..y * w + x1]
 }

@@ -1,26 +1,38 @@
 -- The three ends of the search, by the outline's definitions.
 -- Assumes nothing.
-use mathlib.Core.Path.{◌≡◌, ap, ◌∙◌}
+use mathlib.Core.Path.{◌≡◌, refl, ap, ◌∙◌}
 use mathlib.Core.Bool.{Bool, true, false, ◌&&◌}
 use mathlib.Core.Logic.{⊎_elim}
-use mathlib.Core.List.{List}
-use Prim.Native.Nat.{ℕ, ◌*◌, ◌≤◌, ◌<◌}
+use mathlib.Core.List.{List, ◌∷◌}
+use Prim.Native.Nat.{ℕ, zero, suc, ◌*◌, ◌≤◌, ◌<◌}
 use native.Mathlib.Omega.{arith}
 use lib.Dec.{leb}
-use lib.ListN.{length, get_or, get_or-eq_default}
+use lib.ListN.{length, get_or, get_or-eq_default, replicate}
 use lib.Ieee.{Float}
+use mir.Val.{bool_byte}
 use Rattle.plane.specs.Plane.{bit, table}
 use Rattle.plane.specs.steps.Sides.{Sides}
 use Rattle.plane.specs.Mask.{mask_of, some_off}
 use Rattle.plane.proofs.Plane.{table-length, table_at}
 use Rattle.plane.proofs.Search.{which, and_no}
 use Rattle.colour.specs.declared.Rgb.{Rgb}
-use Rattle.outline.specs.declared.Ground.{Ground}
-use Rattle.outline.specs.declared.Ground.TheVariants.{Found, Absent}
+use Rattle.std.specs.Prelude.{Option, Some, None}
 use Rattle.outline.specs.Border.{border_list}
 use Rattle.outline.specs.Ground.{is_close, close_plane, ground_from, ground_of, count_on, found_from, is_found, ground_plane}
-use Rattle.outline.specs.Answer.{ground_for}
+use Rattle.outline.specs.Answer.{found_reference}
 use Rattle.flood.specs.steps.Flood.{Closed}
+
+-- a test as a byte
+pub byte-is : (b : Bool) → bool_byte b ≡ bit b
+unfolding bit
+byte-is true = refl
+byte-is false = refl
+
+-- a table of 0
+zeros : (n k : ℕ) → table {A = ℕ} (λ (i : ℕ). 0) k n ≡ replicate n 0
+unfolding table
+zeros zero k = refl
+zeros (suc n) k = ap (λ (l : List ℕ). 0 ∷ l) (zeros n (suc k))
 
 pub bit-most : (b : Bool) → bit b ≤ 1
 unfolding bit
@@ -53,8 +65,8 @@ module _ (colours : List Float) (h w : ℕ) (reference : Rgb) (tolerance : Float
   close-closed p s e = rw e (record { sides = s; output = close-length; bits = close-bits })
 
   -- what is answered and written
-  abbrev pub Answered : Ground → List ℕ → Type 0
-  Answered r z = (r ≡ ground_for 0 colours h w reference tolerance) × (z ≡ ground_plane colours h w reference tolerance)
+  abbrev pub Answered : Option Rgb → List ℕ → Type 0
+  Answered r z = (r ≡ found_reference colours h w reference tolerance) × (z ≡ ground_plane colours h w reference tolerance)
 
   -- whether nine tenths of the border list are on
   abbrev nine_tenths : List ℕ → Bool
@@ -62,14 +74,14 @@ module _ (colours : List Float) (h w : ℕ) (reference : Rgb) (tolerance : Float
 
   -- a plane of 0
   abbrev Cleared : List ℕ → ℕ → Type 0
-  Cleared z n = (n ≡ h * w) × (z ≡ table (λ (i : ℕ). 0) 0 n)
+  Cleared z n = (n ≡ h * w) × (z ≡ replicate n 0)
 
-  absent : (n : ℕ) (z : List ℕ) → is_found colours h w reference tolerance ≡ false → Cleared z n → Answered Absent z
-  unfolding ground_for ground_plane
-  absent n z t e = (rw t, rw (t, ← e.0) e.1)
+  absent : (n : ℕ) (z : List ℕ) → is_found colours h w reference tolerance ≡ false → Cleared z n → Answered None z
+  unfolding found_reference ground_plane
+  absent n z t e = (rw t, rw (t, ← e.0, zeros n 0) e.1)
 
   -- too few are close
-  pub absent-few : (p : List ℕ) (n : ℕ) (z : List ℕ) → p ≡ close → nine_tenths p ≡ false → Cleared z n → Answered Absent z
+  pub absent-few : (p : List ℕ) (n : ℕ) (z : List ℕ) → p ≡ close → nine_tenths p ≡ false → Cleared z n → Answered None z
   unfolding is_found found_from
   absent-few p n z e t q = let u : nine_tenths close ≡ false = rw e at t in absent n z (rw u) q
 
@@ -82,13 +94,13 @@ module _ (colours : List Float) (h w : ℕ) (reference : Rgb) (tolerance : Float
     off-is b t = rw (← ground-is, ← m) t
 
     -- all is ground
-    pub absent-full : (n : ℕ) (z : List ℕ) → some_off v (length v) ≡ false → Cleared z n → Answered Absent z
+    pub absent-full : (n : ℕ) (z : List ℕ) → some_off v (length v) ≡ false → Cleared z n → Answered None z
     unfolding is_found found_from ground_of
     absent-full n z t y = absent n z (ap (λ (b : Bool). nine_tenths close && b) (off-is false t) ∙ and_no (nine_tenths close)) y
 
     -- the ground is found
-    pub found : nine_tenths p ≡ true → some_off v (length v) ≡ true → Answered (Found reference) v
-    unfolding ground_for ground_plane is_found found_from ground_of
+    pub found : nine_tenths p ≡ true → some_off v (length v) ≡ true → Answered (Some reference) v
+    unfolding found_reference ground_plane is_found found_from ground_of
     found s t =
         let u : nine_tenths close ≡ true = rw e at s in
         let f : is_found colours h w reference tolerance ≡ true = rw (u, off-is true t) in

@@ -5,12 +5,11 @@ use mathlib.Core.Bool.{Bool, true, false, cond, ◌&&◌, ◌||◌}
 use mathlib.Core.List.{List}
 use mathlib.Core.Logic.{◌⊎◌, inl, inr, ⊎_elim}
 use Prim.Native.Nat.{ℕ, ◌+◌, ◌*◌, ◌<◌, ◌/◌, ◌%◌}
-use native.Mathlib.Nat.{le_refl}
-use native.Mathlib.Omega.{arith}
 use lib.Dec.{eqb}
 use lib.Ieee.{Float}
 use lib.ListN.{length}
-use borrow.Author.Tests.{lt-ltb, le-ltb}
+use Rattle.std.specs.Int.{from_bool}
+use Rattle.std.specs.Prelude.{None}
 use Rattle.plane.proofs.Mask.{mask-same}
 use Rattle.plane.specs.Plane.{bit, on_at, table, index_of}
 use Rattle.plane.specs.Search.{some_below}
@@ -25,10 +24,16 @@ use Rattle.outline.specs.Growth.{is_edge, is_shallow, is_reach, body_from, joins
 use Rattle.window.specs.steps.Window.{near_pixel}
 use Rattle.growth.specs.steps.Marks.{joins_with, waits, edge_mark, near_mark, search_mark, last_mark, decided_mark, Laid}
 use Rattle.window.proofs.Searching.{near_none, near-some}
-use Rattle.window.proofs.Indices.{index-inside, indices-at}
+use Rattle.window.proofs.Indices.{indices-at}
+
+-- what `u8::from` writes for a truth
+pub from_bool-bit : (t : Bool) → from_bool t ≡ bit t
+unfolding bit
+from_bool-bit true = refl
+from_bool-bit false = refl
 
 -- without a deep pixel none is near enough
-pub near-empty : (deep : List ℕ) (h w y x : ℕ) → some_below (h * w) (is_on deep) ≡ false → near_pixel deep h w y x ≡ h * w
+pub near-empty : (deep : List ℕ) (h w y x : ℕ) → some_below (h * w) (is_on deep) ≡ false → near_pixel deep h w y x ≡ None
 unfolding is_reach on_at is_on
 near-empty deep h w y x e =
     let z = nothing-on deep h w y x (λ j i a b. none_found (is_on deep) (h * w) e (j * w + i) (pixel-in j i h w a b)) in
@@ -57,10 +62,8 @@ module _ (colours : List Float) (reference : Rgb) (deep shallow : List ℕ) (h w
   marked : (i : ℕ) → i < h * w → (t : Bool) → is_reach (i / w) (i % w) (nearest deep h w (i / w) (i % w)) ≡ t → Marked i
   unfolding body_from near_mark
   marked i l true e =
-      let found = nearest deep h w (i / w) (i % w) in
-      let inside = index-inside deep h w (i / w) (i % w) found (omega arith) refl in
-      inl (rw (near-some deep h w (i / w) (i % w) e, lt-ltb (index_of w found) (h * w) inside, e))
-  marked i l false e = inr (rw (near_none deep h w (i / w) (i % w) e, le-ltb _ _ (le_refl (h * w))), rw e)
+      inl (rw (near-some deep h w (i / w) (i % w) e, e))
+  marked i l false e = inr (rw (near_none deep h w (i / w) (i % w) e), rw e)
 
   module _ (marks : List ℕ) where
     abbrev searched : ℕ → ℕ

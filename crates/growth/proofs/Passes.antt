@@ -1,9 +1,10 @@
 -- Passes one after the other.
 -- Assumes nothing.
 use mathlib.Core.Path.{◌≡◌, sym}
-use mathlib.Core.Bool.{Bool, true, false, cond, ◌||◌}
+use mathlib.Core.Bool.{Bool, true, false, ◌||◌}
 use mathlib.Core.List.{List}
-use Prim.Native.Nat.{ℕ, zero, suc, ◌*◌, ◌-◌, ◌<◌}
+use Prim.Native.Nat.{ℕ, zero, suc, ◌+◌, ◌*◌, ◌<◌}
+use Rattle.std.proofs.Common.{add-one}
 use native.Mathlib.Omega.{arith}
 use lib.Ieee.{Float}
 use Rattle.plane.proofs.Mask.{mask-same, mask-on}
@@ -12,11 +13,6 @@ use Rattle.plane.proofs.Search.{none_found, or_no}
 use Rattle.plane.specs.Mask.{is_on, mask_of}
 use Rattle.colour.specs.declared.Rgb.{Rgb}
 use Rattle.outline.specs.Growth.{is_joining, pass_of, growth_of}
-
--- fewer are left after a pass
-pub rest-less : (t : Bool) (n : ℕ) → 0 < n → cond t (n - 1) 0 < n
-rest-less true n l = omega arith
-rest-less false n l = l
 
 module _ (colours : List Float) (reference : Rgb) (h w : ℕ) (back : List ℕ) where
   abbrev joining : ℕ → Bool
@@ -33,12 +29,17 @@ module _ (colours : List Float) (reference : Rgb) (h w : ℕ) (back : List ℕ) 
       (λ i l. rw (mask-on (h * w) (λ (k : ℕ). is_on back k || joining k) i l, none_found joining (h * w) e i l, or_no))
 
   -- one pass, and those that are left
-  pub growth-step : (p left : ℕ) (joined : Bool) (new : List ℕ) → 0 < p → left ≡ cond joined (p - 1) 0
-      → joined ≡ some_below (h * w) joining → new ≡ next → growth_of colours reference h w p back ≡ growth_of colours reference h w left new
+  pub growth-more : (p left : ℕ) (new : List ℕ) → p ≡ left + 1 → some_below (h * w) joining ≡ true → new ≡ next
+      → growth_of colours reference h w p back ≡ growth_of colours reference h w left new
   unfolding growth_of
-  growth-step zero left joined new l r e f = absurd (omega arith)
-  growth-step (suc p) left true new l r e f = let q : suc p - 1 ≡ p = omega arith in rw (sym e, r, q, f)
-  growth-step (suc p) left false new l r e f = rw (sym e, r, f) (stays (sym e))
+  growth-more p left new l e f = rw (l, add-one, e, f)
+
+  -- a pass without a join is the last
+  pub growth-last : (p n : ℕ) (new : List ℕ) → 0 < p → n ≡ h * w → some_below (h * w) joining ≡ false → new ≡ next
+      → mask_of n (is_on new) ≡ growth_of colours reference h w p back
+  unfolding growth_of
+  growth-last zero n new l k e f = absurd (omega arith)
+  growth-last (suc p) n new l k e f = rw (k, e, f) (sym (stays e))
 
   -- none is left
   pub growth-done : (p n : ℕ) → p ≡ 0 → n ≡ h * w → mask_of n (is_on back) ≡ growth_of colours reference h w p back

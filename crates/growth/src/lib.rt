@@ -1,25 +1,34 @@
 // Growth (the core of unmix_fringe): passes that move the background into the object's anti-aliased rim.
 #![tactic(auto)]
 
-ghost use Rattle.std.specs.Prelude.{◌≡◌, cond, not, ◌||◌, ℕ, ◌+◌, ◌*◌, ◌-◌, ◌<◌, ◌≤◌, eqb, length, take};
+ghost use Rattle.std.specs.Prelude.{◌≡◌, cond, ◌||◌, ℕ, ◌*◌, ◌+◌, ◌<◌, ◌≤◌, eqb, length, get_or};
+ghost use Rattle.std.specs.Option.{ForSome};
 ghost use Rattle.plane.specs.Plane.{on, bit, table};
 ghost use Rattle.plane.specs.steps.Sides.{Sides};
 ghost use Rattle.plane.specs.Search.{some_below};
 ghost use Rattle.plane.specs.Mask.{is_on, mask_of};
-ghost use Rattle.nearest.specs.steps.Room.{IndexRoom};
 ghost use Rattle.outline.specs.Border.{colour_at};
 ghost use Rattle.outline.specs.Growth.{is_joining, pass_of, growth_of};
 ghost use Rattle.window.specs.steps.Window.{Made};
 ghost use Rattle.growth.specs.steps.Marks.{joins_with, edge_test, near_mark, waits, search_mark, last_mark, decided_mark};
-ghost use Rattle.growth.specs.steps.Marks.{Picture, Searches, Indexed, Decides, Planes, Laid, Room};
+ghost use Rattle.growth.specs.steps.Marks.{Planes, Laid, Room};
 
-use plane::byte;
-
-// The mark of a pixel that waits for its nearest shallow pixel.
+// The mark of a pixel that waits for its nearest shallow pixel. A number, and no enum: the marks stand in a lent plane of bytes.
 const WAITS: u8 = 2;
 
 // How far deep pixels are from the background (deep_reach).
 const DEEP_REACH: u64 = 4;
+
+// A picture with its sides, and the reference colour that its pixels are compared with.
+#[derive(Clone, Copy)]
+struct Photo<'a> {
+    colours: &'a [f64],
+    h: usize,
+    w: usize,
+    reference: colour::Rgb,
+    ghost sides: { Sides h w },
+    ghost colours_long: { length colours.now ≡ 3 * (h * w) },
+}
 
 // The edge pixels: neither background nor shallow; none where there is no shallow pixel at all.
 fn edges(some: bool, back: &[u8], shallow: &[u8], marks: &mut [u8])
@@ -28,10 +37,8 @@ fn edges(some: bool, back: &[u8], shallow: &[u8], marks: &mut [u8])
     ensures { marks.new ≡ mask_of (length back.now)
         (edge_test some back.now shallow.now) }
 {
-    let mut i = 0usize;
-    while i < back.len() {
-        marks[i] = byte(some & (back[i] == 0) & (shallow[i] == 0));
-        i += 1;
+    for i in 0..back.len() {
+        marks[i] = u8::from(some & (back[i] == 0) & (shallow[i] == 0));
     }
 }
 
@@ -52,46 +59,46 @@ fn lay(back: &[u8], h: usize, w: usize, shallow: &mut [u8], deep: &mut [u8], mar
     edges(some, back, shallow, marks);
 }
 
-// The colour of pixel i.
-fn colour_at(colours: &[f64], i: usize) -> colour::Rgb
-    requires { 3 * i + 2 < length colours.now }
-    ensures { result ≡ colour_at colours.now i }
-{
-    let k = 3 * i;
-    colour::Rgb {
-        r: colours[k],
-        g: colours[k + 1],
-        b: colours[k + 2],
+impl<'a> Photo<'a> {
+    // The colour of pixel i.
+    fn colour_at(self, i: usize) -> colour::Rgb
+        requires { i < self.h * self.w }
+        ensures { result ≡ colour_at self.entry.colours.now i }
+    {
+        let k = 3 * i;
+        colour::Rgb {
+            r: self.colours[k],
+            g: self.colours[k + 1],
+            b: self.colours[k + 2],
+        }
     }
-}
 
-// Whether pixel i joins if its body colour is that of pixel b.
-fn joins_with(colours: &[f64], reference: colour::Rgb, b: usize, i: usize) -> bool
-    requires b_in_bounds { 3 * b + 2 < length colours.now }
-    requires i_in_bounds { 3 * i + 2 < length colours.now }
-    ensures { result ≡ joins_with colours.now reference b i }
-{
-    let full = colour::difference(colour_at(colours, b), reference);
-    let mixed = colour::difference(colour_at(colours, i), reference);
-    colour::joins(full, mixed)
+    // Whether pixel i joins if its body colour is that of pixel b.
+    fn joins_with(self, b: usize, i: usize) -> bool
+        requires b_in_bounds { b < self.h * self.w }
+        requires i_in_bounds { i < self.h * self.w }
+        ensures { result ≡ joins_with self.entry.colours.now self.entry.reference b i }
+    {
+        let full = colour::difference(self.colour_at(b), self.reference);
+        let mixed = colour::difference(self.colour_at(i), self.reference);
+        colour::joins(full, mixed)
+    }
 }
 
 // The mark of a pixel after the search for its deep pixel: one that is not marked stays so; `some` says whether there is a deep pixel.
 fn search_mark(
-    colours: &[f64],
-    h: usize,
-    w: usize,
-    reference: colour::Rgb,
+    photo: Photo,
     deep: &[u8],
-    nearest: &[u32],
-    made: bool,
+    nearest: Option<&[u32]>,
     some: bool,
     mark: u8,
     i: usize,
 ) -> u8
-    requires searches { Searches colours.now h w deep.now nearest.now made some }
-    requires i_bound { i < h * w }
-    ensures { result ≡ cond (on mark) (near_mark colours.now reference deep.now h w i) 0 }
+    requires deep_len { length deep.now ≡ photo.h * photo.w }
+    requires made { ForSome nearest (λ plane. Made deep.now plane.now photo.h photo.w) }
+    requires known { some ≡ some_below (photo.h * photo.w) (is_on deep.now) }
+    requires i_bound { i < photo.h * photo.w }
+    ensures { let p = photo.entry in result ≡ cond (on mark) (near_mark p.colours.now p.reference deep.now p.h p.w i) 0 }
 {
     if mark == 0 {
         return 0;
@@ -99,68 +106,54 @@ fn search_mark(
     if !some {
         return WAITS;
     }
-    let b = window::near_pixel(deep, nearest, made, h, w, i);
-    if b < deep.len() {
-        return byte(joins_with(colours, reference, b, i));
+    match window::near_pixel(deep, nearest, photo.h, photo.w, i) {
+        Some(b) => u8::from(photo.joins_with(b, i)),
+        None => WAITS,
     }
-    WAITS
 }
 
 // The marks after the search for deep pixels; whether a pixel waits.
-fn search(
-    colours: &[f64],
-    h: usize,
-    w: usize,
-    reference: colour::Rgb,
-    deep: &[u8],
-    nearest: &[u32],
-    made: bool,
-    some: bool,
-    marks: &mut [u8],
-) -> bool
-    requires searches { Searches colours.now h w deep.now nearest.now made some }
-    requires marks_len { length marks.old ≡ h * w }
-    ensures marks_after { marks.new ≡ table
-        (search_mark colours.now reference deep.now h w marks.old) 0 (h * w) }
-    ensures value { result ≡ some_below (h * w) (λ (i : ℕ).
-        eqb (search_mark colours.now reference deep.now h w marks.old i) waits) }
+fn search(photo: Photo, deep: &[u8], nearest: Option<&[u32]>, some: bool, marks: &mut [u8]) -> bool
+    requires deep_len { length deep.now ≡ photo.h * photo.w }
+    requires made { ForSome nearest (λ plane. Made deep.now plane.now photo.h photo.w) }
+    requires known { some ≡ some_below (photo.h * photo.w) (is_on deep.now) }
+    requires marks_len { length marks.old ≡ photo.h * photo.w }
+    ensures marks_after { let p = photo.entry in marks.new ≡ table
+        (search_mark p.colours.now p.reference deep.now p.h p.w marks.old) 0 (length marks.old) }
+    ensures value { let p = photo.entry in result ≡ some_below (length marks.old) (λ (i : ℕ).
+        eqb (search_mark p.colours.now p.reference deep.now p.h p.w marks.old i) waits) }
 {
     let mut found = false;
-    let mut m = 0u8;
-    let mut i = 0usize;
-    while i < marks.len() {
-        m = search_mark(
-            colours, h, w, reference, deep, nearest, made, some, marks[i], i,
-        );
+    for i in 0..marks.len() {
+        let m = search_mark(photo, deep, nearest, some, marks[i], i);
         marks[i] = m;
-        found = found | (m == WAITS);
-        i += 1;
+        found |= m == WAITS;
     }
     found
 }
 
 // The last mark of a pixel: one that waits is decided by the pixel `body`.
-fn last_mark(colours: &[f64], reference: colour::Rgb, body: u32, mark: u8, i: usize) -> u8
-    requires body_in_bounds { 3 * body + 2 < length colours.now }
-    requires i_in_bounds { 3 * i + 2 < length colours.now }
-    ensures { result ≡ cond (eqb mark waits) (bit (joins_with colours.now reference body i)) mark }
+fn last_mark(photo: Photo, body: usize, mark: u8, i: usize) -> u8
+    requires body_in_bounds { body < photo.h * photo.w }
+    requires i_in_bounds { i < photo.h * photo.w }
+    ensures { result ≡ cond (eqb mark waits) (bit (joins_with photo.entry.colours.now photo.entry.reference body i)) mark }
 {
     if mark != WAITS {
         return mark;
     }
-    byte(joins_with(colours, reference, plane::wide(body), i))
+    u8::from(photo.joins_with(body, i))
 }
 
 // The last marks, from the nearest shallow pixels.
-fn decide_waiting(colours: &[f64], reference: colour::Rgb, nearest: &[u32], marks: &mut [u8])
-    requires { Indexed colours.now nearest.now marks.old }
+fn decide_waiting(photo: Photo, nearest: &[u32], marks: &mut [u8])
+    requires marks_len { length marks.old ≡ photo.h * photo.w }
+    requires nearest_len { length nearest.now ≡ photo.h * photo.w }
+    requires inside { (i : ℕ) → i < photo.h * photo.w → get_or nearest.now i 0 < photo.h * photo.w }
     ensures { marks.new ≡ table
-        (last_mark colours.now reference nearest.now marks.old) 0 (length marks.old) }
+        (last_mark photo.entry.colours.now photo.entry.reference nearest.now marks.old) 0 (length marks.old) }
 {
-    let mut i = 0usize;
-    while i < marks.len() {
-        marks[i] = last_mark(colours, reference, nearest[i], marks[i], i);
-        i += 1;
+    for i in 0..marks.len() {
+        marks[i] = last_mark(photo, nearest[i] as usize, marks[i], i);
     }
 }
 
@@ -172,12 +165,10 @@ fn settle(marks: &[u8], back: &mut [u8]) -> bool
     ensures value { result ≡ some_below (length back.old) (is_on marks.now) }
 {
     let mut joined = false;
-    let mut i = 0usize;
-    while i < back.len() {
+    for i in 0..back.len() {
         let m = marks[i] != 0;
-        back[i] = byte((back[i] != 0) | m);
-        joined = joined | m;
-        i += 1;
+        back[i] = u8::from((back[i] != 0) | m);
+        joined |= m;
     }
     joined
 }
@@ -186,124 +177,65 @@ fn settle(marks: &[u8], back: &mut [u8]) -> bool
 fn tidy(back: &mut [u8])
     ensures { back.new ≡ mask_of (length back.old) (is_on back.old) }
 {
-    let mut i = 0usize;
-    while i < back.len() {
-        back[i] = byte(back[i] != 0);
-        i += 1;
+    for b in back.iter_mut() {
+        *b = u8::from(*b != 0);
     }
-}
-
-// 1 for a mark, 0 for none.
-fn one(mark: u8) -> usize
-    ensures { result ≤ 1 }
-{
-    if mark == 0 { 0 } else { 1 }
 }
 
 // Whether more than one pixel in 32 is marked, so that one transform costs less than the windows of all.
 fn many(marks: &[u8]) -> bool {
     let mut n = 0usize;
-    let mut i = 0usize;
-    while i < marks.len() {
-        n += one(marks[i]);
-        i += 1;
+    for m in marks {
+        n += usize::from(*m != 0);
     }
     marks.len() / 32 < n
 }
 
-// The plane of the nearest deep pixels, where it is worth it; whether it was made.
-fn make_nearest(
-    deep: &[u8],
-    h: usize,
-    w: usize,
-    some: bool,
-    marks: &[u8],
-    nearest: &mut [u32],
-) -> bool
-    requires index_room { IndexRoom h w deep.now nearest.old }
-    requires some_is { some ≡ some_below (h * w) (is_on deep.now) }
-    ensures { Made deep.now (take (h * w) nearest.new) result h w }
-{
-    let made = some & many(marks);
-    if made {
-        nearest::nearest_indices(deep, h, w, nearest);
-        return true;
-    }
-    false
-}
-
-// The marks of the pixels that join, from the edge pixels.
-fn decide(
-    colours: &[f64],
-    h: usize,
-    w: usize,
-    reference: colour::Rgb,
-    shallow: &[u8],
-    deep: &[u8],
-    nearest: &mut [u32],
-    marks: &mut [u8],
-)
-    requires { Decides colours.now h w shallow.now deep.now nearest.old marks.old }
-    ensures { marks.new ≡ table
-        (decided_mark colours.now reference deep.now shallow.now h w marks.old) 0 (h * w) }
+// The marks of the pixels that join, from the edge pixels. The plane of the nearest deep pixels is made where it is worth it.
+fn decide(photo: Photo, shallow: &[u8], deep: &[u8], nearest: &mut [u32], marks: &mut [u8])
+    requires shallow_len { length shallow.now ≡ photo.h * photo.w }
+    requires deep_len { length deep.now ≡ photo.h * photo.w }
+    requires nearest_len { photo.h * photo.w + 3 * photo.w ≤ length nearest.old }
+    requires marks_len { length marks.old ≡ photo.h * photo.w }
+    ensures { let p = photo.entry in marks.new ≡ table
+        (decided_mark p.colours.now p.reference deep.now shallow.now p.h p.w marks.old)
+        0 (p.h * p.w) }
 {
     let n = marks.len();
     let some = plane::any(deep);
-    let made = make_nearest(deep, h, w, some, marks, nearest);
-    let waiting = search(
-        colours,
-        h,
-        w,
-        reference,
-        deep,
-        &nearest[0..n],
-        made,
-        some,
-        marks,
-    );
-    if !waiting {
-        return;
+    let made = some && many(marks);
+    if made {
+        nearest::nearest_indices(deep, photo.h, photo.w, nearest);
     }
-    nearest::nearest_indices(shallow, h, w, nearest);
-    decide_waiting(colours, reference, &nearest[0..n], marks);
+    if search(photo, deep, made.then_some(&nearest[0..n]), some, marks) {
+        nearest::nearest_indices(shallow, photo.h, photo.w, nearest);
+        decide_waiting(photo, &nearest[0..n], marks);
+    }
 }
 
-// One pass; whether a pixel joined.
+// One pass; whether a pixel joined. The work buffers stand apart: no call is covered that reads a field of a struct while another
+// field is lent.
 fn pass(
-    colours: &[f64],
-    h: usize,
-    w: usize,
-    reference: colour::Rgb,
+    photo: Photo,
     nearest: &mut [u32],
     shallow: &mut [u8],
     deep: &mut [u8],
     marks: &mut [u8],
     back: &mut [u8],
 ) -> bool
-    requires picture { Picture colours.now h w }
-    requires planes { Planes h w nearest.old shallow.old deep.old marks.old back.old }
-    ensures back_after { back.new ≡ pass_of colours.now reference back.old h w }
-    ensures value { result ≡ some_below (h * w) (is_joining colours.now reference back.old h w) }
+    requires { Planes photo.h photo.w nearest.old shallow.old deep.old marks.old back.old }
+    ensures back_after { let p = photo.entry in back.new ≡ pass_of p.colours.now p.reference back.old p.h p.w }
+    ensures value { let p = photo.entry in result ≡ some_below (p.h * p.w)
+        (is_joining p.colours.now p.reference back.old p.h p.w) }
 {
-    lay(back, h, w, shallow, deep, marks);
-    decide(colours, h, w, reference, shallow, deep, nearest, marks);
+    lay(back, photo.h, photo.w, shallow, deep, marks);
+    decide(photo, shallow, deep, nearest, marks);
     settle(marks, back)
 }
 
-// The passes that are left after a pass: none where no pixel joined.
-fn rest(joined: bool, left: u64) -> u64
-    requires { 0 < left }
-    ensures { result ≡ cond joined (left - 1) 0 }
-{
-    if joined { left - 1 } else { 0 }
-}
-
-// At most `passes` passes, in planes of the picture's size.
+// At most `passes` passes, in planes of the picture's size; a pass without a join is the last.
 fn run(
-    colours: &[f64],
-    h: usize,
-    w: usize,
-    reference: colour::Rgb,
+    photo: Photo,
     passes: u64,
     nearest: &mut [u32],
     shallow: &mut [u8],
@@ -311,16 +243,13 @@ fn run(
     marks: &mut [u8],
     back: &mut [u8],
 )
-    requires picture { Picture colours.now h w }
-    requires planes { Planes h w nearest.old shallow.old deep.old marks.old back.old }
-    ensures { back.new ≡ growth_of colours.now reference h w passes back.old }
+    requires { Planes photo.h photo.w nearest.old shallow.old deep.old marks.old back.old }
+    ensures { let p = photo.entry in back.new ≡ growth_of p.colours.now p.reference p.h p.w passes back.old }
 {
-    let mut left = passes;
-    while 0 < left {
-        let joined = pass(
-            colours, h, w, reference, nearest, shallow, deep, marks, back,
-        );
-        left = rest(joined, left);
+    for _ in 0..passes {
+        if !pass(photo, nearest, shallow, deep, marks, back) {
+            break;
+        }
     }
     tidy(back);
 }
@@ -344,10 +273,12 @@ pub fn grow(
 {
     let n = back.len();
     run(
-        colours,
-        h,
-        w,
-        reference,
+        Photo {
+            colours,
+            h,
+            w,
+            reference,
+        },
         passes,
         nearest,
         &mut shallow[0..n],

@@ -8,21 +8,22 @@ use mathlib.Core.Logic.{⊎_elim}
 use lib.Dec.{eqb}
 use lib.Ieee.{Float}
 use borrow.Author.Tests.{eqb-true, eqb-false}
-use Rattle.plane.specs.Refusal.{after}
+use Rattle.std.specs.Prelude.{Result}
+use Rattle.plane.specs.declared.answer.Refusal.{Refusal}
+use Rattle.plane.specs.Refusal.{after, refusal_of_answer}
 use Rattle.plane.proofs.Search.{either}
-use Rattle.plane.proofs.Refusal.{written}
+use Rattle.plane.proofs.Refusal.{declined, accepted-number, written}
 use Rattle.colour.specs.declared.Settings.{Settings}
-use Rattle.card.specs.declared.Card.{Card}
+use Rattle.card.specs.Card.{Card}
 use Rattle.outline.specs.Cut.{Cut}
-use Rattle.outline.specs.Answer.{outcome_for, refusal_of_outcome}
+use Rattle.outline.specs.Answer.{outcome_for}
 use Rattle.outline.specs.Calls.{Buffers, refusal_in, cut_in}
 use Rattle.outline.specs.Premises.{TwoCalls}
 use Rattle.outline.specs.declared.Outcome.{Outcome}
 use Rattle.outline.proofs.TwoPictures.{two-pictures}
 use Rattle.keying.specs.Calls.{Called, OneOutline}
-use Rattle.keying.proofs.Accepted.{cut-declined, refusal-of-outcome}
 
-module _ (one two : List Float) (alpha : List ℕ) (h w : ℕ) (card card' : Card) (s t : Settings) (b c b' c' : Buffers) (r q : Outcome)
+module _ (one two : List Float) (alpha : List ℕ) (h w : ℕ) (card card' : Card) (s t : Settings) (b c b' c' : Buffers) (r q : Result Outcome Refusal)
     (calls : TwoCalls one two alpha h w card card' s t b c) (first : Called one alpha h w card s b r b')
     (second : Called two alpha h w card' t c q c') where
   refusals : refusal_in one alpha h w card s b ≡ refusal_in two alpha h w card' t c
@@ -41,7 +42,7 @@ module _ (one two : List Float) (alpha : List ℕ) (h w : ℕ) (card card' : Car
       (λ (e : eqb n 0 ≡ true). (let z = eqb-true _ 0 e in rw (cuts z, refusals)))
       (λ (e : eqb n 0 ≡ false).
       let bad = eqb-false _ 0 e in
-      sym (cut-declined _ x bad) ∙ cut-declined _ y bad ∙ ap (λ (k : ℕ). outcome_for k y) refusals)
+      declined n _ bad ∙ sym (declined n _ bad) ∙ ap (λ (k : ℕ). outcome_for k y) refusals)
       (either (eqb n 0))
       ∙ sym second.answer
 
@@ -67,5 +68,5 @@ module _ (one two : List Float) (alpha : List ℕ) (h w : ℕ) (card card' : Car
           → new₁ ≡ new₂ → out₁ ≡ out₂
       kept-alike _ _ z p q e = p ∙ written _ _ _ z ∙ e ∙ sym (q ∙ written _ _ _ (sym refusals ∙ z))
 
-      accepted : refusal_of_outcome r ≡ 0 → refusal_in one alpha h w card s b ≡ 0
-      accepted e = sym (ap refusal_of_outcome first.answer ∙ refusal-of-outcome _ (cut_in one alpha h w card s)) ∙ e
+      accepted : refusal_of_answer r ≡ 0 → refusal_in one alpha h w card s b ≡ 0
+      accepted e = accepted-number _ _ (sym (ap refusal_of_answer first.answer) ∙ e)

@@ -1,24 +1,21 @@
 -- What each public call ensures: its answer, every output, and what a refusal leaves in the buffers. A name with ' is what a buffer holds
 -- afterwards.
 -- Assumes nothing.
-use Rattle.std.specs.Prelude.{ℕ, ◌≡◌, List, length, ℤ, Float}
-use Rattle.plane.specs.Refusal.{after}
-use Rattle.geometry.specs.declared.Answer.{Answer}
-use Rattle.geometry.specs.Answer.{answer_for}
+use Rattle.std.specs.Prelude.{ℕ, ◌≡◌, List, length, ℤ, Float, Option, Result}
+use Rattle.plane.specs.declared.answer.Refusal.{Refusal}
+use Rattle.plane.specs.Refusal.{after, answer_for, done_for, refusal_of_answer}
 use Rattle.colour.specs.declared.Rgb.{Rgb}
 use Rattle.colour.specs.declared.Settings.{Settings}
 use Rattle.colour.specs.Settings.{at_least_zero}
-use Rattle.card.specs.declared.Card.{Card}
+use Rattle.card.specs.Card.{Card}
 use Rattle.outline.specs.Border.{reference_on}
 use Rattle.outline.specs.Ground.{ground_plane}
 use Rattle.outline.specs.Growth.{growth_of}
 use Rattle.outline.specs.Refusal.{ground_refusal, growth_refusal}
-use Rattle.outline.specs.Answer.{ground_for, outcome_for, refusal_of_outcome}
+use Rattle.outline.specs.Answer.{ground_for, outcome_for}
 use Rattle.outline.specs.Calls.{Buffers, refusal_in, cut_in, HeldIn}
-use Rattle.outline.specs.declared.Ground.{Ground}
 use Rattle.outline.specs.declared.Outcome.{Outcome}
-use Rattle.next_pass.specs.declared.NextPass.{NextPass}
-use Rattle.next_pass.specs.NextPass.{next_background, joins_in, next_pass_for}
+use Rattle.next_pass.specs.NextPass.{next_background, joins_in}
 
 -- ---- flat_background, flat_background_with_colour
 
@@ -28,7 +25,7 @@ ground_refusal_in colours h w card tolerance work out = ground_refusal colours h
 
 -- the ground of a picture on a card, by the reference of that card (R22, R83)
 pub record GroundCalled (colours : List Float) (h w : ℕ) (card : Card) (tolerance : Float) (work out : List ℕ)
-    (r : Ground) (work' out' : List ℕ) : Type 0 where
+    (r : Result (Option Rgb) Refusal) (work' out' : List ℕ) : Type 0 where
   pub answer : r ≡ ground_for (ground_refusal_in colours h w card tolerance work out) colours h w (reference_on card colours h w) tolerance
   pub out_is : out' ≡ after (ground_refusal_in colours h w card tolerance work out)
       (ground_plane colours h w (reference_on card colours h w) tolerance) out
@@ -52,8 +49,8 @@ growth_refusal_in colours background h w reference b =
 
 -- the background after at most p passes (R29)
 pub record GrowthCalled (colours : List Float) (background : List ℕ) (h w : ℕ) (reference : Rgb) (p : ℤ) (b : GrowthBuffers)
-    (r : Answer) (b' : GrowthBuffers) : Type 0 where
-  pub answer : r ≡ answer_for (growth_refusal_in colours background h w reference b)
+    (r : Result Unit Refusal) (b' : GrowthBuffers) : Type 0 where
+  pub answer : r ≡ done_for (growth_refusal_in colours background h w reference b)
   pub out_is : b'.out ≡ after (growth_refusal_in colours background h w reference b)
       (growth_of colours reference h w (at_least_zero p) background) b.out
   pub kept : (growth_refusal_in colours background h w reference b ≡ 0 → ⊥) → b' ≡ b
@@ -62,8 +59,8 @@ pub record GrowthCalled (colours : List Float) (background : List ℕ) (h w : �
 
 -- a look at the pass that comes after a background: the background after that pass, and the number of its joins (R89, R90)
 pub record NextPassCalled (colours : List Float) (background : List ℕ) (h w : ℕ) (reference : Rgb) (b : GrowthBuffers)
-    (r : NextPass) (colours' : List Float) (background' : List ℕ) (b' : GrowthBuffers) : Type 0 where
-  pub answer : r ≡ next_pass_for (growth_refusal_in colours background h w reference b) (joins_in colours reference h w background)
+    (r : Result ℕ Refusal) (colours' : List Float) (background' : List ℕ) (b' : GrowthBuffers) : Type 0 where
+  pub answer : r ≡ answer_for (growth_refusal_in colours background h w reference b) (joins_in colours reference h w background)
   pub out_is : b'.out ≡ after (growth_refusal_in colours background h w reference b)
       (next_background colours reference h w background) b.out
   pub kept : (growth_refusal_in colours background h w reference b ≡ 0 → ⊥) → b' ≡ b
@@ -75,7 +72,7 @@ pub record NextPassCalled (colours : List Float) (background : List ℕ) (h w : 
 
 -- a call of the cut on a card, with these buffers, has answered r and left these (R63)
 pub record Called (colours : List Float) (alpha : List ℕ) (h w : ℕ) (card : Card) (s : Settings) (b : Buffers)
-    (r : Outcome) (b' : Buffers) : Type 0 where
+    (r : Result Outcome Refusal) (b' : Buffers) : Type 0 where
   pub answer : r ≡ outcome_for (refusal_in colours alpha h w card s b) (cut_in colours alpha h w card s)
   pub mask_is : b'.mask ≡ after (refusal_in colours alpha h w card s b) (cut_in colours alpha h w card s).mask b.mask
   pub weights_is : b'.weights ≡ after (refusal_in colours alpha h w card s b) (cut_in colours alpha h w card s).weights b.weights
@@ -84,7 +81,7 @@ pub record Called (colours : List Float) (alpha : List ℕ) (h w : ℕ) (card : 
   pub held : HeldIn colours s
 
 -- two calls have one outline: the same answer, and, accepted, the same mask and the same weights bit for bit (R66)
-pub record OneOutline (r q : Outcome) (b' c' : Buffers) : Type 0 where
+pub record OneOutline (r q : Result Outcome Refusal) (b' c' : Buffers) : Type 0 where
   pub answers : r ≡ q
-  pub masks : refusal_of_outcome r ≡ 0 → b'.mask ≡ c'.mask
-  pub weights : refusal_of_outcome r ≡ 0 → b'.weights ≡ c'.weights
+  pub masks : refusal_of_answer r ≡ 0 → b'.mask ≡ c'.mask
+  pub weights : refusal_of_answer r ≡ 0 → b'.weights ≡ c'.weights

@@ -1,7 +1,8 @@
 -- What ground and cut ensured before a card's colour could be given, kept for R85.
 -- Assumes nothing.
-use Rattle.std.specs.Prelude.{ℕ, ◌*◌, ◌≡◌, List, [], ◌∷◌, ◌++◌, length, Float}
+use Rattle.std.specs.Prelude.{ℕ, ◌*◌, ◌≡◌, List, [], ◌∷◌, ◌++◌, length, Float, Option, Result}
 use Rattle.std.specs.Float.Ieee.Scale.{finite}
+use Rattle.plane.specs.declared.answer.Refusal.{Refusal}
 use Rattle.plane.specs.Refusal.{Test, refusal_of, after}
 use Rattle.plane.specs.Search.{some_below}
 use Rattle.plane.specs.Mask.{is_on}
@@ -13,7 +14,7 @@ use Rattle.outline.specs.Cut.{Cut, alpha_mask, cut_of}
 use Rattle.outline.specs.Refusal.{ground_lengths, cut_lengths}
 use Rattle.outline.specs.Answer.{ground_for, outcome_for}
 use Rattle.outline.specs.Calls.{Buffers, HeldIn}
-use Rattle.outline.specs.declared.Ground.{Ground}
+use Rattle.colour.specs.declared.Rgb.{Rgb}
 use Rattle.outline.specs.declared.Outcome.{Outcome}
 
 -- a picture was declined for its colours and for the tolerance (R85)
@@ -38,7 +39,7 @@ earlier_cut colours alpha h w s = cut_of colours alpha h w (reference_of colours
 
 -- what flat_background ensured (R85)
 pub record EarlierGround (colours : List Float) (h w : ℕ) (tolerance : Float) (work out : List ℕ)
-    (r : Ground) (work' out' : List ℕ) : Type 0 where
+    (r : Result (Option Rgb) Refusal) (work' out' : List ℕ) : Type 0 where
   pub answer : r ≡ ground_for (earlier_ground_refusal colours h w tolerance work out) colours h w (reference_of colours h w) tolerance
   pub out_is : out' ≡ after (earlier_ground_refusal colours h w tolerance work out)
       (ground_plane colours h w (reference_of colours h w) tolerance) out
@@ -46,7 +47,7 @@ pub record EarlierGround (colours : List Float) (h w : ℕ) (tolerance : Float) 
 
 -- what subject ensured (R85)
 pub record EarlierCalled (colours : List Float) (alpha : List ℕ) (h w : ℕ) (s : Settings) (b : Buffers)
-    (r : Outcome) (b' : Buffers) : Type 0 where
+    (r : Result Outcome Refusal) (b' : Buffers) : Type 0 where
   pub answer : r ≡ outcome_for (earlier_cut_refusal colours alpha h w s b) (earlier_cut colours alpha h w s)
   pub mask_is : b'.mask ≡ after (earlier_cut_refusal colours alpha h w s b) (earlier_cut colours alpha h w s).mask b.mask
   pub weights_is : b'.weights ≡ after (earlier_cut_refusal colours alpha h w s b) (earlier_cut colours alpha h w s).weights b.weights

@@ -1,42 +1,38 @@
-// Keying: the public calls of the upper layer. Each declines by its number, and a call that declines writes nothing. Ground and cut come
-// in two forms, without the card's colour and with a text that names it; both judge the lengths, and then share the rest.
+// Keying: the public calls of the upper layer. Each answers its value or why it declines, and one that declines writes nothing. Ground and
+// cut come in two forms, without the card's colour and with a text that names it; both judge the lengths, and then share the rest.
 #![tactic(auto)]
 
 ghost use Rattle.std.specs.Prelude.{◌≡◌, true, length};
 ghost use Rattle.plane.specs.Refusal.{refusal_of};
-ghost use Rattle.card.specs.declared.Card.TheVariants.{Border};
-ghost use Rattle.card.specs.Card.{card_of};
+ghost use Rattle.card.specs.Card.{Border, card_of};
+ghost use Rattle.card.specs.steps.Named.{card_with};
 ghost use Rattle.card.specs.steps.Range.{card_ok};
 ghost use Rattle.outline.specs.Refusal.{ground_lengths, cut_lengths};
 ghost use Rattle.keying.specs.Calls.{GroundCalled, GrowthCalled, NextPassCalled, Called};
 
-use card::Card;
 use colour::{Rgb, Settings};
-use geometry::Answer;
-use next_pass::NextPass;
-use outline::{Ground, Outcome};
+use outline::Outcome;
+use plane::answer::Refusal;
 
-// The ground of a picture on a card, as a mask, once the lengths are accepted; all 0 where it is not found.
+// The ground of a picture, by the colour that is given for its card or by its border, as a mask, once the lengths are accepted; all 0
+// where it is not found.
 fn ground_on(
     colours: &[f64],
     h: usize,
     w: usize,
-    card: Card,
+    given: Option<Rgb>,
     tolerance: f64,
     work: &mut [u32],
     out: &mut [u8],
-) -> Ground
+) -> Result<Option<Rgb>, Refusal>
     requires lengths { refusal_of (ground_lengths h w (length colours.now) (length out.old) (length work.old)) ≡ 0 }
-    requires card_in_range { card_ok card ≡ true }
-    ensures { GroundCalled colours.now h w card tolerance
+    requires given_in_range { card_ok (card_with given) ≡ true }
+    ensures { GroundCalled colours.now h w (card_with given) tolerance
         work.old out.old result
         work.new out.new }
 {
-    let refusal = refusals::picture_refusal(card, colours, tolerance);
-    if refusal != 0 {
-        return Ground::Refused(refusal);
-    }
-    ground::flat_ground(colours, h, w, card, tolerance, work, out)
+    refusals::picture_refusal(colours, tolerance)?;
+    Ok(ground::flat_ground(colours, h, w, given, tolerance, work, out))
 }
 
 // The ground of a picture by the reference of its border.
@@ -47,16 +43,13 @@ pub fn flat_background(
     tolerance: f64,
     work: &mut [u32],
     out: &mut [u8],
-) -> Ground
+) -> Result<Option<Rgb>, Refusal>
     ensures { GroundCalled colours.now h w Border tolerance
         work.old out.old result
         work.new out.new }
 {
-    let refusal = refusals::ground_lengths(h, w, colours.len(), out.len(), work.len());
-    if refusal != 0 {
-        return Ground::Refused(refusal);
-    }
-    ground_on(colours, h, w, Card::Border, tolerance, work, out)
+    refusals::ground_lengths(h, w, colours.len(), out.len(), work.len())?;
+    ground_on(colours, h, w, None, tolerance, work, out)
 }
 
 // The ground of a picture by the card's colour, which a text of six hexadecimal digits names.
@@ -68,29 +61,14 @@ pub fn flat_background_with_colour(
     tolerance: f64,
     work: &mut [u32],
     out: &mut [u8],
-) -> Ground
+) -> Result<Option<Rgb>, Refusal>
     ensures { GroundCalled colours.now h w (card_of text.now) tolerance
         work.old out.old result
         work.new out.new }
 {
-    let refusal = refusals::ground_lengths(h, w, colours.len(), out.len(), work.len());
-    if refusal != 0 {
-        return Ground::Refused(refusal);
-    }
-    let card = card::card_of(text);
-    ground_on(colours, h, w, card, tolerance, work, out)
-}
-
-// A plane as it is.
-fn copy(from: &[u8], to: &mut [u8])
-    requires { length from.now ≡ length to.old }
-    ensures { to.new ≡ from.now }
-{
-    let mut i = 0usize;
-    while i < to.len() {
-        to[i] = from[i];
-        i += 1;
-    }
+    refusals::ground_lengths(h, w, colours.len(), out.len(), work.len())?;
+    let named = card::colour_named(text).ok_or(Refusal::CardColour)?;
+    ground_on(colours, h, w, Some(named), tolerance, work, out)
 }
 
 // The background after at most p passes of growth, written as 0 and 1; a negative p counts as 0.
@@ -106,7 +84,7 @@ pub fn unmix_fringe(
     deep: &mut [u8],
     marks: &mut [u8],
     out: &mut [u8],
-) -> Answer
+) -> Result<(), Refusal>
     ensures { GrowthCalled colours.now background.now h w reference p
         (record {
           out = out.entry.now;
@@ -123,7 +101,7 @@ pub fn unmix_fringe(
           marks = marks.new;
         }) }
 {
-    let refusal = refusals::growth_refusal(
+    refusals::growth_refusal(
         colours,
         background.len(),
         h,
@@ -134,16 +112,13 @@ pub fn unmix_fringe(
         shallow.len(),
         deep.len(),
         marks.len(),
-    );
-    if refusal != 0 {
-        return Answer::Refused(refusal);
-    }
-    copy(background, out);
+    )?;
+    out.copy_from_slice(background);
     let passes = colour::count_of(p);
     growth::grow(
         colours, h, w, reference, passes, nearest, shallow, deep, marks, out,
     );
-    Answer::Done
+    Ok(())
 }
 
 // The background after one more pass of growth, written as 0 and 1, and the number of its joins. The background that is lent stays.
@@ -158,7 +133,7 @@ pub fn next_pass(
     deep: &mut [u8],
     marks: &mut [u8],
     out: &mut [u8],
-) -> NextPass
+) -> Result<u64, Refusal>
     ensures { NextPassCalled colours.now background.now h w reference
         (record {
           out = out.entry.now;
@@ -175,23 +150,20 @@ pub fn next_pass(
           marks = marks.new;
         }) }
 {
-    let answer = unmix_fringe(
+    unmix_fringe(
         colours, background, h, w, reference, 1, nearest, shallow, deep, marks, out,
-    );
-    let refusal = geometry::refusal_of(answer);
-    if refusal != 0 {
-        return NextPass::Refused(refusal);
-    }
-    NextPass::Joins(next_pass::newly_on(background, out))
+    )?;
+    Ok(next_pass::newly_on(background, out))
 }
 
-// The cut of a picture on a card, once the lengths are accepted: mask, weights, keyed flag and crop box.
+// The cut of a picture, by the colour that is given for its card or by its border, once the lengths are accepted: mask, weights, keyed
+// flag and crop box.
 fn cut_on(
     colours: &[f64],
     alpha: &[u8],
     h: usize,
     w: usize,
-    card: Card,
+    given: Option<Rgb>,
     s: Settings,
     nearest: &mut [u32],
     shallow: &mut [u8],
@@ -199,11 +171,11 @@ fn cut_on(
     marks: &mut [u8],
     mask: &mut [u8],
     weights: &mut [f64],
-) -> Outcome
+) -> Result<Outcome, Refusal>
     requires lengths { refusal_of (cut_lengths h w (length colours.now) (length alpha.now) (length mask.old) (length weights.old)
         (length nearest.old) (length shallow.old) (length deep.old) (length marks.old)) ≡ 0 }
-    requires card_in_range { card_ok card ≡ true }
-    ensures { Called colours.now alpha.now h w card s
+    requires given_in_range { card_ok (card_with given) ≡ true }
+    ensures { Called colours.now alpha.now h w (card_with given) s
         (record {
           mask = mask.entry.now;
           weights = weights.old;
@@ -221,16 +193,13 @@ fn cut_on(
           marks = marks.new;
         }) }
 {
-    let refusal = refusals::cut_contents(card, colours, alpha, s);
-    if refusal != 0 {
-        return Outcome::Refused(refusal);
-    }
+    refusals::cut_contents(colours, alpha, s)?;
     let keyed = cutting::cut_mask(
-        colours, alpha, h, w, card, s, nearest, shallow, deep, marks, mask,
+        colours, alpha, h, w, given, s, nearest, shallow, deep, marks, mask,
     );
     weights::weights(mask, alpha, weights);
     let crop = cutting::crop_of(mask, h, w, s.crop_to_alpha);
-    Outcome::Done(keyed, crop)
+    Ok(Outcome { keyed, crop })
 }
 
 // The cut: mask and weights of a picture by the five settings, with the reference of its border.
@@ -246,7 +215,7 @@ pub fn subject(
     marks: &mut [u8],
     mask: &mut [u8],
     weights: &mut [f64],
-) -> Outcome
+) -> Result<Outcome, Refusal>
     ensures { Called colours.now alpha.now h w Border s
         (record {
           mask = mask.entry.now;
@@ -265,7 +234,7 @@ pub fn subject(
           marks = marks.new;
         }) }
 {
-    let refusal = refusals::cut_lengths(
+    refusals::cut_lengths(
         h,
         w,
         colours.len(),
@@ -276,23 +245,9 @@ pub fn subject(
         shallow.len(),
         deep.len(),
         marks.len(),
-    );
-    if refusal != 0 {
-        return Outcome::Refused(refusal);
-    }
+    )?;
     cut_on(
-        colours,
-        alpha,
-        h,
-        w,
-        Card::Border,
-        s,
-        nearest,
-        shallow,
-        deep,
-        marks,
-        mask,
-        weights,
+        colours, alpha, h, w, None, s, nearest, shallow, deep, marks, mask, weights,
     )
 }
 
@@ -310,7 +265,7 @@ pub fn subject_with_colour(
     marks: &mut [u8],
     mask: &mut [u8],
     weights: &mut [f64],
-) -> Outcome
+) -> Result<Outcome, Refusal>
     ensures { Called colours.now alpha.now h w (card_of text.now) s
         (record {
           mask = mask.entry.now;
@@ -329,7 +284,7 @@ pub fn subject_with_colour(
           marks = marks.new;
         }) }
 {
-    let refusal = refusals::cut_lengths(
+    refusals::cut_lengths(
         h,
         w,
         colours.len(),
@@ -340,12 +295,20 @@ pub fn subject_with_colour(
         shallow.len(),
         deep.len(),
         marks.len(),
-    );
-    if refusal != 0 {
-        return Outcome::Refused(refusal);
-    }
-    let card = card::card_of(text);
+    )?;
+    let given = card::colour_named(text).ok_or(Refusal::CardColour)?;
     cut_on(
-        colours, alpha, h, w, card, s, nearest, shallow, deep, marks, mask, weights,
+        colours,
+        alpha,
+        h,
+        w,
+        Some(given),
+        s,
+        nearest,
+        shallow,
+        deep,
+        marks,
+        mask,
+        weights,
     )
 }

@@ -4,7 +4,7 @@ use mathlib.Core.Path.{◌≡◌, sym, ap, ◌∙◌}
 use mathlib.Core.Bool.{true, false}
 use mathlib.Core.Logic.{◌⊎◌, inl, inr, ⊎_elim}
 use mathlib.Core.List.{List}
-use Prim.Native.Nat.{ℕ, ◌+◌, ◌≤◌, ◌<◌}
+use Prim.Native.Nat.{ℕ, ◌+◌, ◌≤◌, ◌<◌, min, max}
 use native.Mathlib.Omega.{arith}
 use lib.Dec.{eqb}
 use lib.ListN.{length, get_or, set, length-set}
@@ -33,6 +33,10 @@ less-of {k} {i} l n = ⊎_elim {C = k < i} (λ (z : k < i). z) (λ (z : i ≤ k)
 
 pub positive : (n : ℕ) → (n ≡ 0 → ⊥) → 0 < n
 positive n h = less-of (omega arith) (λ q. h (sym q))
+
+lesser-min : (a b : ℕ) → lesser_of a b ≡ min a b
+lesser-min a b =
+    ⊎_elim {C = lesser_of a b ≡ min a b} (λ z. omega (arith, z.0, z.1)) (λ z. omega (arith, z.0, z.1)) (lesser-cases a b)
 
 lesser-left-is : (a b : ℕ) → a ≤ b → lesser_of a b ≡ a
 lesser-left-is a b l =
@@ -232,26 +236,25 @@ module _ {old one two : List ℕ} {m a b x y : ℕ} (g : Joinable old m a b) (p 
       let f = g.trees.forest in
       (omega (arith, x-is f, f.low a, g.a_in), omega (arith, y-is f, f.low b, g.b_in), (end f).room)
 
-  pub linked-less : x < y → Linked old (set two y x) m a b x
-  linked-less l = record {
+  pub linked : {greater lesser : ℕ} → greater ≡ max x y → lesser ≡ min x y → Linked old (set two greater lesser) m a b lesser
+  linked {greater} {lesser} g l = record {
     trees = λ rep f. (
         let i = x-is f in
         let j = y-is f in
-        rw (less f) (linked-at f y (inr j) (omega arith) (omega arith) roots-in.1));
-    root = λ rep f. less f;
+        rw (lesser-is f) (linked-at f greater (greater-is f) (omega arith) (omega arith) (omega (arith, roots-in))));
+    root = λ rep f. lesser-is f;
   }
     where
-      less : {rep : ℕ → ℕ} → Forest old m rep → x ≡ lesser_of (rep a) (rep b)
-      less {rep} f = let i = x-is f in let j = y-is f in i ∙ sym (lesser-left-is (rep a) (rep b) (omega arith))
+      lesser-is : {rep : ℕ → ℕ} → Forest old m rep → lesser ≡ lesser_of (rep a) (rep b)
+      lesser-is {rep} f = omega (arith, x-is f, y-is f, lesser-min (rep a) (rep b))
 
-  pub linked-more : y ≤ x → Linked old (set two x y) m a b y
-  linked-more l = record {
-    trees = λ rep f. (
-        let i = x-is f in
-        let j = y-is f in
-        rw (less f) (linked-at f x (inl i) (omega arith) (omega arith) roots-in.0));
-    root = λ rep f. less f;
-  }
-    where
-      less : {rep : ℕ → ℕ} → Forest old m rep → y ≡ lesser_of (rep a) (rep b)
-      less {rep} f = let i = x-is f in let j = y-is f in j ∙ sym (lesser-right-is (rep a) (rep b) (omega arith))
+      greater-is : {rep : ℕ → ℕ} → Forest old m rep → (greater ≡ rep a) ⊎ (greater ≡ rep b)
+      greater-is {rep} f =
+          ⊎_elim {C = (greater ≡ rep a) ⊎ (greater ≡ rep b)}
+          (λ (l : x < y). inr (omega (arith, y-is f))) (λ (l : y ≤ x). inl (omega (arith, x-is f))) (which x y)
+
+-- the root of the tree is one of the labels
+pub linked-in : {old new : List ℕ} {m a b r : ℕ} → Joinable old m a b → Linked old new m a b r → r ≤ m
+linked-in {a = a} {b = b} g k =
+    let t = g.trees in
+    omega (arith, k.root t.rep t.forest, lesser-low (t.rep a) (t.rep b), t.forest.low a, g.a_in)

@@ -12,9 +12,8 @@ use lib.Dec.{eqb, ltb}
 use lib.ListN.{length, get_or, set, length-set}
 use lib.Seq.{get_or-set_other}
 use borrow.Author.Tests.{eqb-true, eqb-false, eq-eqb, ne_eqb, lt-ltb, ltb-true}
-use Rattle.plane.specs.Plane.{table}
 use Rattle.plane.specs.Search.{count_below}
-use Rattle.plane.proofs.Plane.{table_at, table-length, plane-is, pixel-in}
+use Rattle.plane.proofs.Plane.{plane-is, pixel-in}
 use Rattle.plane.proofs.Search.{which, either, not-both}
 use Rattle.plane.proofs.Refusal.{and-true}
 use Rattle.plane.specs.Mask.{is_on}
@@ -135,10 +134,6 @@ module _ {mask labels parents : List ℕ} {h w m : ℕ} (fits : length mask ≡ 
 
   in-plane : (k : ℕ) → is_on mask k ≡ true → k < h * w
   in-plane k o = omega (arith, on-inside mask k o)
-
-  pub label-in : (k : ℕ) → k < h * w → lab k ≤ m
-  label-in k l =
-      ⊎_elim {C = lab k ≤ m} (λ e. (s.on k l e).1) (λ e. omega (arith, s.off k l e)) (either (is_on mask k))
 
   -- pixels that are joined have one root
   one-root : {i j : ℕ} → Joined mask w i j → s.rep (lab i) ≡ s.rep (lab j)
@@ -301,12 +296,11 @@ module _ {mask labels parents : List ℕ} {h w m : ℕ} (fits : length mask ≡ 
 
   -- so the plane of the labels' numbers is,
   pub numbers-are : {new out : List ℕ} {n : ℕ} → Numbered parents new m (m + 1) n → length labels ≡ h * w
-      → out ≡ table (λ (k : ℕ). get_or new (get_or labels k 0) 0) 0 (length labels) → out ≡ labels_plane mask h w
-  numbers-are {new} {out} g long e =
-      let f : ℕ → ℕ = λ (k : ℕ). get_or new (get_or labels k 0) 0 in
-      let at : (k : ℕ) → k < h * w → get_or out k 0 ≡ f k =
-      λ k i. (ap (λ (l : List ℕ). get_or l k 0) e ∙ table_at f (length labels) k 0 (omega arith)) in
-      labels-by out (ap length e ∙ table-length f 0 (length labels) ∙ long)
+      → length out ≡ length labels → ((k : ℕ) → k < length out → get_or out k 0 ≡ get_or new (get_or labels k 0) 0)
+      → out ≡ labels_plane mask h w
+  numbers-are {new} {out} g long same each =
+      let at : (k : ℕ) → k < h * w → get_or out k 0 ≡ get_or new (get_or labels k 0) 0 = λ k i. each k (omega arith) in
+      labels-by out (same ∙ long)
       (λ k i o. at k i ∙ ap (λ (j : ℕ). get_or new j 0) (s.off k i o) ∙ g.zero)
       (λ k i o. (let z = s.on k i o in at k i ∙ g.done s.rep s.forest (get_or labels k 0) z.0 (omega (arith, z.1))))
 

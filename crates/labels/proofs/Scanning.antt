@@ -4,7 +4,7 @@ use mathlib.Core.Path.{◌≡◌, refl, sym, ap, ◌∙◌}
 use mathlib.Core.Bool.{true, false, cond}
 use mathlib.Core.Logic.{◌⊎◌, inl, inr, ⊎_elim}
 use mathlib.Core.List.{List}
-use Prim.Native.Nat.{ℕ, ◌+◌, ◌*◌, ◌-◌, ◌%◌, ◌≤◌, ◌<◌}
+use Prim.Native.Nat.{ℕ, ◌+◌, ◌*◌, ◌-◌, ◌%◌, ◌≤◌, ◌<◌, max}
 use native.Mathlib.Nat.{ne_of_lt, mod-eq-sub-mod, mod-le, not-suc-le-zero}
 use native.Mathlib.Omega.{arith}
 use lib.Dec.{eqb, ltb}
@@ -18,7 +18,7 @@ use Rattle.plane.specs.Mask.{is_on}
 use Rattle.labels.specs.Labels.{beside, Joined, same, onward, renamed, is_first}
 use Rattle.plane.specs.Box.{lesser_of}
 use Rattle.labels.specs.steps.Trees.{Forest, Linked, Placeable, Placed, dark, fresh, from-above, from-left, from-both}
-use Rattle.labels.specs.steps.Trees.{up_at, left_at, diag_at, larger, Scanned, Given}
+use Rattle.labels.specs.steps.Trees.{up_at, left_at, diag_at, Scanned, Given}
 use Rattle.labels.proofs.Joined.{beside_back, joined-trans, joined-sym}
 use Rattle.labels.proofs.Firsts.{first-least, first_same, first_on, renamed-left, renamed-right, Cases, renamed-cases}
 use Rattle.labels.proofs.Firsts.{lesser-cases, lesser-low}
@@ -395,13 +395,11 @@ module _ (mask : List ℕ) (h w : ℕ) (fits : length mask ≡ h * w) (wide : 0 
         };
       }
 
-    larger-low : (r : ℕ) → r ≤ m → larger m r ≡ m
-    unfolding larger
-    larger-low r l = rw (le-ltb m r l)
+    max-low : (r : ℕ) → r ≤ m → max m r ≡ m
+    max-low r l = omega arith
 
-    larger-new : larger m (m + 1) ≡ m + 1
-    unfolding larger
-    larger-new = rw (lt-ltb m (m + 1) (omega arith))
+    max-new : max m (m + 1) ≡ m + 1
+    max-new = omega arith
 
     label-low : (k : ℕ) → k < t → lab k ≤ m
     label-low k l =
@@ -424,14 +422,25 @@ module _ (mask : List ℕ) (h w : ℕ) (fits : length mask ≡ h * w) (wide : 0 
 
     -- one pixel more
     pub step : (new : List ℕ) (r : ℕ) → m + 1 < length parents → Placed (get_or mask t 0) left up diag m parents new r
-        → Scanned mask (set labels t r) new h w (t + 1) (larger m r)
-    step new r room (dark a b c) = rw (b, c, larger-low 0 (omega arith)) (put-off (byte-off mask t a))
-    step new r room (fresh a b c d e) = rw (d, e, larger-new) (put-new (byte-on mask t a) b c room)
-    step new r room (from-above a b c d e) = rw (d, e, larger-low up up-low) (put_up (byte-on mask t a) b c)
-    step new r room (from-left a b c d e) = rw (d, e, larger-low left left-low) (put-left (byte-on mask t a) b c)
+        → Scanned mask (set labels t r) new h w (t + 1) (max m r)
+    step new r room (dark a b c) = rw (b, c, max-low 0 (omega arith)) (put-off (byte-off mask t a))
+    step new r room (fresh a b c d e) = rw (d, e, max-new) (put-new (byte-on mask t a) b c room)
+    step new r room (from-above a b c d e) = rw (d, e, max-low up up-low) (put_up (byte-on mask t a) b c)
+    step new r room (from-left a b c d e) = rw (d, e, max-low left left-low) (put-left (byte-on mask t a) b c)
     step new r room (from-both a b c d) =
         let o = byte-on mask t a in
-        rw (larger-low r (r-low o b c new r d)) (put_both o b c new r d)
+        rw (max-low r (r-low o b c new r d)) (put_both o b c new r d)
+
+-- what is given stays given while the planes keep their lengths
+pub still-given : {mask parents labels parents' labels' : List ℕ} {h w : ℕ} → Given mask parents labels h w
+    → length parents' ≡ length parents → length labels' ≡ length labels → Given mask parents' labels' h w
+still-given g p l = record {
+  sides = g.sides;
+  few = g.few;
+  input = g.input;
+  output = l ∙ g.output;
+  room = omega (arith, g.room, p);
+}
 
 -- ---- along a row
 
@@ -482,7 +491,7 @@ module _ {mask parents labels : List ℕ} {h w : ℕ} (g : Given mask parents la
     -- one pixel more, and the labels to the left, and above to the left, of the next
     pub row_next : {new : List ℕ} {left up diag : ℕ} → left ≡ left_at labels pixel x → up ≡ up_at labels w pixel
         → diag ≡ diag_at labels w pixel x → Placed (get_or mask pixel 0) left up diag m parents new r
-        → Scanned mask after new h w next (larger m r) × (r ≡ left_at after next (x + 1)) × (up ≡ diag_at after w next (x + 1))
+        → Scanned mask after new h w next (max m r) × (r ≡ left_at after next (x + 1)) × (up ≡ diag_at after w next (x + 1))
     row_next {new} a b c p =
         let e : next ≡ pixel + 1 = omega arith in
         let room = (placeable a b).room in

@@ -2,120 +2,107 @@
 // label from its neighbours to the left and above, and labels that meet are joined in trees, whose roots are numbered at the end.
 #![tactic(auto)]
 
-ghost use Rattle.std.specs.Prelude.{◌≡◌, ℕ, ◌+◌, ◌*◌, ◌-◌, ◌<◌, ◌≤◌, cond, eqb, length, get_or, set};
-ghost use Rattle.plane.specs.Plane.{table};
+ghost use Rattle.std.specs.Prelude.{◌≡◌, ◌+◌, ◌*◌, ◌<◌, ◌≤◌, ◌==◌, if◌then◌else◌, max, length, slice_index, slice_set, EachIndex};
 ghost use Rattle.labels.specs.Labels.{parts, labels_plane};
-ghost use Rattle.labels.specs.steps.Trees.{Given, Trees, Found, Joinable, Linked, Placeable, Placed, up_at, larger};
+ghost use Rattle.labels.specs.steps.Trees.{Given, Trees, SameBuffer, Found, Joinable, Linked, Placeable, Placed, up_at};
 ghost use Rattle.labels.specs.steps.Trees.{Scanned, RowsDone, Numberable, Numbered};
 
-// The root of label l, of the labels up to m; on the way each label gets its parent's parent as its parent.
-fn find(parents: &mut [u32], m: u32, l: u32) -> u32
-    requires trees { Trees parents.old m }
-    requires l_le_m { l ≤ m }
-    ensures { Found parents.old parents.new m l result }
-{
-    let mut a = l;
-    let mut b = parents[a as usize];
-    while b != a {
-        let c = parents[b as usize];
-        parents[a as usize] = c;
-        a = c;
-        b = parents[a as usize];
-    }
-    a
+// Provisional labels: the parent of each, and how many there are. A label that is its own parent is the root of its tree.
+#[derive(Drop)]
+struct LabelTrees<'a> {
+    parents: &'a mut [u32],
+    count: u32,
 }
 
-// The trees of labels a and b become one: the greater root gets the lesser as its parent; the lesser root.
-fn join(parents: &mut [u32], m: u32, a: u32, b: u32) -> u32
-    requires { Joinable parents.old m a b }
-    ensures { Linked parents.old parents.new m a b result }
-{
-    let x = find(parents, m, a);
-    let y = find(parents, m, b);
-    if x < y {
-        parents[y as usize] = x;
-        return x;
-    }
-    parents[x as usize] = y;
-    y
-}
-
-// The label of a pixel with byte v, from those of the pixels to the left, above, and above to the left of it.
-// Where the pixel above to the left is on, its two neighbours, which are the other two, have one root already.
-fn place(v: u8, left: u32, up: u32, diag: u32, m: u32, parents: &mut [u32]) -> u32
-    requires { Placeable parents.old m left up }
-    ensures { Placed v left up diag m parents.old parents.new result }
-{
-    if v == 0 {
-        return 0;
-    }
-    if left == 0 {
-        if up == 0 {
-            let l = m + 1;
-            parents[l as usize] = l;
-            return l;
+impl LabelTrees<'_> {
+    // The root of label l; on the way each label gets its parent's parent as its parent.
+    fn find(&mut self, l: u32) -> u32
+        requires trees { Trees self.old.parents.now self.old.count }
+        requires l_in { l ≤ self.old.count }
+        ensures found { Found self.old.parents.now self.new.parents.now self.old.count l result }
+        ensures same_count { self.new.count ≡ self.old.count }
+        ensures same_buffer { SameBuffer self.old.parents self.new.parents }
+    {
+        // A while: it walks up a tree, and counts nothing.
+        let parents = &mut *self.parents;
+        let mut a = l;
+        let mut b = parents[a as usize];
+        while b != a {
+            let c = parents[b as usize];
+            parents[a as usize] = c;
+            a = c;
+            b = parents[a as usize];
         }
-        return up;
+        a
     }
-    if up == 0 {
-        return left;
+
+    // The trees of labels a and b become one: the greater root gets the lesser as its parent; the lesser root.
+    fn join(&mut self, a: u32, b: u32) -> u32
+        requires { Joinable self.old.parents.now self.old.count a b }
+        ensures linked { Linked self.old.parents.now self.new.parents.now self.old.count a b result }
+        ensures same_count { self.new.count ≡ self.old.count }
+        ensures same_buffer { SameBuffer self.old.parents self.new.parents }
+    {
+        let x = self.find(a);
+        let y = self.find(b);
+        let lesser = x.min(y);
+        let greater = x.max(y);
+        self.parents[greater as usize] = lesser;
+        lesser
     }
-    if diag != 0 {
-        return left;
+
+    // The label of a pixel with byte v, from those of the pixels to the left, above, and above to the left of it.
+    // Where the pixel above to the left is on, its two neighbours, which are the other two, have one root already.
+    fn place(&mut self, v: u8, left: u32, up: u32, diag: u32) -> u32
+        requires { Placeable self.old.parents.now self.old.count left up }
+        ensures placed { Placed v left up diag self.old.count self.old.parents.now self.new.parents.now result }
+        ensures count_after { self.new.count ≡ max self.old.count result }
+        ensures same_buffer { SameBuffer self.old.parents self.new.parents }
+    {
+        if v == 0 {
+            return 0;
+        }
+        match (left, up) {
+            (0, 0) => {
+                self.count += 1;
+                let l = self.count;
+                self.parents[l as usize] = l;
+                l
+            }
+            (0, _) => up,
+            (_, 0) => left,
+            _ if diag != 0 => left,
+            _ => self.join(left, up),
+        }
     }
-    join(parents, m, left, up)
 }
 
-// The label of the pixel above pixel i, 0 for none.
+// The label of the pixel above pixel i; 0 for none, as in the plane of labels.
+#[tactic(auto, unfolding(crate::specs::steps::Trees::up_at))]
 fn upper(labels: &[u32], w: usize, i: usize) -> u32
     requires { i < length labels.now }
     ensures { result ≡ up_at labels.now w i }
 {
-    if i < w {
-        return 0;
-    }
-    labels[i - w]
+    if i < w { 0 } else { labels[i - w] }
 }
 
-// The greater of two labels.
-fn greater(a: u32, b: u32) -> u32
-    ensures { result ≡ larger a b }
-{
-    if a < b {
-        return b;
-    }
-    a
-}
-
-// The pixels of row y get provisional labels, of which the rows before it have `found`; how many labels there are then.
-fn scan_row(
-    mask: &[u8],
-    h: usize,
-    w: usize,
-    y: usize,
-    found: u32,
-    parents: &mut [u32],
-    labels: &mut [u32],
-) -> u32
-    requires { RowsDone mask.now labels.old parents.old h w y found }
-    ensures { Scanned mask.now labels.new parents.new h w (y * w + w) result }
+// The pixels of row y get provisional labels, of which the rows before it have some already.
+fn scan_row(mask: &[u8], h: usize, w: usize, y: usize, trees: &mut LabelTrees, labels: &mut [u32])
+    requires { RowsDone mask.now labels.old trees.old.parents.now h w y trees.old.count }
+    ensures scanned { Scanned mask.now labels.new trees.new.parents.now h w (y * w + w) trees.new.count }
+    ensures same_buffer { SameBuffer trees.old.parents trees.new.parents }
 {
     let start = y * w;
-    let mut m = found;
-    let mut left = 0u32;
-    let mut diag = 0u32;
-    let mut x = 0usize;
-    while x < w {
+    let mut left = 0;
+    let mut diag = 0;
+    for x in 0..w {
         let i = start + x;
         let up = upper(labels, w, i);
-        let l = place(mask[i], left, up, diag, m, parents);
+        let l = trees.place(mask[i], left, up, diag);
         labels[i] = l;
-        m = greater(m, l);
         left = l;
         diag = up;
-        x += 1;
     }
-    m
 }
 
 // Every pixel gets a provisional label; how many labels there are.
@@ -124,30 +111,28 @@ fn scan(mask: &[u8], h: usize, w: usize, parents: &mut [u32], labels: &mut [u32]
     ensures { Scanned mask.now labels.new parents.new h w (h * w) result }
 {
     parents[0] = 0;
-    let mut m = 0u32;
-    let mut y = 0usize;
-    while y < h {
-        m = scan_row(mask, h, w, y, m, parents, labels);
-        y += 1;
+    let mut trees = LabelTrees { parents, count: 0 };
+    for y in 0..h {
+        scan_row(mask, h, w, y, &mut trees, labels);
     }
-    m
+    trees.count
 }
 
 // Label k gets the next number, n + 1, if it is a root, else the number that its parent has; how many numbers there are then.
 fn number(parents: &mut [u32], k: usize, n: u32) -> u32
     requires { Numberable parents.old k n }
-    ensures value { result ≡ cond (eqb (get_or parents.old k 0) k) (n + 1) n }
-    ensures parents_after { parents.new ≡ set parents.old k
-        (cond (eqb (get_or parents.old k 0) k) (n + 1)
-        (get_or parents.old (get_or parents.old k 0) 0)) }
+    ensures value { result ≡ (if slice_index parents.old k == k then n + 1 else n) }
+    ensures parents_after { let parent = slice_index parents.old k in
+        parents.new ≡ slice_set parents.old k (if parent == k then n + 1 else slice_index parents.old parent) }
 {
     let p = parents[k] as usize;
     if p == k {
         parents[k] = n + 1;
-        return n + 1;
+        n + 1
+    } else {
+        parents[k] = parents[p];
+        n
     }
-    parents[k] = parents[p];
-    n
 }
 
 // The labels from 1 to m get the numbers of their roots, in the roots' order; how many roots there are.
@@ -156,27 +141,21 @@ fn flatten(parents: &mut [u32], m: u32) -> u32
     requires m_bound { m < 4294967296 }
     ensures { Numbered parents.old parents.new m (m + 1) result }
 {
-    let end = m as usize + 1;
     let mut n = 0u32;
-    let mut k = 1usize;
-    while k < end {
+    for k in 1..m as usize + 1 {
         n = number(parents, k, n);
-        k += 1;
     }
     n
 }
 
 // Every label becomes its number.
 fn rename(numbers: &[u32], labels: &mut [u32])
-    requires { (k : ℕ) → k < length labels.old → get_or labels.old k 0 < length numbers.now }
-    ensures { labels.new ≡ table
-        (λ (k : ℕ). get_or numbers.now (get_or labels.old k 0) 0)
-        0 (length labels.old) }
+    requires { EachIndex labels.old (λ k. slice_index labels.old k < length numbers.now) }
+    ensures { EachIndex labels.new (λ k. slice_index labels.new k
+        ≡ slice_index numbers.now (slice_index labels.old k)) }
 {
-    let mut i = 0usize;
-    while i < labels.len() {
-        labels[i] = numbers[labels[i] as usize];
-        i += 1;
+    for l in labels.iter_mut() {
+        *l = numbers[*l as usize];
     }
 }
 

@@ -3,19 +3,17 @@
 use mathlib.Core.Path.{◌≡◌, refl, ap, ◌∙◌, subst}
 use mathlib.Core.List.{List}
 use mathlib.Core.Logic.{⊎_elim}
+use Rattle.std.specs.Prelude.{slice_index}
 use Prim.Native.Nat.{ℕ, zero, suc, ◌+◌, ◌-◌, ◌≤◌, ◌<◌}
 use native.Mathlib.Nat.{add-zero}
 use native.Mathlib.Omega.{arith}
-use lib.ListN.{length, get_or, set, length-set}
+use lib.ListN.{length, get_or, set}
 use lib.Seq.{get_or-set_same, get_or-set_other}
 use borrow.Author.Count.{below_more}
 use Rattle.plane.proofs.Search.{which}
 use Rattle.line.specs.steps.Line.{most_cost, Site, value_at}
-use Rattle.line.specs.steps.Part.{part}
-use Rattle.line.specs.steps.Envelope.{Regions, Beside, Leads, Stack, site_at, start_at, height_at}
-use Rattle.line.specs.steps.Envelope.{Stays, Dropped, Placed, Ready, Skips, Stacked}
-use Rattle.line.proofs.Squares.{height, takeover_at, balance, beats, holds, heights, before, after}
-use Rattle.line.proofs.Part.{part_length, part_at, part_same}
+use Rattle.line.specs.steps.Envelope.{Leads, Stack, Ready, height, Stays, Dropped, takeover_at, Placed, Skips}
+use Rattle.line.proofs.Squares.{balance, beats, holds, heights, before, after}
 
 -- ---- who leads
 
@@ -202,46 +200,30 @@ nothing_yet = record {
 
 -- ---- a site that is stored: u on top of k sites, from w on
 
-module _ (work : List ℕ) (out stack k u w : ℕ) (apart : out + k < stack) (room : stack + k < length work) where
-  abbrev sited : List ℕ
-  sited = set work (stack + k) u
-
-  abbrev stored : List ℕ
-  stored = set sited (out + k) w
-
+module _ (out stack : List ℕ) (k u w : ℕ) (low : k < length out) (room : k < length stack) where
   abbrev s : ℕ → ℕ
-  s = site_at work stack
+  s = slice_index stack
 
   abbrev t : ℕ → ℕ
-  t = start_at work out
+  t = slice_index out
 
   abbrev s' : ℕ → ℕ
-  s' = site_at stored stack
+  s' = slice_index (set stack k u)
 
   abbrev t' : ℕ → ℕ
-  t' = start_at stored out
-
-  stored_other : (i : ℕ) → (i ≡ stack + k → ⊥) → (i ≡ out + k → ⊥) → get_or stored i 0 ≡ get_or work i 0
-  stored_other i n m = get_or-set_other sited (out + k) i w 0 m ∙ get_or-set_other work (stack + k) i u 0 n
+  t' = slice_index (set out k w)
 
   same-site : (q : ℕ) → q < k → s' q ≡ s q
-  same-site q l = stored_other (stack + q) (λ z. omega arith) (λ z. omega arith)
+  same-site q l = get_or-set_other stack k q u 0 (λ z. omega arith)
 
   same_start : (q : ℕ) → q < k → t' q ≡ t q
-  same_start q l = stored_other (out + q) (λ z. omega arith) (λ z. omega arith)
+  same_start q l = get_or-set_other out k q w 0 (λ z. omega arith)
 
   new-site : s' k ≡ u
-  new-site = get_or-set_other sited (out + k) (stack + k) w 0 (λ z. omega arith) ∙ get_or-set_same work (stack + k) u 0 room
+  new-site = get_or-set_same stack k u 0 room
 
   new-start : t' k ≡ w
-  new-start = get_or-set_same sited (out + k) w 0 (let e = length-set work (stack + k) u in omega arith)
-
-  -- what lies before the stack and is no answer is as it was
-  beside : (n : ℕ) → k < n → Beside work stored out stack n
-  beside n l = record {
-    before = λ i g. stored_other i (λ z. omega arith) (λ z. omega arith);
-    behind = λ i g h. stored_other i (λ z. omega arith) (λ z. omega arith);
-  }
+  new-start = get_or-set_same out k w 0 low
 
   module _ {costs : List ℕ} {count : ℕ} (st : Stack costs s t u count) (fits : k ≤ count) (inside : w < length costs)
       (first : k ≡ 0 → w ≡ 0) (rise : (p : ℕ) → k ≡ p + 1 → t p < w) (old : Lead-to costs s t (u + 1) k w)
@@ -292,43 +274,25 @@ module _ (work : List ℕ) (out stack k u w : ℕ) (apart : out + k < stack) (ro
       leads = leads;
     }
 
--- ---- one site more in the buffer
+-- ---- one site more
 
-module _ {work : List ℕ} {out costs stack n count u : ℕ} (ready : Ready work out costs stack n count u) where
-  abbrev line : List ℕ
-  line = part work costs n
-
-  long : length line ≡ n
-  long = part_length work costs n (omega (arith, ready.regions))
-
-  site : Site line u
-  site = let e = part_at work costs n u 0 ready.inside in omega (arith, ready.cost)
-
-  pub site_left : (q : ℕ) → q < count → site_at work stack q < u
+module _ {out costs stack : List ℕ} {count u : ℕ} (ready : Ready out costs stack count u) where
+  pub site_left : (q : ℕ) → q < count → slice_index stack q < u
   site_left q g = (at-start ready.whole q g).inside
 
-  pub start-in : (q : ℕ) → q < count → start_at work out q < n
-  start-in q g = let e = long in let z = ready.whole.inside q g in omega arith
-
-  -- the height of a place of the line
-  height-at : (i : ℕ) → i < n → height line i ≡ height_at work costs i
-  height-at i l = let e = part_at work costs n i 0 l in omega arith
-
   -- what find_spot compares, in terms of values
-  compared : (q : ℕ) → q < count → (Stays work out costs stack u q → Even line (site_at work stack) (start_at work out) u q)
-      × (Even line (site_at work stack) (start_at work out) u q → Stays work out costs stack u q)
+  compared : (q : ℕ) → q < count
+      → (Stays costs (slice_index stack) (slice_index out) u q → Even costs (slice_index stack) (slice_index out) u q)
+      × (Even costs (slice_index stack) (slice_index out) u q → Stays costs (slice_index stack) (slice_index out) u q)
   compared q g =
-      let l = ready.inside in
       let left = site_left q g in
-      let hu = height-at u l in
-      let hs = height-at (site_at work stack q) (omega arith) in
-      let e = balance line (start_at work out q) (site_at work stack q) u (omega arith) in
+      let e = balance costs (slice_index out q) (slice_index stack q) u (omega arith) in
       ((λ h. omega arith), (λ h. omega arith))
 
   -- u goes on top of the r sites that stay, and leads from w on
-  module _ {r w : ℕ} (at : Placed work out costs stack count u r w) where
+  module _ {r w : ℕ} (at : Placed costs (slice_index stack) (slice_index out) count u r w) where
     -- those that go are worse than u at their own start
-    d : Dropped (Even line (site_at work stack) (start_at work out) u) count r
+    d : Dropped (Even costs (slice_index stack) (slice_index out) u) count r
     d =
         let f = at.dropped.fewer in
         record {
@@ -338,115 +302,63 @@ module _ {work : List ℕ} {out costs stack n count u : ℕ} (ready : Ready work
         }
 
     -- there is room for one more
-    pub top_in : r < n
+    pub top_in : r < length costs
     top_in = omega (arith, at.dropped.fewer, ready.whole.small, ready.inside)
 
     -- the top that stays, where there is one
-    module _ (p : ℕ) (is : r ≡ p + 1) where
-      top : Dropped (Even line (site_at work stack) (start_at work out) u) count (p + 1)
-      top = rw is at d
-
-      takes-over : w ≡ takeover_at line (site_at work stack p) u
-      unfolding takeover_at
-      takes-over =
-          let left = site_left p (omega (arith, at.dropped.fewer)) in
-          rw (height-at (site_at work stack p) (omega (arith, ready.inside)), height-at u ready.inside) (at.over p is)
+    top : (p : ℕ) → r ≡ p + 1 → Dropped (Even costs (slice_index stack) (slice_index out) u) count (p + 1)
+    top p is = rw is at d
 
     -- w lies behind the start of the top
-    rise : (p : ℕ) → r ≡ p + 1 → start_at work out p < w
-    rise p is = rw (takes-over p is) (later ready.whole site p (top p is))
+    rise : (p : ℕ) → r ≡ p + 1 → slice_index out p < w
+    rise p is = rw (at.over p is) (later ready.whole ready.cost p (top p is))
 
     -- those that stay lead up to w
-    old : Lead-to line (site_at work stack) (start_at work out) (u + 1) r w
+    old : Lead-to costs (slice_index stack) (slice_index out) (u + 1) r w
     old =
         ⊎_elim
         (λ (h : 0 < r).
         let is : r ≡ r - 1 + 1 = omega arith in
-        rw (takes-over (r - 1) is)
-        (subst (λ (k : ℕ). Lead-to line (site_at work stack) (start_at work out) (u + 1) k (takeover_at line (site_at work stack (r - 1)) u))
-        (omega arith) (segment ready.whole site (r - 1) (top (r - 1) is))))
+        rw (at.over (r - 1) is)
+        (subst
+        (λ (k : ℕ). Lead-to costs (slice_index stack) (slice_index out) (u + 1) k (takeover_at costs (slice_index stack (r - 1)) u))
+        (omega arith) (segment ready.whole ready.cost (r - 1) (top (r - 1) is))))
         (λ (h : r ≤ 0). (λ q g. absurd (omega arith)))
         (which 0 r)
 
     -- and from w on u does
-    new : (x : ℕ) → w ≤ x → x < length line → Leads line (u + 1) x u
+    new : (x : ℕ) → w ≤ x → x < length costs → Leads costs (u + 1) x u
     new x a b =
         ⊎_elim
         (λ (h : 0 < r).
         let is : r ≡ r - 1 + 1 = omega arith in
-        new-leads ready.whole site (r - 1) (top (r - 1) is) x (let e = takes-over (r - 1) is in omega arith) b)
-        (λ (h : r ≤ 0). alone ready.whole site d (omega arith) x b)
+        new-leads ready.whole ready.cost (r - 1) (top (r - 1) is) x (let e = at.over (r - 1) is in omega arith) b)
+        (λ (h : r ≤ 0). alone ready.whole ready.cost d (omega arith) x b)
         (which 0 r)
 
     -- it leads before the line ends
-    pub stacked-over : w < n → Stacked work (set (set work (stack + r) u) (out + r) w) out costs stack n (u + 1) (r + 1)
-    stacked-over l =
-        let e = long in
+    pub pushed-over : w < length costs → Stack costs (slice_index (set stack r u)) (slice_index (set out r w)) (u + 1) (r + 1)
+    pushed-over l =
         let f = top_in in
-        let apart : out + r < stack = omega (arith, ready.regions) in
-        let room : stack + r < length work = omega (arith, ready.regions) in
-        record {
-          beside = beside work out stack r u w apart room n f;
-          whole =
-              pushed work out stack r u w apart room ready.whole at.dropped.fewer (omega arith) at.alone rise old new;
-        }
+        pushed out stack r u w (omega (arith, ready.out_long)) (omega (arith, ready.stack_long)) ready.whole at.dropped.fewer l at.alone
+        rise old new
 
     -- it leads nowhere
-    pub stacked-none : n ≤ w → Stacked work work out costs stack n (u + 1) r
-    stacked-none g =
-        let e = long in
-        let f = top_in in
+    pub pushed-none : length costs ≤ w → Stack costs (slice_index stack) (slice_index out) (u + 1) r
+    pushed-none g =
+        let f = ready.inside in
         let some : 0 < r =
         ⊎_elim (λ (h : 0 < r). h) (λ (h : r ≤ 0). (let z = at.alone (omega arith) in absurd (omega arith))) (which 0 r) in
         let is : r ≡ r - 1 + 1 = omega arith in
-        record {
-          beside = record { before = λ i h. refl; behind = λ i g h. refl };
-          whole =
-              subst (λ (k : ℕ). Stack line (site_at work stack) (start_at work out) (u + 1) k) (omega arith)
-              (push-none ready.whole site (r - 1) (top (r - 1) is) (let z = takes-over (r - 1) is in omega arith));
-        }
+        subst (λ (k : ℕ). Stack costs (slice_index stack) (slice_index out) (u + 1) k) (omega arith)
+        (push-none ready.whole ready.cost (r - 1) (top (r - 1) is) (let z = at.over (r - 1) is in omega arith))
 
--- ---- the stack after the next place: what lies before it is as it was
-
-module _ {old work : List ℕ} {out costs stack n u count : ℕ} (room : Regions out costs stack n (length old))
-    (size : length work ≡ length old) (inside : u < n) (sk : Stacked old work out costs stack n u count) where
-  same-cost : (i : ℕ) → i < n → get_or work (costs + i) 0 ≡ get_or old (costs + i) 0
-  same-cost i g = sk.beside.behind (costs + i) (omega (arith, room)) (omega (arith, room))
-
-  same-costs : part work costs n ≡ part old costs n
-  same-costs = part_same 0 old work costs costs n (omega (arith, room)) (omega (arith, room)) same-cost
-
-  pub ready : get_or work (costs + u) 0 ≤ most_cost → Ready work out costs stack n count u
-  ready cost = record {
-    regions = rw size room;
-    inside = inside;
-    cost = cost;
-    whole = rw same-costs sk.whole;
-  }
-
-  -- places with no site change nothing
-  pub stacked-skip : most_cost < get_or work (costs + u) 0 → (v : ℕ) → Skips work costs n (u + 1) v
-      → Stacked old work out costs stack n v count
-  stacked-skip g v k =
-      let above : (j : ℕ) → u ≤ j → j < v → most_cost < get_or work (costs + j) 0 = λ j a b.
-      ⊎_elim (λ (l : u < j). k.none j (omega arith) b)
-      (λ (l : j ≤ u). subst (λ (i : ℕ). most_cost < get_or work (costs + i) 0) (omega arith) g) (which u j) in
-      record {
-        beside = sk.beside;
-        whole = skipped sk.whole v (omega (arith, k.after)) (λ j a b h.
-            (let l : j < n = omega (arith, k.within) in
-            let e = part_at old costs n j 0 l in
-            let f = same-cost j l in
-            let d = above j a b in
-            omega arith));
-      }
-
-  -- and one with a site gives what its push gives
-  pub stacked-next : (new : List ℕ) (r : ℕ) → Stacked work new out costs stack n (u + 1) r → Stacked old new out costs stack n (u + 1) r
-  stacked-next new r p = record {
-    beside = record {
-      before = λ i g. p.beside.before i g ∙ sk.beside.before i g;
-      behind = λ i g h. p.beside.behind i g h ∙ sk.beside.behind i g h;
-    };
-    whole = rw same-costs at p.whole;
-  }
+-- places with no site change nothing
+pub skipped-to : {costs : List ℕ} {s t : ℕ → ℕ} {u count : ℕ} → Stack costs s t u count → most_cost < get_or costs u 0 → (v : ℕ)
+    → Skips costs (u + 1) v → Stack costs s t v count
+skipped-to {costs} {s} {t} {u} st g v k =
+    skipped st v (omega (arith, k.after))
+    (λ j a b h.
+    ⊎_elim (λ (l : u < j). (let z = k.none j (omega arith) b in omega arith))
+    (λ (l : j ≤ u). (let e : u ≡ j = omega arith in let z = subst (λ (i : ℕ). most_cost < get_or costs i 0) e g in omega arith))
+    (which u j))

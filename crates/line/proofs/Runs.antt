@@ -5,22 +5,23 @@ use mathlib.Core.Path.{◌≡◌, refl, sym, ap, ◌∙◌, subst}
 use mathlib.Core.List.{List}
 use mathlib.Core.Option.{Option, none, some}
 use mathlib.Core.Logic.{◌⊎◌, inl, inr, ⊎_elim}
+use Rattle.std.specs.Prelude.{slice_index}
+use borrow.Rule.Slice.PartMut.{put_mid}
 use Prim.Native.Nat.{ℕ, ◌+◌, ◌-◌, ◌*◌, ◌≤◌, ◌<◌}
 use native.Mathlib.Omega.{arith}
-use lib.ListN.{length, get_or, set, length-set}
+use lib.ListN.{length, get_or, set}
 use lib.Seq.{get_or-set_same, get_or-set_other}
 use borrow.Author.Count.{below_more}
 use Rattle.plane.specs.Plane.{apart}
 use Rattle.plane.proofs.Search.{which}
 use Rattle.line.specs.steps.FirstLeast.{Answers}
-use Rattle.line.specs.steps.Line.{most_length, no_place, Site, value_at, offer, best, place_of}
-use Rattle.line.specs.steps.Part.{part, Written}
-use Rattle.line.specs.steps.Envelope.{Regions, Beside, site_at, Leads, Stacked, Segments, InSegment, Spread}
-use Rattle.line.specs.steps.Run.{place_from, Ran, Ends, Lone, Done, Passed}
+use Rattle.line.specs.steps.Line.{most_length, no_place, Site, value_at, offer, best, place_of, line_of}
+use Rattle.line.specs.steps.Envelope.{Leads, Stack, Segments, InSegment}
+use Rattle.line.specs.steps.Run.{place_from, Ran, Ends, Lone, Done}
 use Rattle.line.proofs.Squares.{square-lt, apart-left, apart-right, apart-zero}
 use Rattle.line.proofs.Walk.{clash, walk-answers}
 use Rattle.line.proofs.Best.{line-is, offer-site, offered, leader, no-leader}
-use Rattle.line.proofs.Part.{part_length, part_at, part_same}
+use Rattle.line.proofs.Part.{part, part_length, part_at, put_front, put_part}
 use Rattle.line.proofs.Push.{at-start}
 
 apart-shift : (a y i : ℕ) → apart y i ≡ apart (a + y) (a + i)
@@ -201,185 +202,99 @@ module _ (costs : List ℕ) (a k : ℕ) (within : a + k ≤ length costs) (left 
     run-place : place_from a (best run y) ≡ place_of (best costs (a + y))
     run-place = run-from (best run y) refl
 
--- ---- a run in the buffer: the stack is there, and its segments are answered
+-- ---- the stack is there, and its segments are answered
 
-module _ {old mid : List ℕ} {out costs stack n count : ℕ} (base : ℕ) (r : Regions out costs stack n (length old))
-    (size : length mid ≡ length old) (sk : Stacked old mid out costs stack n n count) where
-  long : length (part old costs n) ≡ n
-  long = part_length old costs n (omega (arith, r))
-
-  pub segments : 0 < count → base ≤ most_length → Segments mid out stack n count base
-  segments p low =
-      let e = long in
-      let st = sk.whole in
+module _ {costs : List ℕ} (out stack : List ℕ) {count : ℕ} (base : ℕ)
+    (st : Stack costs (slice_index stack) (slice_index out) (length costs) count) (size : length out ≡ length costs) where
+  pub segments : length costs ≤ length stack → length costs ≤ most_length → base ≤ most_length → 0 < count → Segments out stack count base
+  segments room short low p =
       let sm = st.small in
       record {
-        out_first = omega (arith, r);
-        room = omega (arith, r.room);
-        low = omega (arith, r.short);
+        low = omega arith;
         some_site = p;
+        few = omega arith;
+        room = omega arith;
         start = st.start p;
         inside = λ q g. (let z = st.inside q g in omega arith);
         rises = st.rises;
-        site = λ q g. (at-start st q g).inside;
+        site = λ q g. (let z = (at-start st q g).inside in omega arith);
       }
 
-  in-segment : (x v : ℕ) → x < n → InSegment mid out stack count base x v → v ≡ place_from base (best (part old costs n) x)
+  in-segment : (x v : ℕ) → x < length costs → InSegment out stack count base x v → v ≡ place_from base (best costs x)
   unfolding place_from
   in-segment x v g s =
-      let e = long in
-      let l = sk.whole.leads s.q s.inside x s.from (omega arith) s.until in
-      s.site ∙ sym (ap (place_from base) (leader (part old costs n) x (site_at mid stack s.q) (rw e l)))
+      s.site ∙ sym (ap (place_from base) (leader costs x (slice_index stack s.q) (st.leads s.q s.inside x s.from g s.until)))
 
-  pub ran-spread : {new : List ℕ} → Spread mid new out stack n count base → Ran old new out costs stack n base
-  ran-spread {new} s = record {
-    answers = λ x g. in-segment x (get_or new (out + x) 0) g (s.answered x g);
-    beside = record {
-      before = λ i g. s.before i g ∙ sk.beside.before i g;
-      behind = λ i g h. s.behind i g ∙ sk.beside.behind i g h;
-    };
-  }
+  pub ran-segments : (new : List ℕ) → ((x : ℕ) → x < length out → InSegment out stack count base x (get_or new x 0)) → Ran new costs base
+  ran-segments new s x g = in-segment x (get_or new x 0) g (s x (omega arith))
 
   -- no site at all
-  pub ran-none : {new : List ℕ} → count ≡ 0 → Written 0 (λ (_ : ℕ). no_place) out n mid new → Ran old new out costs stack n base
+  pub ran-none : (new : List ℕ) → count ≡ 0 → ((x : ℕ) → x < length costs → get_or new x 0 ≡ no_place) → Ran new costs base
   unfolding place_from
-  ran-none z s =
-      let e = long in
-      let none-on = no-leader (part old costs n) (λ j g. sk.whole.empty z j (omega arith)) in
-      record {
-        answers = λ x g. s.here x g ∙ sym (ap (place_from base) (none-on x));
-        beside = record {
-          before = λ i g. s.before i g ∙ sk.beside.before i g;
-          behind = λ i g h. s.behind i g ∙ sk.beside.behind i g h;
-        };
-      }
+  ran-none new z s x g = s x g ∙ sym (ap (place_from base) (no-leader costs (λ j l. st.empty z j l) x))
 
--- ---- the line in its buffer
+-- ---- the line, run by run
 
--- the places before x are answered, and the costs are as they were
-pub record Passing (old work : List ℕ) (out costs stack n x : ℕ) : Type 0 where
-  pub size : length work ≡ length old
-  pub beside : Beside old work out stack n
-  pub done : Done (part old costs n) work out x
-
-pub passing-none : (work : List ℕ) (out costs stack n : ℕ) → Passing work work out costs stack n 0
-passing-none work out costs stack n = record {
-  size = refl;
-  beside = record { before = λ i g. refl; behind = λ i g h. refl };
-  done = record { within = omega arith; answered = λ k l. absurd (omega arith); bound = λ l. absurd (omega arith) };
-}
-
-module _ {old work : List ℕ} {out costs stack n x : ℕ} (r : Regions out costs stack n (length old))
-    (p : Passing old work out costs stack n x) where
-  abbrev line : List ℕ
-  line = part old costs n
-
-  pub line-long : length line ≡ n
-  line-long = part_length old costs n (omega (arith, r))
-
-  cost-is : (i : ℕ) → i < n → get_or line i 0 ≡ get_or work (costs + i) 0
-  cost-is i g = part_at old costs n i 0 g ∙ sym (p.beside.behind (costs + i) (omega (arith, r)) (omega (arith, r)))
-
+module _ {costs out : List ℕ} {x : ℕ} (size : length out ≡ length costs) (p : Done costs out x) where
   -- the whole line is answered
-  pub all_done : n ≤ x → Passed old work out costs stack n
-  all_done g =
-      let e = line-long in
-      record {
-        answers =
-            line-is line (part work out n) (part_length work out n (omega (arith, r, p.size)) ∙ sym e)
-            (λ k h. part_at work out n k 0 (omega arith) ∙ p.done.answered k (omega arith));
-        beside = p.beside;
-      }
+  pub all_done : length costs ≤ x → out ≡ line_of costs
+  all_done g = line-is costs out size (λ k h. p.answered k (omega arith))
 
-  module _ (l : x < n) where
+  module _ (l : x < length costs) where
     -- the right answer of x is stored
-    stored : (v : ℕ) → v ≡ place_of (best line x) → (x + 1 < n → (get_or line x 0 ≡ 0) ⊎ (get_or line (x + 1) 0 ≡ 0))
-        → Passing old (set work (out + x) v) out costs stack n (x + 1)
+    stored : (v : ℕ) → v ≡ place_of (best costs x)
+        → (x + 1 < length costs → (get_or costs x 0 ≡ 0) ⊎ (get_or costs (x + 1) 0 ≡ 0)) → Done costs (set out x v) (x + 1)
     stored v e b =
-        let long = line-long in
         let back : x ≡ x + 1 - 1 = omega arith in
-        let other : (i : ℕ) → (i ≡ out + x → ⊥) → get_or (set work (out + x) v) i 0 ≡ get_or work i 0 = λ i q.
-        get_or-set_other work (out + x) i v 0 q in
         record {
-          size = length-set work (out + x) v ∙ p.size;
-          beside = record {
-            before = λ i h. other i (λ q. omega arith) ∙ p.beside.before i h;
-            behind = λ i h k. other i (λ q. omega arith) ∙ p.beside.behind i h k;
-          };
-          done = record {
-            within = omega arith;
-            answered =
-                below_more (λ (k : ℕ). get_or (set work (out + x) v) (out + k) 0 ≡ place_of (best line k)) x
-                (λ k g. other (out + k) (λ q. omega arith) ∙ p.done.answered k g)
-                (get_or-set_same work (out + x) v 0 (omega (arith, r, p.size)) ∙ e);
-            bound = λ _ q. subst (λ (m : ℕ). (get_or line m 0 ≡ 0) ⊎ (get_or line (x + 1) 0 ≡ 0)) back (b (omega arith));
-          };
+          within = omega arith;
+          answered =
+              below_more (λ (k : ℕ). get_or (set out x v) k 0 ≡ place_of (best costs k)) x
+              (λ k g. get_or-set_other out x k v 0 (λ q. omega arith) ∙ p.answered k g)
+              (get_or-set_same out x v 0 (omega arith) ∙ e);
+          bound = λ _ q. subst (λ (m : ℕ). (get_or costs m 0 ≡ 0) ⊎ (get_or costs (x + 1) 0 ≡ 0)) back (b (omega arith));
         }
 
     -- a place of cost 0 answers itself
-    pub own-next : get_or work (costs + x) 0 ≡ 0 → Passing old (set work (out + x) x) out costs stack n (x + 1)
+    pub own-next : get_or costs x 0 ≡ 0 → Done costs (set out x x) (x + 1)
     unfolding place_of
-    own-next e =
-        let z = cost-is x l ∙ e in
-        stored x (sym (ap place_of (own-place line x (let long = line-long in omega arith) z))) (λ _. inl z)
+    own-next z = stored x (sym (ap place_of (own-place costs x l z))) (λ _. inl z)
 
-    module _ (bears : get_or work (costs + x) 0 ≡ 0 → ⊥) where
-      no_zero : get_or line x 0 ≡ 0 → ⊥
-      no_zero e = bears (sym (cost-is x l) ∙ e)
-
+    module _ (bears : get_or costs x 0 ≡ 0 → ⊥) where
       -- the cost that x has is not 0, so that of the place before it is
-      starts : 0 < x → get_or line (x - 1) 0 ≡ 0
-      starts g =
-          ⊎_elim {C = get_or line (x - 1) 0 ≡ 0} (λ e. e) (λ e. absurd (no_zero e)) (p.done.bound g (let long = line-long in omega arith))
+      starts : 0 < x → get_or costs (x - 1) 0 ≡ 0
+      starts g = ⊎_elim {C = get_or costs (x - 1) 0 ≡ 0} (λ e. e) (λ e. absurd (bears e)) (p.bound g l)
 
       -- a lone place with a cost has the answer of the place before it
-      pub lone-next : Lone work costs n x → Passing old (set work (out + x) (x - 1)) out costs stack n (x + 1)
+      pub lone-next : Lone costs x → Done costs (set out x (x - 1)) (x + 1)
       unfolding place_of
-      lone-next q =
-          stored (x - 1) (sym (ap place_of (left-place line x q.after (let long = line-long in omega arith) (starts q.after) no_zero)))
-          (λ _. inr (cost-is (x + 1) q.within ∙ q.bound))
+      lone-next q = stored (x - 1) (sym (ap place_of (left-place costs x q.after l (starts q.after) bears))) (λ _. inr q.bound)
 
       -- the run from a to e that holds x is answered by its own line pass
-      module _ {new : List ℕ} {a e : ℕ} (size : length new ≡ length work) (ends : Ends work costs n x e) (from : a ≡ x - 1)
-          (ran : Ran work new (out + a) (costs + a) stack (e - a) a) where
-        fits : (a ≤ x) × (x < e) × (e ≤ n) × (length line ≡ n)
-        fits = let long = line-long in omega (arith, ends.after, ends.within)
+      module _ (new : List ℕ) {a e : ℕ} (ends : Ends costs x e) (from : a ≡ x - 1) (long : length new ≡ e - a)
+          (ran : Ran new (part costs a (e - a)) a) where
+        fits : (a ≤ x) × (x < e) × (e ≤ length costs)
+        fits = omega (arith, ends.after, ends.within)
 
-        stops : e < n → get_or line (e - 1) 0 ≡ 0
-        stops g = let f = fits in cost-is (e - 1) (omega arith) ∙ ends.bound g
-
-        same-run : part work (costs + a) (e - a) ≡ part line a (e - a)
-        same-run =
-            let f = fits in
-            part_same 0 line work a (costs + a) (e - a) (omega arith) (omega (arith, r, p.size))
-            (λ i g. ap (λ (m : ℕ). get_or work m 0) (omega arith) ∙ sym (cost-is (a + i) (omega arith)))
-
-        run-answers : (i : ℕ) → i < e - a → get_or new (out + (a + i)) 0 ≡ place_of (best line (a + i))
+        run-answers : (i : ℕ) → i < e - a → get_or (put_mid a (e - a) out new) (a + i) 0 ≡ place_of (best costs (a + i))
         run-answers i g =
             let f = fits in
             let end : a + (e - a) ≡ e = omega arith in
-            ap (λ (m : ℕ). get_or new m 0) (omega arith)
-            ∙ ran.answers i g
-            ∙ ap (λ (v : List ℕ). place_from a (best v i)) same-run
-            ∙ run-place line a (e - a) (omega arith) (λ z. rw from (starts (omega arith))) (rw end (λ z. stops (omega arith))) i g
+            put_part 0 a e out new (omega arith) (omega arith) i (omega arith)
+            ∙ ran i (let z = part_length costs a (e - a) (omega arith) in omega arith)
+            ∙ run-place costs a (e - a) (omega arith) (λ z. rw from (starts (omega arith))) (rw end ends.bound) i g
 
-        pub run-next : Passing old new out costs stack n e
+        pub run-next : Done costs (put_mid a (e - a) out new) e
         run-next =
             let f = fits in
             record {
-              size = size ∙ p.size;
-              beside = record {
-                before = λ i g. ran.beside.before i (omega arith) ∙ p.beside.before i g;
-                behind = λ i g h. ran.beside.behind i (omega arith) h ∙ p.beside.behind i g h;
-              };
-              done = record {
-                within = omega arith;
-                answered = λ i g.
-                    ⊎_elim
-                    (λ (z : i < a). ran.beside.before (out + i) (omega arith) ∙ p.done.answered i (omega arith))
-                    (λ (z : a ≤ i).
-                    shifted (λ (m : ℕ). get_or new (out + m) 0 ≡ place_of (best line m)) a (e - a) run-answers i z (omega arith))
-                    (which i a);
-                bound = λ _ q. inl (stops (omega arith));
-              };
+              within = omega arith;
+              answered = λ i g.
+                  ⊎_elim
+                  (λ (z : i < a). put_front 0 a e out new (omega arith) (omega arith) i z ∙ p.answered i (omega arith))
+                  (λ (z : a ≤ i).
+                  shifted (λ (m : ℕ). get_or (put_mid a (e - a) out new) m 0 ≡ place_of (best costs m)) a (e - a) run-answers i z
+                  (omega arith))
+                  (which i a);
+              bound = λ _ q. inl (ends.bound q);
             }

@@ -3,22 +3,14 @@
 use mathlib.Core.Path.{◌≡◌, ap, ◌∙◌}
 use mathlib.Core.List.{List}
 use mathlib.Core.Logic.{⊎_elim}
-use Prim.Native.Nat.{ℕ, ◌+◌, ◌*◌, ◌-◌, ◌/◌, ◌≤◌, ◌<◌}
+use Prim.Native.Nat.{ℕ, ◌+◌, ◌*◌, ◌-◌, ◌≤◌, ◌<◌}
 use native.Mathlib.Nat.{mul-add, add-mul, one-mul, mul-one, mul_comm, mul_left_comm, mul-le-mul_right, mul-le-mul}
 use native.Mathlib.Nat.{le-div_iff_mul-le, div-lt_iff_lt-mul}
 use native.Mathlib.Omega.{arith}
-use lib.ListN.{get_or}
 use Rattle.plane.specs.Plane.{apart}
 use Rattle.plane.proofs.Search.{which}
 use Rattle.line.specs.steps.Line.{value_at}
-
--- cost and square of a place
-abbrev pub height : List ℕ → ℕ → ℕ
-height costs i = get_or costs i 0 + i * i
-
--- the first x at which u, to the right of i, is strictly better than i
-unfoldable pub takeover_at : List ℕ → ℕ → ℕ → ℕ
-takeover_at costs i u = (height costs u - height costs i) / (2 * (u - i)) + 1
+use Rattle.line.specs.steps.Envelope.{height, takeover_at}
 
 square-sum : (x d : ℕ) → d * d + 2 * (x * (x + d)) ≡ x * x + (x + d) * (x + d)
 square-sum x d =

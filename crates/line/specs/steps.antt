@@ -1,6 +1,5 @@
 pub mod FirstLeast
 pub mod Line
 pub mod Columns
-pub mod Part
 pub mod Envelope
 pub mod Run

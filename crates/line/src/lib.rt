@@ -1,19 +1,17 @@
 // The line pass of an exact Euclidean feature transform: for each place of a line the first site with the least cost + (x - i)².
-// The answers, the costs and the stack are regions of one buffer, in this order: out, costs and stack say where each starts.
-// The stack has two numbers for each of its sites: the site itself, in the region stack, and the place where it starts to lead, in
-// the region out. No answer is written over a start that is still needed: site q does not start to lead before place q.
+// The stack has two numbers for each of its sites: the site itself, in the slice stack, and the place where it starts to lead, in
+// the slice of the answers, out. No answer is written over a start that is still needed: site q does not start to lead before place q.
 #![tactic(auto)]
 
-ghost use Rattle.std.specs.Prelude.{◌≡◌, true, ℕ, ◌+◌, ◌*◌, ◌-◌, ◌/◌, ◌<◌, ◌≤◌, length};
-ghost use Rattle.line.specs.steps.Line.{most_cost, most_length};
-ghost use Rattle.line.specs.steps.Part.{Written};
-ghost use Rattle.line.specs.steps.Envelope.{Regions, Tops, Placed, Ready, Skips, Stacked, Segments, Spread};
-ghost use Rattle.line.specs.steps.Run.{Ends, Lone, Ran, Passed};
+ghost use Rattle.std.specs.Prelude.{◌≡◌, ℕ, ◌+◌, ◌*◌, ◌-◌, ◌/◌, ◌<◌, ◌≤◌, length, slice_index, IsTrue};
+ghost use Rattle.line.specs.steps.Line.{most_cost, most_length, line_of};
+ghost use Rattle.line.specs.steps.Envelope.{Stack, Placed, Ready, Skips, Segments, InSegment};
+ghost use Rattle.line.specs.steps.Run.{Ends, Lone, Ran};
 
 // A place whose cost is above this has no site: 65,535².
 pub const MAX_COST: u32 = 4294836225;
 
-// What is written where the line has no site.
+// What is written where the line has no site. A number and no Option, since the answers are lent numbers.
 pub const NO_PLACE: u32 = 4294967295;
 
 // A cost and the square of its place.
@@ -49,18 +47,16 @@ struct Spot {
 
 // The spot of u: those sites are taken off the top that u beats already at their own start.
 // At x site i is as good as u, to its right, exactly where its height and 2x(u - i) are at most the height of u.
-fn find_spot(work: &[u32], out: usize, costs: usize, stack: usize, count: usize, u: usize) -> Spot
-    requires { Tops work.now out costs stack count u }
-    ensures { Placed work.now out costs stack count u result.stay result.from }
+fn find_spot(out: &[u32], costs: &[u32], stack: &[u32], count: usize, u: usize) -> Spot
+    requires { Ready out.now costs.now stack.now count u }
+    ensures { Placed costs.now (slice_index stack.now) (slice_index out.now) count u result.stay result.from }
 {
-    let most = high(work[costs + u], u);
-    let mut top = count;
-    while 0 < top {
-        top -= 1;
-        let i = plane::wide(work[stack + top]);
-        let start = plane::wide(work[out + top]);
+    let most = high(costs[u], u);
+    for top in (0..count).rev() {
+        let i = stack[top] as usize;
+        let start = out[top] as usize;
         let far = (start * (2 * (u - i))) as u64;
-        let low = high(work[costs + i], i);
+        let low = high(costs[i], i);
         if low + far <= most {
             return Spot {
                 stay: top + 1,
@@ -72,161 +68,128 @@ fn find_spot(work: &[u32], out: usize, costs: usize, stack: usize, count: usize,
 }
 
 // One site more; the new number of sites.
-fn push_site(
-    work: &mut [u32],
-    out: usize,
-    costs: usize,
-    stack: usize,
-    n: usize,
-    count: usize,
-    u: usize,
-) -> usize
-    requires { Ready work.old out costs stack n count u }
-    ensures { Stacked work.old work.new out costs stack n (u + 1) result }
+fn push_site(out: &mut [u32], costs: &[u32], stack: &mut [u32], count: usize, u: usize) -> usize
+    requires { Ready out.old costs.now stack.old count u }
+    ensures { Stack costs.now (slice_index stack.new) (slice_index out.new) (u + 1) result }
 {
-    let spot = find_spot(work, out, costs, stack, count, u);
+    let spot = find_spot(out, costs, stack, count, u);
     let k = spot.stay;
     let from = spot.from;
-    if from < n {
-        work[stack + k] = u as u32;
-        work[out + k] = from as u32;
+    if from < costs.len() {
+        stack[k] = u as u32;
+        out[k] = from as u32;
         return k + 1;
     }
     k
 }
 
 // The next place from x on that has a site; the end of the line where there is none.
-fn next_site(work: &[u32], costs: usize, n: usize, x: usize) -> usize
-    requires { (x ≤ n) × (costs + n ≤ length work.now) }
-    ensures { Skips work.now costs n x result }
+fn next_site(costs: &[u32], x: usize) -> usize
+    requires { x ≤ length costs.now }
+    ensures { Skips costs.now x result }
 {
-    let mut k = x;
-    while k < n {
-        if work[costs + k] <= MAX_COST {
+    for k in x..costs.len() {
+        if costs[k] <= MAX_COST {
             return k;
         }
-        k += 1;
     }
-    k
+    costs.len()
 }
 
 // The stack of the whole line; the number of its sites.
-fn build(work: &mut [u32], out: usize, costs: usize, stack: usize, n: usize) -> usize
-    requires { Regions out costs stack n (length work.old) }
-    ensures { Stacked work.old work.new out costs stack n n result }
+fn build(out: &mut [u32], costs: &[u32], stack: &mut [u32]) -> usize
+    requires short { length costs.now ≤ most_length }
+    requires out_long { length out.old ≡ length costs.now }
+    requires stack_long { length costs.now ≤ length stack.old }
+    ensures { Stack costs.now (slice_index stack.new) (slice_index out.new) (length costs.now) result }
 {
-    let mut count = 0usize;
-    let mut u = 0usize;
-    while u < n {
-        if work[costs + u] <= MAX_COST {
-            count = push_site(work, out, costs, stack, n, count, u);
+    let mut count = 0;
+    let mut u = 0;
+    // A while: a step goes over all places up to the next site.
+    while u < costs.len() {
+        if costs[u] <= MAX_COST {
+            count = push_site(out, costs, stack, count, u);
             u += 1;
         } else {
-            u = next_site(work, costs, n, u + 1);
+            u = next_site(costs, u + 1);
         }
     }
     count
 }
 
-// A stretch of places that have one answer: the n places from a on.
-pub fn fill(work: &mut [u32], a: usize, n: usize, v: u32)
-    requires { a + n ≤ length work.old }
-    ensures { Written 0 (λ (_ : ℕ). v) a n work.old work.new }
-{
-    let mut x = 0usize;
-    while x < n {
-        work[a + x] = v;
-        x += 1;
-    }
-}
-
 // The best site of each place, segment by segment from the right; the part of the line starts at base.
-fn answer(work: &mut [u32], out: usize, stack: usize, n: usize, count: usize, base: usize)
-    requires { Segments work.old out stack n count base }
-    ensures { Spread work.old work.new out stack n count base }
+fn answer(out: &mut [u32], stack: &[u32], count: usize, base: usize)
+    requires { Segments out.old stack.now count base }
+    ensures { (x : ℕ) → x < length out.old → InSegment out.old stack.now count base x (slice_index out.new x) }
 {
-    let mut q = count;
-    let mut end = n;
-    while 0 < q {
-        let top = q - 1;
-        let from = plane::wide(work[out + top]);
-        let v = (base + plane::wide(work[stack + top])) as u32;
-        fill(work, out + from, end - from, v);
+    let mut end = out.len();
+    for q in (0..count).rev() {
+        let from = out[q] as usize;
+        let v = (base + stack[q] as usize) as u32;
+        out[from..end].fill(v);
         end = from;
-        q = top;
     }
 }
 
 // The line pass over a part of the line that starts at base.
-fn run(work: &mut [u32], out: usize, costs: usize, stack: usize, n: usize, base: usize)
-    requires { Regions out costs stack n (length work.old) × (base ≤ most_length) }
-    ensures { Ran work.old work.new out costs stack n base }
+fn run(out: &mut [u32], costs: &[u32], stack: &mut [u32], base: usize)
+    requires short { length costs.now ≤ most_length }
+    requires out_long { length out.old ≡ length costs.now }
+    requires stack_long { length costs.now ≤ length stack.old }
+    requires low { base ≤ most_length }
+    ensures { Ran out.new costs.now base }
 {
-    let count = build(work, out, costs, stack, n);
+    let count = build(out, costs, stack);
     if count == 0 {
-        fill(work, out, n, NO_PLACE);
+        out.fill(NO_PLACE);
         return;
     }
-    answer(work, out, stack, n, count, base);
+    answer(out, stack, count, base);
 }
 
 // The end of the run that holds x: behind the next place of cost 0, or the end of the line.
-fn run_end(work: &[u32], costs: usize, n: usize, x: usize) -> usize
-    requires { (x < n) × (costs + n ≤ length work.now) }
-    ensures { Ends work.now costs n x result }
+fn run_end(costs: &[u32], x: usize) -> usize
+    requires { x < length costs.now }
+    ensures { Ends costs.now x result }
 {
-    let mut k = x;
-    while k < n {
-        let next = k + 1;
-        if work[costs + k] == 0 {
-            return next;
+    for k in x..costs.len() {
+        if costs[k] == 0 {
+            return k + 1;
         }
-        k = next;
     }
-    k
-}
-
-// The place before x; 0 for 0.
-fn place_before(x: usize) -> usize
-    ensures { result ≡ x - 1 }
-{
-    if 0 < x { x - 1 } else { 0 }
+    costs.len()
 }
 
 // Whether the place behind x has cost 0, and x is not the first.
-fn lone(work: &[u32], costs: usize, n: usize, x: usize) -> bool
-    requires { (x < n) × (costs + n ≤ length work.now) }
-    ensures { result ≡ true → Lone work.now costs n x }
+fn lone(costs: &[u32], x: usize) -> bool
+    requires { x < length costs.now }
+    ensures { IsTrue result → Lone costs.now x }
 {
-    if x == 0 {
-        return false;
-    }
-    let next = x + 1;
-    if next < n {
-        return work[costs + next] == 0;
-    }
-    false
+    0 < x && x + 1 < costs.len() && costs[x + 1] == 0
 }
 
 // For each place of a line the first site with the least cost + (x - i)²; NO_PLACE where the line has no site.
 // A place of cost 0 is its own answer, and the answer of a place behind it that has a cost;
 // sites beyond it do not count on this side of it. So the line is done run by run: a run starts at the place before x.
-pub fn line(work: &mut [u32], out: usize, costs: usize, stack: usize, n: usize)
-    requires { Regions out costs stack n (length work.old) }
-    ensures { Passed work.old work.new out costs stack n }
+pub fn line(out: &mut [u32], costs: &[u32], stack: &mut [u32])
+    requires short { length costs.now ≤ most_length }
+    requires out_long { length out.old ≡ length costs.now }
+    requires stack_long { length costs.now ≤ length stack.old }
+    ensures { out.new ≡ line_of costs.now }
 {
-    let mut x = 0usize;
-    while x < n {
-        if work[costs + x] == 0 {
-            work[out + x] = x as u32;
+    let mut x = 0;
+    // A while: a step is as long as the run that it answers.
+    while x < costs.len() {
+        if costs[x] == 0 {
+            out[x] = x as u32;
             x += 1;
-        } else if lone(work, costs, n, x) {
-            work[out + x] = (x - 1) as u32;
+        } else if lone(costs, x) {
+            out[x] = (x - 1) as u32;
             x += 1;
         } else {
-            let e = run_end(work, costs, n, x);
-            let a = place_before(x);
-            run(work, out + a, costs + a, stack, e - a, a);
+            let e = run_end(costs, x);
+            let a = x.saturating_sub(1);
+            run(&mut out[a..e], &costs[a..e], stack, a);
             x = e;
         }
     }

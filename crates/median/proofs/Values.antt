@@ -24,6 +24,9 @@ pub floats-length : (v : List ℕ) → length (floats_of v) ≡ length v / 2
 unfolding floats_of
 floats-length v = table-length (float_at v) 0 (length v / 2)
 
+-- how many numbers a buffer has, for the bounds of indices into it
+pub ruleset buffer_length = (floats-length)
+
 pub floats_at : (v : List ℕ) (k : ℕ) → k < length (floats_of v) → get_or (floats_of v) k nan ≡ float_at v k
 unfolding floats_of
 floats_at v k h = table_at (float_at v) (length v / 2) k nan (omega (arith, floats-length v))

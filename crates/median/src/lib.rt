@@ -14,7 +14,8 @@ const HALF: u64 = 4294967296;
 // The bit pattern of 1.0: those of the numbers from 0 to 1 are at most this, and have the numbers' order.
 const ONE: u64 = 0x3ff0_0000_0000_0000;
 
-// Value k.
+// Value k. The C interface lends numbers of 32 bits, so the two halves of a value stand side by side.
+#[tactic(auto, using(crate::proofs::Values::buffer_length))]
 fn value(values: &[u32], k: usize) -> f64
     requires { Place (floats_of values.now) k }
     ensures { result ≡ float_at values.now k }
@@ -25,16 +26,18 @@ fn value(values: &[u32], k: usize) -> f64
 }
 
 // Value k becomes x.
+#[tactic(auto, using(crate::proofs::Values::buffer_length))]
 pub fn put(values: &mut [u32], k: usize, x: f64)
     requires { Slot (floats_of values.old) k x }
     ensures { floats_of values.new ≡ set (floats_of values.old) k x }
 {
-    let bits = f64::to_bits(x);
+    let bits = x.to_bits();
     values[2 * k] = (bits % HALF) as u32;
     values[2 * k + 1] = (bits / HALF) as u32;
 }
 
 // How many values are at or below t.
+#[tactic(auto, using(crate::proofs::Values::buffer_length))]
 fn at_most(values: &[u32], t: f64) -> usize
     requires { colours_ok (floats_of values.now) ≡ true }
     ensures { result ≡ at_most t (floats_of values.now) }
@@ -52,6 +55,7 @@ fn select(values: &[u32], k: usize) -> f64
     requires { Place (floats_of values.now) k }
     ensures { result ≡ plus_zero (placed (floats_of values.now) k) }
 {
+    // A while: it halves what lies from lo to hi.
     let mut lo = 0u64;
     let mut hi = ONE;
     while lo < hi {
@@ -66,6 +70,7 @@ fn select(values: &[u32], k: usize) -> f64
 }
 
 // x where it lies above t and below r, else r.
+#[tactic(auto, unfolding(crate::specs::steps::Select::nearer))]
 fn nearer_of(t: f64, x: f64, r: f64) -> f64
     ensures { result ≡ nearer t x r }
 {
@@ -73,14 +78,13 @@ fn nearer_of(t: f64, x: f64, r: f64) -> f64
 }
 
 // The least value above t; 1.0 where no value lies between.
+#[tactic(auto, using(crate::proofs::Values::buffer_length))]
 fn least_above(values: &[u32], t: f64) -> f64
     requires { colours_ok (floats_of values.now) ≡ true }
     ensures { result ≡ least_above t (floats_of values.now) }
 {
     let mut least = 1.0;
-    let mut i = values.len() / 2;
-    while 0 < i {
-        i -= 1;
+    for i in (0..values.len() / 2).rev() {
         least = nearer_of(t, value(values, i), least);
     }
     least
@@ -88,6 +92,7 @@ fn least_above(values: &[u32], t: f64) -> f64
 
 // The value at place k + 1, a zero as +0, from the value lo at place k: lo again where more than k + 1 values are at or
 // below it, else the least above it.
+#[tactic(auto, using(crate::proofs::Values::buffer_length))]
 fn next_place(values: &[u32], k: usize, lo: f64) -> f64
     requires { Neighbours (floats_of values.now) k lo }
     ensures { result ≡ plus_zero (placed (floats_of values.now) (k + 1)) }
@@ -100,6 +105,7 @@ fn next_place(values: &[u32], k: usize, lo: f64) -> f64
 }
 
 // Half of the sum of the two middle values, a zero as +0.
+#[tactic(auto, using(crate::proofs::Values::buffer_length))]
 pub fn median(values: &[u32]) -> f64
     requires { Channel (floats_of values.now) }
     ensures { result ≡ median_of (floats_of values.now) }

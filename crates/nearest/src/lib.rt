@@ -4,75 +4,65 @@
 // the nearest on-rows of the row at hand, their costs, and the sites of the line pass's stack.
 #![tactic(auto)]
 
-ghost use Rattle.std.specs.Prelude.{◌≡◌, cond, ℕ, ◌+◌, ◌*◌, ◌-◌, ◌<◌, ◌≤◌, pos, length, take};
+ghost use Rattle.std.specs.Prelude.{◌≡◌, cond, List, ℕ, ◌+◌, ◌*◌, ◌<◌, ◌≤◌, pos, length, take, slice_index, slice_index_or, EachIndex};
 ghost use Rattle.plane.specs.Plane.{on, index_of};
 ghost use Rattle.line.specs.steps.Line.{most_length};
-ghost use Rattle.line.specs.steps.Part.{Written};
 ghost use Rattle.nearest.specs.Nearest.{row_of, column_of, rows_plane, columns_plane, distance_plane};
-ghost use Rattle.nearest.specs.steps.Room.{Room, IndexRoom, DistanceRoom, NearRoom, CostRoom, RowRoom};
-ghost use Rattle.nearest.specs.steps.Room.{ChosenRoom, PixelRoom, DistanceAtRoom, DistanceLineRoom};
-ghost use Rattle.nearest.specs.steps.Stages.{no_row, below_in, nearer, nearer_in, square_cost, cost_in, Swept, RowDone};
-ghost use Rattle.nearest.specs.steps.Stages.{elements, from, pixel_at, pixel_in, distance_at, distance_in};
+ghost use Rattle.nearest.specs.steps.Room.{Room, IndexRoom, DistanceRoom};
+ghost use Rattle.nearest.specs.steps.Stages.{no_row, nearer, square_cost, BelowFrom, pixel_in, IsRow, distance_in};
 ghost use Rattle.nearest.specs.steps.Indices.{indices_plane};
 
-// Stands for the row of a column that has no on-pixel.
+// Stands for the row of a column that has no on-pixel. A number and no Option, since it stands in the lent buffer of numbers.
 const NO_ROW: u32 = 1073741824;
 
-// The cost of a column that has no on-pixel.
+// The cost of a column that has no on-pixel; a number for the same reason.
 const NO_COST: u32 = 4294967295;
 
 // One more than the largest row.
 const MOST_ROWS: u32 = 65536;
 
 // Row y where its pixel is on, else the row from below.
+#[tactic(auto, unfolding(plane::specs::Plane::on))]
 fn own_row(b: u8, y: u32, below: u32) -> u32
     ensures { result ≡ cond (on b) y below }
 {
     if b == 0 { below } else { y }
 }
 
-// For each column the first on-row at or below row y, from that of the row below, which stands behind it.
-fn below_line(mask: &[u8], y: u32, work: &mut [u32], row: usize, w: usize)
-    requires { (row + w ≤ length mask.now) × (row + w + w ≤ length work.old) }
-    ensures { Written 0 (below_in mask.now y work.old row w) row w work.old work.new }
+// For each column the first on-row at or below row y, from those of the row below.
+fn below_line(mask: &[u8], y: u32, row: &mut [u32], next: &[u32])
+    requires mask_long { length mask.now ≡ length row.old }
+    requires next_long { length next.now ≡ length row.old }
+    ensures { EachIndex row.new
+        (λ x. slice_index row.new x ≡ cond (on (slice_index mask.now x)) y (slice_index next.now x)) }
 {
-    let next = row + w;
-    let mut x = 0usize;
-    while x < w {
-        work[row + x] = own_row(mask[row + x], y, work[next + x]);
-        x += 1;
+    for x in 0..row.len() {
+        row[x] = own_row(mask[x], y, next[x]);
     }
-}
-
-// Where the row before starts; 0 where there is none.
-// The first sweep goes from row to row by this and not by a product: of products the compiler knows that the rows go backwards, and
-// then it does not test whether what is read and what is written lie apart, but goes on number by number.
-fn row_before(row: usize, w: usize) -> usize
-    ensures { result ≡ row - w }
-{
-    if w < row { row - w } else { 0 }
 }
 
 // The first sweep, from the last row up: each pixel's first on-row at or below it. The line behind the plane says that none is
 // below the last row, and is the line from which the second sweep starts.
+// It goes from row to row by a subtraction that ends at 0 and not by a product: of products the compiler knows that the rows go
+// backwards, and then it does not test whether what is read and what is written lie apart, but goes on number by number.
 fn below(mask: &[u8], h: usize, w: usize, work: &mut [u32])
     requires { IndexRoom h w mask.now work.old }
-    ensures { Swept mask.now h w 0 work.new }
+    ensures { BelowFrom mask.now h w 0 work.new }
 {
     let n = h * w;
-    line::fill(work, n, w, NO_ROW);
-    let mut y = h;
-    let mut row = n;
-    while 0 < y {
-        let j = y - 1;
-        row = row_before(row, w);
-        below_line(mask, j as u32, work, row, w);
-        y = j;
+    work[n..n + w].fill(NO_ROW);
+    let mut at = n;
+    for y in (0..h).rev() {
+        at = at.saturating_sub(w);
+        let (_, rows) = work.split_at_mut(at);
+        let (row, rest) = rows.split_at_mut(w);
+        below_line(&mask[at..at + w], y as u32, row, &rest[..w]);
     }
 }
 
 // Of a, the first on-row at or below row y, and b, the nearest of the row above: the nearer to y; b where they are equally near.
 // No row is above row 0.
+#[tactic(auto, unfolding(crate::specs::steps::Stages::nearer))]
 fn nearer_row(y: u32, a: u32, b: u32) -> u32
     requires { (y < most_length) × (a ≤ no_row) × (b ≤ no_row) }
     ensures { result ≡ nearer y a b }
@@ -81,103 +71,89 @@ fn nearer_row(y: u32, a: u32, b: u32) -> u32
 }
 
 // For each column the nearest on-row of row y; near has it for the row above, and row the first on-row at or below.
-fn nearer_line(y: u32, work: &mut [u32], row: usize, near: usize, w: usize)
-    requires { NearRoom work.old y row near w }
-    ensures { Written 0 (nearer_in y work.old row near) near w work.old work.new }
+fn nearer_line(y: u32, row: &[u32], near: &mut [u32])
+    requires row_in { y < most_length }
+    requires row_long { length row.now ≡ length near.old }
+    requires row_low { EachIndex row.now (λ x. slice_index row.now x ≤ no_row) }
+    requires near_low { EachIndex near.old (λ x. slice_index near.old x ≤ no_row) }
+    ensures { EachIndex near.new
+        (λ x. slice_index near.new x ≡ nearer y (slice_index row.now x) (slice_index near.old x)) }
 {
-    let mut x = 0usize;
-    while x < w {
-        let a = work[row + x];
-        let b = work[near + x];
-        work[near + x] = nearer_row(y, a, b);
-        x += 1;
+    for x in 0..near.len() {
+        near[x] = nearer_row(y, row[x], near[x]);
     }
 }
 
 // The square of the distance between two rows; NO_COST where r is no row.
+#[tactic(auto, unfolding(crate::specs::steps::Stages::square_cost, plane::specs::Plane::apart))]
 fn cost(y: u32, r: u32) -> u32
     requires { y < most_length }
     ensures { result ≡ square_cost y r }
 {
-    let d = if y < r { r - y } else { y - r };
+    let d = y.abs_diff(r);
     if r < MOST_ROWS { d * d } else { NO_COST }
 }
 
 // What each column costs, seen from row y.
-fn costs_line(y: u32, work: &mut [u32], near: usize, costs: usize, w: usize)
-    requires { CostRoom work.old y near costs w }
-    ensures { Written 0 (cost_in y work.old near) costs w work.old work.new }
+fn costs_line(y: u32, near: &[u32], costs: &mut [u32])
+    requires row_in { y < most_length }
+    requires near_long { length near.now ≡ length costs.old }
+    ensures { EachIndex costs.new (λ x. slice_index costs.new x ≡ square_cost y (slice_index near.now x)) }
 {
-    let mut x = 0usize;
-    while x < w {
-        work[costs + x] = cost(y, work[near + x]);
-        x += 1;
+    for x in 0..costs.len() {
+        costs[x] = cost(y, near[x]);
     }
 }
 
-// Row y of the second sweep and of the second stage: the lines behind the n numbers of the plane go on from the row above to row y,
-// and the chosen column of each pixel of the row is written from out on.
-fn row_pass(y: usize, n: usize, w: usize, out: usize, work: &mut [u32])
-    requires { RowRoom y n w out work.old }
-    ensures { RowDone y n w out work.old work.new }
-{
-    let row = y * w;
-    let costs = n + w;
-    let stack = costs + w;
-    nearer_line(y as u32, work, row, n, w);
-    costs_line(y as u32, work, n, costs, w);
-    line::line(work, out, costs, stack, w);
-}
-
 // The row of column i; -1 where there is no such column.
+#[tactic(auto, unfolding(crate::specs::steps::Stages::pixel_in, crate::specs::Nearest::row_of))]
 fn row_at(near: &[u32], i: usize) -> i32
-    requires { i < length near.now → elements near.now i < most_length }
-    ensures { result ≡ row_of (pixel_at (length near.now) (elements near.now) i) }
+    requires { IsRow near.now i }
+    ensures { result ≡ row_of (pixel_in near.now i) }
 {
     if i < near.len() { near[i] as i32 } else { -1 }
 }
 
-// Column i; 0 where there is no such column.
+// Column i of w; 0 where there is no such column.
+#[tactic(auto, unfolding(crate::specs::steps::Stages::pixel_in, crate::specs::Nearest::column_of))]
 fn column_at(w: u32, i: u32) -> i32
     requires { w ≤ most_length }
-    ensures { (near : ℕ → ℕ) → result ≡ column_of (pixel_at w near i) }
+    ensures { (near : List ℕ) → length near ≡ w → result ≡ column_of (pixel_in near i) }
 {
     if i < w { i as i32 } else { 0 }
 }
 
-// The row of the chosen column's on-pixel of each place; the chosen columns stand from places on.
-fn rows_line(work: &[u32], places: usize, near: usize, w: usize, row: usize, rows: &mut [i32])
-    requires { PixelRoom work.now places near w × (row + w ≤ length rows.old) }
-    ensures { Written (pos 0)
-        (λ (x : ℕ). row_of (pixel_in work.now places near w x)) row w rows.old rows.new }
+// The row of the chosen column's on-pixel of each place.
+fn rows_line(places: &[u32], near: &[u32], rows: &mut [i32])
+    requires long { length places.now ≡ length rows.old }
+    requires chosen { EachIndex places.now (λ x. IsRow near.now (slice_index places.now x)) }
+    ensures { EachIndex rows.new
+        (λ x. slice_index_or rows.new x (pos 0) ≡ row_of (pixel_in near.now (slice_index places.now x))) }
 {
-    let end = near + w;
-    let mut x = 0usize;
-    while x < w {
-        let i = plane::wide(work[places + x]);
-        rows[row + x] = row_at(&work[near..end], i);
-        x += 1;
+    for x in 0..rows.len() {
+        rows[x] = row_at(near, places[x] as usize);
     }
 }
 
 // The chosen column of each place.
 // Rows and columns are written one after the other: both in one loop took up to twice as long on planes of 4096 by 4096, which lie a
 // power of two apart, and not on those of 4095 or 4000.
-fn columns_line(work: &[u32], places: usize, w: usize, row: usize, cols: &mut [i32])
-    requires { (w ≤ most_length) × (places + w ≤ length work.now) × (row + w ≤ length cols.old) }
-    ensures { (near : ℕ → ℕ) → Written (pos 0)
-        (λ (x : ℕ). column_of (pixel_at w near (from work.now places x))) row w cols.old cols.new }
+fn columns_line(places: &[u32], cols: &mut [i32])
+    requires short { length cols.old ≤ most_length }
+    requires long { length places.now ≡ length cols.old }
+    ensures { (near : List ℕ) → length near ≡ length cols.old → EachIndex cols.new
+        (λ x. slice_index_or cols.new x (pos 0) ≡ column_of (pixel_in near (slice_index places.now x))) }
 {
-    let n = w as u32;
-    let mut x = 0usize;
-    while x < w {
-        cols[row + x] = column_at(n, work[places + x]);
-        x += 1;
+    let w = cols.len() as u32;
+    for x in 0..cols.len() {
+        cols[x] = column_at(w, places[x]);
     }
 }
 
 // Row and column of the nearest on-pixel of each pixel: the least dy² + dx², among equals the least column and then the least row.
 // With nothing on, row -1 and column 0. The chosen columns of each row stand in the buffer's first row, which is no longer needed.
+// This, nearest_indices and nearest_distances are no function over a closure: they differ also in where the chosen columns stand, and a
+// closure's clauses would have to say again all that a row's loops say.
 pub fn nearest_planes(
     mask: &[u8],
     h: usize,
@@ -191,37 +167,43 @@ pub fn nearest_planes(
     ensures cols_after { cols.new ≡ columns_plane mask.now h w }
 {
     below(mask, h, w, work);
-    let mut y = 0usize;
-    while y < h {
-        row_pass(y, h * w, w, 0, work);
-        rows_line(work, 0, h * w, w, y * w, rows);
-        columns_line(work, 0, w, y * w, cols);
-        y += 1;
+    let (plane, lines) = work.split_at_mut(h * w);
+    let (near, others) = lines.split_at_mut(w);
+    let (costs, stack) = others.split_at_mut(w);
+    for y in 0..h {
+        let at = y * w;
+        nearer_line(y as u32, &plane[at..at + w], near);
+        costs_line(y as u32, near, costs);
+        let places = &mut plane[..w];
+        line::line(places, costs, stack);
+        rows_line(places, near, &mut rows[at..at + w]);
+        columns_line(places, &mut cols[at..at + w]);
     }
 }
 
 // The index of column i's on-pixel; 0 where there is no such column.
-fn index_at(work: &[u32], near: usize, w: usize, i: usize) -> u32
-    requires { ChosenRoom work.now near w i }
-    ensures { result ≡ index_of w (pixel_at w (from work.now near) i) }
+#[tactic(auto, unfolding(crate::specs::steps::Stages::pixel_in, plane::specs::Plane::index_of))]
+fn index_at(near: &[u32], i: usize) -> u32
+    requires short { length near.now ≤ most_length }
+    requires chosen { IsRow near.now i }
+    ensures { result ≡ index_of (length near.now) (pixel_in near.now i) }
 {
-    if i < w {
-        return (plane::wide(work[near + i]) * w + i) as u32;
+    if i < near.len() {
+        (near[i] as usize * near.len() + i) as u32
+    } else {
+        0
     }
-    0
 }
 
 // The index of the chosen column's on-pixel, in place of each place.
-fn index_line(work: &mut [u32], row: usize, near: usize, w: usize)
-    requires { PixelRoom work.old row near w }
-    ensures { Written 0
-        (λ (x : ℕ). index_of w (pixel_in work.old row near w x)) row w work.old work.new }
+fn index_line(row: &mut [u32], near: &[u32])
+    requires short { length near.now ≤ most_length }
+    requires chosen { EachIndex row.old (λ x. IsRow near.now (slice_index row.old x)) }
+    ensures { EachIndex row.new
+        (λ x. slice_index row.new x ≡ index_of (length near.now) (pixel_in near.now (slice_index row.old x))) }
 {
-    let mut x = 0usize;
-    while x < w {
-        let i = plane::wide(work[row + x]);
-        work[row + x] = index_at(work, near, w, i);
-        x += 1;
+    for x in 0..row.len() {
+        row[x] = index_at(near, row[x] as usize);
     }
 }
 
@@ -231,45 +213,49 @@ pub fn nearest_indices(mask: &[u8], h: usize, w: usize, work: &mut [u32])
     ensures { take (h * w) work.new ≡ indices_plane mask.now h w }
 {
     below(mask, h, w, work);
-    let mut y = 0usize;
-    while y < h {
-        row_pass(y, h * w, w, y * w, work);
-        index_line(work, y * w, h * w, w);
-        y += 1;
+    let (plane, lines) = work.split_at_mut(h * w);
+    let (near, others) = lines.split_at_mut(w);
+    let (costs, stack) = others.split_at_mut(w);
+    for y in 0..h {
+        let at = y * w;
+        let row = &mut plane[at..at + w];
+        nearer_line(y as u32, row, near);
+        costs_line(y as u32, near, costs);
+        line::line(row, costs, stack);
+        index_line(row, near);
     }
 }
 
 // The squared distance of (y, x) to column i's on-pixel, which costs[i] lies from row y; with no such column, to row -1 and column 0.
+#[tactic(auto, unfolding(crate::specs::steps::Stages::distance_in, plane::specs::Plane::apart))]
 fn distance_at(costs: &[u32], y: usize, x: usize, i: usize) -> u32
-    requires { DistanceAtRoom costs.now y x i }
-    ensures { result ≡ distance_at (length costs.now) (elements costs.now) y x i }
+    requires short { length costs.now ≤ most_length }
+    requires row_in { y < most_length }
+    requires column_in { x < most_length }
+    requires low { distance_in costs.now y x i ≤ 4294967295 }
+    ensures { result ≡ distance_in costs.now y x i }
 {
     if i < costs.len() {
-        let d = plane::apart(x, i);
-        return (plane::wide(costs[i]) + d * d) as u32;
+        let d = x.abs_diff(i);
+        (costs[i] as usize + d * d) as u32
+    } else {
+        let s = y + 1;
+        (s * s + x * x) as u32
     }
-    let s = y + 1;
-    (s * s + x * x) as u32
 }
 
-// The squared distance of each place of row y to its chosen column's on-pixel; the chosen columns stand from places on.
-fn distances_line(
-    work: &[u32],
-    places: usize,
-    costs: usize,
-    w: usize,
-    y: usize,
-    row: usize,
-    out: &mut [u32],
-)
-    requires { DistanceLineRoom work.now places costs w y row (length out.old) }
-    ensures { Written 0 (distance_in work.now places costs w y) row w out.old out.new }
+// The squared distance of each place of row y to its chosen column's on-pixel.
+fn distances_line(places: &[u32], costs: &[u32], y: usize, out: &mut [u32])
+    requires short { length costs.now ≤ most_length }
+    requires row_in { y < most_length }
+    requires places_long { length places.now ≡ length costs.now }
+    requires out_long { length out.old ≡ length costs.now }
+    requires low { EachIndex places.now (λ x. distance_in costs.now y x (slice_index places.now x) ≤ 4294967295) }
+    ensures { EachIndex out.new
+        (λ x. slice_index out.new x ≡ distance_in costs.now y x (slice_index places.now x)) }
 {
-    let end = costs + w;
-    let mut x = 0usize;
-    while x < w {
-        out[row + x] = distance_at(&work[costs..end], y, x, plane::wide(work[places + x]));
-        x += 1;
+    for x in 0..out.len() {
+        out[x] = distance_at(costs, y, x, places[x] as usize);
     }
 }
 
@@ -279,10 +265,15 @@ pub fn nearest_distances(mask: &[u8], h: usize, w: usize, work: &mut [u32], out:
     ensures { out.new ≡ distance_plane mask.now h w }
 {
     below(mask, h, w, work);
-    let mut y = 0usize;
-    while y < h {
-        row_pass(y, h * w, w, 0, work);
-        distances_line(work, 0, h * w + w, w, y, y * w, out);
-        y += 1;
+    let (plane, lines) = work.split_at_mut(h * w);
+    let (near, others) = lines.split_at_mut(w);
+    let (costs, stack) = others.split_at_mut(w);
+    for y in 0..h {
+        let at = y * w;
+        nearer_line(y as u32, &plane[at..at + w], near);
+        costs_line(y as u32, near, costs);
+        let places = &mut plane[..w];
+        line::line(places, costs, stack);
+        distances_line(places, costs, y, &mut out[at..at + w]);
     }
 }

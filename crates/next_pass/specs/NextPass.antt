@@ -1,12 +1,10 @@
 -- A look at the coming pass: the background that one more pass of growth would make, and how many pixels it would take off the object.
 -- Assumes nothing.
-use Rattle.std.specs.Prelude.{ℕ, ◌*◌, cond, not, ◌&&◌, List, eqb, Float}
+use Rattle.std.specs.Prelude.{ℕ, ◌*◌, not, ◌&&◌, List, Float}
 use Rattle.plane.specs.Search.{count_below}
 use Rattle.plane.specs.Mask.{is_on}
 use Rattle.colour.specs.declared.Rgb.{Rgb}
 use Rattle.outline.specs.Growth.{growth_of}
-use Rattle.next_pass.specs.declared.NextPass.{NextPass}
-use Rattle.next_pass.specs.declared.NextPass.TheVariants as next_pass_is
 
 -- the would-be background (R89): growth with one pass
 unfoldable pub next_background : List Float → Rgb → ℕ → ℕ → List ℕ → List ℕ
@@ -19,7 +17,3 @@ newly_on n before after = count_below n (λ (i : ℕ). is_on after i && not (is_
 -- the number of joins (R90): of the pixels on in the would-be background and off in the background
 unfoldable pub joins_in : List Float → Rgb → ℕ → ℕ → List ℕ → ℕ
 joins_in colours reference h w back = newly_on (h * w) back (next_background colours reference h w back)
-
--- the answer of a look with this refusal, and this number of joins (R90, R71)
-unfoldable pub next_pass_for : ℕ → ℕ → NextPass
-next_pass_for refusal joins = cond (eqb refusal 0) (next_pass_is.Joins joins) (next_pass_is.Refused refusal)

@@ -1,15 +1,8 @@
-// A look at the coming pass: what it answers, and how many pixels the pass would take off the object. The pass itself is growth's.
+// A look at the coming pass: how many pixels the pass would take off the object. The pass itself is growth's.
 #![tactic(auto)]
 
 ghost use Rattle.std.specs.Prelude.{◌≡◌, ◌≤◌, length};
 ghost use Rattle.next_pass.specs.NextPass.{newly_on};
-
-// What a look at the coming pass answers: how many pixels would join the background, or the number by which it declines.
-#[derive(Drop)]
-pub enum NextPass {
-    Joins(u64),
-    Refused(u32),
-}
 
 // How many pixels are counted at a time: not more than a byte can count.
 const BLOCK: usize = 240;
@@ -21,10 +14,8 @@ fn block(before: &[u8], after: &[u8]) -> u8
     ensures { result ≡ newly_on (length before.now) before.now after.now }
 {
     let mut n = 0u8;
-    let mut i = 0usize;
-    while i < before.len() {
-        n += plane::byte((after[i] != 0) & (before[i] == 0));
-        i += 1;
+    for i in 0..before.len() {
+        n += u8::from((after[i] != 0) & (before[i] == 0));
     }
     n
 }
@@ -35,11 +26,9 @@ pub fn newly_on(before: &[u8], after: &[u8]) -> u64
     ensures { result ≡ newly_on (length before.now) before.now after.now }
 {
     let mut n = 0u64;
-    let mut i = 0usize;
-    while i < before.len() {
-        let end = i + counts::lesser(BLOCK, before.len() - i);
-        n += block(&before[i..end], &after[i..end]) as u64;
-        i = end;
+    for i in (0..before.len()).step_by(BLOCK) {
+        let end = i + BLOCK.min(before.len() - i);
+        n += u64::from(block(&before[i..end], &after[i..end]));
     }
     n
 }

@@ -19,8 +19,8 @@ use Rattle.colour.proofs.Zero.{Alike}
 use Rattle.colour.proofs.Same.{SameColour}
 use Rattle.median.specs.Median.{median_of}
 use Rattle.median.proofs.Laws.{median-alike}
-use Rattle.card.specs.declared.Card.{Card}
-use Rattle.card.specs.declared.Card.TheVariants as card
+use Rattle.card.specs.Card.{Card}
+use Rattle.card.specs.Card.{Border, Given, Unreadable}
 use Rattle.outline.specs.Border.{row_pixels, inner_column, border_list, listed, on_border}
 use Rattle.outline.specs.Border.{channel_at, colour_at, reference_channel, reference_of, reference_on}
 use Rattle.outline.specs.Ground.{count_on}
@@ -117,6 +117,6 @@ reference-same one two h w e =
 -- so they have one reference on any card: a colour that is given is the same for both
 pub reference-on-same : (on : Card) (one two : List Float) (h w : ℕ)
     → ((i : ℕ) → on_border h w i ≡ true → SameColour (colour_at one i) (colour_at two i)) → reference_on on one h w ≡ reference_on on two h w
-reference-on-same (card.Given colour) one two h w e = refl
-reference-on-same card.Border one two h w e = reference-same one two h w e
-reference-on-same card.Unreadable one two h w e = reference-same one two h w e
+reference-on-same (Given colour) one two h w e = refl
+reference-on-same Border one two h w e = reference-same one two h w e
+reference-on-same Unreadable one two h w e = reference-same one two h w e

@@ -17,7 +17,7 @@ use Rattle.plane.proofs.Mask.{index_on}
 use Rattle.bounds.proofs.Laws.{BoxIn, Has, box-has, box_in}
 use Rattle.colour.specs.declared.Rgb.{Rgb}
 use Rattle.colour.specs.declared.Settings.{Settings}
-use Rattle.card.specs.declared.Card.{Card}
+use Rattle.card.specs.Card.{Card}
 use Rattle.outline.specs.Cut.{cut_mask, margin, crop_of}
 use Rattle.outline.specs.Calls.{Buffers, refusal_in}
 use Rattle.outline.proofs.CutLaws.{taken, mask-not-empty}

@@ -19,7 +19,7 @@ use Rattle.colour.specs.declared.Rgb.{Rgb}
 use Rattle.colour.specs.declared.Settings.{Settings}
 use Rattle.colour.specs.Colour.{colours_ok}
 use Rattle.colour.specs.Settings.{passes_of}
-use Rattle.card.specs.declared.Card.{Card}
+use Rattle.card.specs.Card.{Card}
 use Rattle.outline.specs.Border.{border_list}
 use Rattle.outline.specs.Ground.{close_plane, ground_of, count_on, found_from, is_found}
 use Rattle.outline.specs.Cut.{alpha_mask, is_sought, is_keyed, grown_ground, cut_mask}

@@ -21,7 +21,7 @@ use Rattle.plane.proofs.Refusal.{and-true}
 use Rattle.plane.proofs.Search.{none_found, or-true, not-both}
 use Rattle.squares.specs.Squares.{in_square}
 use Rattle.colour.specs.declared.Settings.{Settings}
-use Rattle.card.specs.declared.Card.TheVariants.{Border}
+use Rattle.card.specs.Card.{Border}
 use Rattle.card.specs.Hex.{hex_of, all_hex}
 use Rattle.card.specs.Card.{is_colour_text, text_channel, text_colour, card_of}
 use Rattle.colour.specs.Weight.{weight_of}

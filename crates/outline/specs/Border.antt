@@ -5,8 +5,8 @@ use Rattle.std.specs.Float.{nan}
 use Rattle.plane.specs.Plane.{table}
 use Rattle.colour.specs.declared.Rgb.{Rgb}
 use Rattle.median.specs.Median.{median_of}
-use Rattle.card.specs.declared.Card.{Card}
-use Rattle.card.specs.declared.Card.TheVariants as card
+use Rattle.card.specs.Card.{Card}
+use Rattle.card.specs.Card.{Border, Given, Unreadable}
 
 -- the pixels of row y (R15)
 unfoldable pub row_pixels : ℕ → ℕ → List ℕ
@@ -48,6 +48,6 @@ reference_of colours h w =
 -- the reference on a card (R83): a colour that is given takes the place of the border's. With a text that names no colour nothing is
 -- cut, so its line has no part in any result
 abbrev pub reference_on : Card → List Float → ℕ → ℕ → Rgb
-reference_on (card.Given colour) colours h w = colour
-reference_on card.Border colours h w = reference_of colours h w
-reference_on card.Unreadable colours h w = reference_of colours h w
+reference_on (Given colour) colours h w = colour
+reference_on Border colours h w = reference_of colours h w
+reference_on Unreadable colours h w = reference_of colours h w

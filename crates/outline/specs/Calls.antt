@@ -5,7 +5,7 @@ use Rattle.std.specs.Float.{binary64}
 use Rattle.std.specs.Float.Ieee.{fits}
 use Rattle.colour.specs.declared.Settings.{Settings}
 use Rattle.colour.specs.Number.{Binary64}
-use Rattle.card.specs.declared.Card.{Card}
+use Rattle.card.specs.Card.{Card}
 use Rattle.outline.specs.Border.{reference_on}
 use Rattle.outline.specs.Cut.{Cut, cut_of}
 use Rattle.outline.specs.Refusal.{cut_refusal}

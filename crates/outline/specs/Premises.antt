@@ -5,7 +5,7 @@ use Rattle.std.specs.Float.Ieee.{eq, is_nan}
 use Rattle.colour.specs.declared.Settings.{Settings}
 use Rattle.colour.specs.Colour.{colours_ok, same_colour}
 use Rattle.colour.specs.Settings.{passes_of}
-use Rattle.card.specs.declared.Card.{Card}
+use Rattle.card.specs.Card.{Card}
 use Rattle.outline.specs.Border.{on_border, colour_at, reference_on}
 use Rattle.outline.specs.Ground.{ground_of}
 use Rattle.outline.specs.Growth.{near_ground}

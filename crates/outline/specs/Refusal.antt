@@ -8,7 +8,7 @@ use Rattle.plane.specs.Mask.{is_on}
 use Rattle.colour.specs.declared.Rgb.{Rgb}
 use Rattle.colour.specs.declared.Settings.{Settings}
 use Rattle.colour.specs.Colour.{colours_ok, rgb_ok}
-use Rattle.card.specs.declared.Card.{Card}
+use Rattle.card.specs.Card.{Card}
 use Rattle.card.specs.Card.{is_readable}
 use Rattle.outline.specs.Cut.{alpha_mask}
 

@@ -1,20 +1,10 @@
-// The outline: the definitions of ground, growth and cut (specs/) and the laws about them (proofs/). Its only code are the types of
-// answers.
+// The outline: the definitions of ground, growth and cut (specs/) and the laws about them (proofs/). Its only code is the type of
+// the cut's answer.
 #![tactic(auto)]
 
-use colour::Rgb;
-
-// What the search of the ground answers: the reference colour where it is found, or the number by which it declines.
-#[derive(Drop)]
-pub enum Ground {
-    Found(Rgb),
-    Absent,
-    Refused(u32),
-}
-
-// What the cut answers: whether it was keyed, and the crop box; or the number by which it declines.
-#[derive(Drop)]
-pub enum Outcome {
-    Done(bool, plane::Box),
-    Refused(u32),
+// What an accepted cut answers beside its mask and weights: whether it was keyed, and the crop box.
+#[derive(Clone, Copy)]
+pub struct Outcome {
+    pub keyed: bool,
+    pub crop: plane::Box,
 }

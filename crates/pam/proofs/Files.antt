@@ -4,13 +4,14 @@ use mathlib.Core.Path.{◌≡◌, refl, sym, ap, ◌∙◌}
 use mathlib.Core.Bool.{Bool, true, false, cond}
 use mathlib.Core.List.{List, [], ◌∷◌}
 use mathlib.Core.Logic.{⊎_elim}
-use Prim.Native.Nat.{ℕ, zero, suc, ◌+◌, ◌*◌, ◌≤◌}
+use Prim.Native.Nat.{ℕ, zero, suc, ◌+◌, ◌*◌, ◌≤◌, ◌<◌}
 use native.Mathlib.Nat.{mul-suc, mul_comm}
 use native.Mathlib.Omega.{arith}
 use lib.Dec.{leb}
 use lib.ListN.{length, take}
 use lib.Seq.{length-take-le}
 use borrow.Author.Tests.{ne_eqb, leb-true, eqb-true}
+use Rattle.std.proofs.Common.{Option, Some, None}
 use Rattle.plane.specs.Refusal.{refusal_of}
 use Rattle.plane.proofs.Search.{either}
 use Rattle.plane.proofs.Refusal.{passed}
@@ -23,15 +24,14 @@ use Rattle.pam_header.proofs.Sizes.{Small, header-small, header-first}
 -- ---- an accepted file
 
 pub record FileOk (header : Header) (input : List ℕ) : Type 0 where
-  pub header_ok : header.ok ≡ true
   pub few : pixels_of header ≤ most_pixels
   pub long : length input ≡ header.body + 4 * pixels_of header
 
-pub file-ok : (header : Header) (input : List ℕ) → file_refusal header input ≡ 0 → FileOk header input
+pub file-ok : (header : Header) (input : List ℕ) → file_refusal (Some header) input ≡ 0 → FileOk header input
 unfolding file_refusal
 file-ok header input e =
-    let t = passed (file_tests header input) refl e in
-    record { header_ok = t.0; few = leb-true _ _ t.1.0; long = eqb-true _ _ t.1.1.0 }
+    let t = passed (file_tests (Some header) input) refl e in
+    record { few = leb-true _ _ t.1.0; long = eqb-true _ _ t.1.1.0 }
 
 -- a side is at most the product
 factor-most : (a b : ℕ) → 1 ≤ b → a ≤ a * b
@@ -45,36 +45,44 @@ pub record SidesOk (h w : ℕ) : Type 0 where
   pub tall : h ≤ most_pixels
   pub wide : w ≤ most_pixels
 
-pub sides-of : (header : Header) → Small header → header.ok ≡ true → pixels_of header ≤ most_pixels
-    → SidesOk header.height header.width
-sides-of header s e few =
+pub sides-of : (header : Header) → Small header → pixels_of header ≤ most_pixels → SidesOk header.height header.width
+sides-of header s few =
     let h = header.height in
     let w = header.width in
-    let x = factor-most h w (s.width_some e) in
-    let y : w ≤ h * w = rw (mul_comm h w) (factor-most w h (s.height_some e)) in
-    record { some_rows = s.height_some e; some_columns = s.width_some e; tall = omega arith; wide = omega arith }
+    let x = factor-most h w s.width_some in
+    let y : w ≤ h * w = rw (mul_comm h w) (factor-most w h s.height_some) in
+    record { some_rows = s.height_some; some_columns = s.width_some; tall = omega arith; wide = omega arith }
 
 -- ---- a long input is declined, by its header
 
 -- the number of a file whose length is not that of its picture
-long_refusal : Header → ℕ
-long_refusal header = refusal_of ((8, header.ok) ∷ (10, leb (pixels_of header) most_pixels) ∷ (9, false) ∷ [])
+long_refusal : Option Header → ℕ
+long_refusal None = 8
+long_refusal (Some header) = refusal_of ((10, leb (pixels_of header) most_pixels) ∷ (9, false) ∷ [])
 
-long-number : (input : List ℕ) → most_input ≤ length input → file_refusal (header_of input) input ≡ long_refusal (header_of input)
+long-by : (header : Option Header) (input : List ℕ) → ((h : Header) → header ≡ Some h → length input ≡ h.body + 4 * pixels_of h → most_pixels < pixels_of h)
+    → file_refusal header input ≡ long_refusal header
 unfolding file_refusal long_refusal refusal_of
-long-number input l =
-    let header = header_of input in
-    ⊎_elim {C = file_refusal header input ≡ long_refusal header}
+long-by None input f = refl
+long-by (Some header) input f =
+    ⊎_elim {C = file_refusal (Some header) input ≡ long_refusal (Some header)}
     (λ (t : leb (pixels_of header) most_pixels ≡ true).
     let few = leb-true (pixels_of header) most_pixels t in
-    rw (ne_eqb (length input) (header.body + 4 * pixels_of header) (λ e. omega (arith, e, (header-small input).body_most))))
+    rw (ne_eqb (length input) (header.body + 4 * pixels_of header) (λ e. omega (arith, few, f header refl e))))
     (λ (t : leb (pixels_of header) most_pixels ≡ false). rw t)
     (either (leb (pixels_of header) most_pixels))
 
-long-some : (a b : Bool) → ◌≡◌ {A = ℕ} (cond a (cond b 9 10) 8) 0 → ⊥
-long-some true true e = let z : ◌≡◌ {A = ℕ} 9 0 = e in omega arith
-long-some true false e = let z : ◌≡◌ {A = ℕ} 10 0 = e in omega arith
-long-some false b e = let z : ◌≡◌ {A = ℕ} 8 0 = e in omega arith
+long-number : (input : List ℕ) → most_input ≤ length input → file_refusal (header_of input) input ≡ long_refusal (header_of input)
+long-number input l = long-by (header_of input) input (λ h e n. omega (arith, n, (header-small input h e).body_most))
+
+long-some : (header : Option Header) → long_refusal header ≡ 0 → ⊥
+unfolding long_refusal refusal_of
+long-some None e = omega (arith, e)
+long-some (Some header) e = by (leb (pixels_of header) most_pixels) e
+  where
+    by : (b : Bool) → ◌≡◌ {A = ℕ} (cond b 9 10) 0 → ⊥
+    by true e = omega (arith, e)
+    by false e = omega (arith, e)
 
 -- a file as long as most_input is declined, and its first most_input bytes are declined by the same number
 pub record LongDeclined (input : List ℕ) : Type 0 where
@@ -82,12 +90,11 @@ pub record LongDeclined (input : List ℕ) : Type 0 where
   pub first_same : let first = take most_input input in file_refusal (header_of first) first ≡ file_refusal (header_of input) input
 
 pub long-declined : (input : List ℕ) → most_input ≤ length input → LongDeclined input
-unfolding long_refusal refusal_of
 long-declined input l =
     let t = take most_input input in
     let k : length t ≡ most_input = length-take-le most_input input l in
     record {
-      declined = λ e. long-some (header_of input).ok (leb (pixels_of (header_of input)) most_pixels) (sym (long-number input l) ∙ e);
+      declined = λ e. long-some (header_of input) (sym (long-number input l) ∙ e);
       first_same =
           long-number t (omega arith) ∙ ap long_refusal (header-first most_input input (omega arith)) ∙ sym (long-number input l);
     }

@@ -1,6 +1,6 @@
 -- The picture in a PAM file, and the tests that the file must pass.
 -- Assumes nothing.
-use Rattle.std.specs.Prelude.{ℕ, ◌+◌, ◌*◌, ◌/◌, ◌%◌, List, [], ◌∷◌, eqb, leb, length, get_or, Float}
+use Rattle.std.specs.Prelude.{ℕ, ◌+◌, ◌*◌, ◌/◌, ◌%◌, true, false, List, [], ◌∷◌, eqb, leb, length, get_or, Float, Option, Some, None}
 use Rattle.plane.specs.Plane.{table}
 use Rattle.plane.specs.Refusal.{Test}
 use Rattle.colour.specs.Weight.{weight_of}
@@ -38,9 +38,10 @@ alpha_of header input = alpha_from input header.body (pixels_of header)
 
 -- the tests of a file, in order (R51 to R53): the header is as it should be, there are not too many pixels, and no byte is missing or left
 -- over
-abbrev pub file_tests : Header → List ℕ → List Test
-file_tests header input =
-    (8, header.ok)
+abbrev pub file_tests : Option Header → List ℕ → List Test
+file_tests None input = (8, false) ∷ []
+file_tests (Some header) input =
+    (8, true)
     ∷ (10, leb (pixels_of header) most_pixels)
     ∷ (9, eqb (length input) (header.body + 4 * pixels_of header))
     ∷ []

@@ -1,7 +1,8 @@
 // What cutcard is given: a picture in a PAM file, of at most 2304 pixels, and its settings.
 #![tactic(auto)]
 
-ghost use Rattle.std.specs.Prelude.{◌≡◌, true, ◌*◌, ◌≤◌, length};
+ghost use Rattle.std.specs.Prelude.{◌≡◌, true, ◌*◌, ◌≤◌, length, IfOk};
+ghost use Rattle.plane.specs.Refusal.{refusal_of_answer};
 ghost use Rattle.colour.specs.Colour.{colours_ok};
 ghost use Rattle.pam.specs.Settings.{settings};
 ghost use Rattle.pam_header.specs.Header.{most_header, header_of};
@@ -10,6 +11,7 @@ ghost use Rattle.pam.specs.steps.File.{file_refusal};
 
 use colour::Settings;
 use pam_header::Header;
+use plane::answer::Refusal;
 
 // The most pixels of a picture.
 pub const MOST_PIXELS: usize = 2304;
@@ -24,23 +26,21 @@ pub fn most_input() -> usize
     MOST_INPUT
 }
 
-// 8, 10 or 9 where the file with this header is declined, else 0.
-pub fn file_refusal(header: Header, input: &[u8]) -> u32
-    requires { header ≡ header_of input.now }
-    ensures { result ≡ file_refusal header input.now }
+// The header of a file, or why the file is declined: it has no header, too many pixels, or not the length that its header says.
+pub fn read(input: &[u8]) -> Result<Header, Refusal>
+    ensures number { refusal_of_answer result ≡ file_refusal (header_of input.now) input.now }
+    ensures header { IfOk result (λ h. Some h ≡ header_of input.now) }
 {
-    if !header.ok {
-        return 8;
-    }
+    let header = pam_header::read_header(input).ok_or(Refusal::Header)?;
     let n = header.height * header.width;
     if MOST_PIXELS < n {
-        return 10;
+        return Err(Refusal::Pixels);
     }
     let end = header.body + 4 * n;
     if input.len() != end {
-        return 9;
+        return Err(Refusal::FileLength);
     }
-    0
+    Ok(header)
 }
 
 // The colours of n pixels that stand from a place on.
@@ -49,11 +49,9 @@ pub fn colours(input: &[u8], body: usize, n: usize, out: &mut [f64])
     ensures out_after { out.new ≡ colours_from input.now body n }
     ensures out_in_range { colours_ok out.new ≡ true }
 {
-    let mut k = 0usize;
-    while k < out.len() {
+    for k in 0..out.len() {
         let v = text::byte_at(input, body + (4 * (k / 3) + k % 3));
         out[k] = colour::weights::weight(v);
-        k += 1;
     }
 }
 
@@ -62,10 +60,8 @@ pub fn alpha(input: &[u8], body: usize, n: usize, out: &mut [u8])
     requires { (body ≤ most_header) × (n ≤ most_pixels) × (length out.old ≡ n) }
     ensures { out.new ≡ alpha_from input.now body n }
 {
-    let mut i = 0usize;
-    while i < out.len() {
+    for i in 0..out.len() {
         out[i] = text::byte_at(input, body + (4 * i + 3));
-        i += 1;
     }
 }
 

@@ -1,10 +1,12 @@
 -- Headers that are accepted, with their sides, and headers that are not, computed from the definitions.
 -- Assumes nothing.
-use mathlib.Core.Bool.{Bool, true, not, ◌&&◌}
+use mathlib.Core.Bool.{Bool, true, false, ◌&&◌}
 use mathlib.Core.List.{List, [], ◌∷◌, ◌++◌}
 use Prim.Native.Nat.{ℕ}
 use lib.Dec.{T, eqb}
 use lib.ListN.{replicate}
+use Rattle.std.specs.Option.{is_none}
+use Rattle.std.proofs.Common.{Option, Some, None}
 use Rattle.text.specs.Decimal.{is_digit, all_digits, digits_upto, value_from, number_upto}
 use Rattle.pam_header.specs.declared.Header.{Header}
 use Rattle.pam_header.specs.Header.{in_front, lines_of, count_of, starts_at, is_text, is_numeral, is_side, is_skipped, is_other}
@@ -39,15 +41,16 @@ strange : List ℕ
 strange = 35 ∷ end_text ++ (13 ∷ 0 ∷ 255 ∷ [])
 
 -- what a header says is this
-says : Header → ℕ → ℕ → ℕ → Bool
-says header h w body = header.ok && eqb header.height h && eqb header.width w && eqb header.body body
+says : Option Header → ℕ → ℕ → ℕ → Bool
+says None h w body = false
+says (Some header) h w body = eqb header.height h && eqb header.width w && eqb header.body body
 
 -- the header with these lines is accepted, with 12 rows of 5 pixels after so many bytes
 accepts : List (List ℕ) → ℕ → Bool
 accepts lines body = says (header_of (header_text lines ++ white 240)) 12 5 body
 
 declines : List (List ℕ) → Bool
-declines lines = not (header_of (header_text lines)).ok
+declines lines = is_none (header_of (header_text lines))
 
 headers : List Bool
 headers =
@@ -58,8 +61,8 @@ headers =
     -- comments and empty lines
     ∷ accepts ([] ∷ tall ∷ strange ∷ wide ∷ [] ∷ [] ∷ (others ++ (comment 0 ∷ []))) 82
     -- skipped before P7: declined
-    ∷ not (header_of (10 ∷ header_text (wide ∷ tall ∷ others))).ok
-    ∷ not (header_of (35 ∷ 10 ∷ header_text (wide ∷ tall ∷ others))).ok
+    ∷ is_none (header_of (10 ∷ header_text (wide ∷ tall ∷ others)))
+    ∷ is_none (header_of (35 ∷ 10 ∷ header_text (wide ∷ tall ∷ others)))
     -- one field missing, twice, behind a blank, with a comment behind it; a line of a blank or a carriage return; another line
     ∷ declines (wide ∷ others)
     ∷ declines (wide ∷ tall ∷ wide ∷ others)
@@ -75,12 +78,12 @@ headers =
     ∷ declines (width_name ∷ tall ∷ others)
     -- 4096 bytes, and 4097
     ∷ accepts (comment 4028 ∷ wide ∷ tall ∷ others) 4096
-    ∷ not (header_of (header_text (comment 4029 ∷ wide ∷ tall ∷ others))).ok
+    ∷ is_none (header_of (header_text (comment 4029 ∷ wide ∷ tall ∷ others)))
     -- no newline after ENDHDR
-    ∷ not (header_of (text_of (first_text ∷ wide ∷ tall ∷ others) ++ end_text)).ok
+    ∷ is_none (header_of (text_of (first_text ∷ wide ∷ tall ∷ others) ++ end_text))
     -- the header that was accepted at first, and what it said
     ∷ says (earlier_of (header_text (wide ∷ tall ∷ others))) 12 5 66
-    ∷ not (earlier_of (header_text (tall ∷ wide ∷ others))).ok
+    ∷ is_none (earlier_of (header_text (tall ∷ wide ∷ others)))
     ∷ []
 
 headers-hold : T (all headers)

@@ -1,38 +1,22 @@
--- How a text is compared with a line, byte by byte, and what the comparison says of the line.
+-- What the definitions of a comparison say of a line, and what the comparisons of std say of it.
 -- Assumes nothing.
 use mathlib.Core.Path.{◌≡◌, refl, sym, ap, ◌∙◌}
 use mathlib.Core.Bool.{Bool, true, false, not, ◌&&◌}
-use mathlib.Core.List.{List, [], ◌∷◌, ◌++◌}
+use mathlib.Core.List.{List, [], ◌∷◌, ◌++◌, append-nil}
 use mathlib.Core.Logic.{⊎_elim}
 use Prim.Native.Nat.{ℕ, zero, suc, ◌+◌, ◌≤◌, ◌<◌}
 use native.Mathlib.Nat.{zero-add, add-zero}
-use native.Mathlib.Numerals.{add-one}
 use native.Mathlib.Omega.{arith}
 use lib.Dec.{eqb}
-use lib.ListN.{length, get_or, take, drop, drop_of_length-le, get_or-eq_default}
+use lib.ListN.{length, get_or, take, drop, get_or-eq_default}
 use lib.Seq.{drop-cons, drop-drop, drop_at, get_or-drop, get_or-take, take_all, length-take-le, ext_get_or}
 use borrow.Author.Tests.{eq-eqb, ne_eqb, eqb-true, eqb-false, not-true}
-use Rattle.plane.proofs.Search.{which}
+use Rattle.std.specs.Str.{bytes_eq}
+use Rattle.std.specs.Cmp.Lexicographic.{pointwise}
+use Rattle.std.proofs.lemmas.Slice.Eq.{bytes_eq-Decides}
+use Rattle.plane.proofs.Search.{which, and_is}
 use Rattle.plane.proofs.Refusal.{and-true}
 use Rattle.pam_header.specs.Header.{starts_at, is_text}
-
-module _ (line text : List ℕ) (i : ℕ) where
-  pub starts_more : i < length text → get_or line i 0 ≡ get_or text i 0
-      → starts_at line i (drop i text) ≡ starts_at line (i + 1) (drop (i + 1) text)
-  unfolding starts_at
-  starts_more l e =
-      ap (starts_at line i) (drop-cons text i 0 l)
-      ∙ ap (λ (t : Bool). t && starts_at line (suc i) (drop (suc i) text)) (eq-eqb _ _ e)
-      ∙ ap (λ (k : ℕ). starts_at line k (drop k text)) (sym (add-one i))
-
-  pub starts-not : i < length text → (get_or line i 0 ≡ get_or text i 0 → ⊥) → starts_at line i (drop i text) ≡ false
-  unfolding starts_at
-  starts-not l e =
-      ap (starts_at line i) (drop-cons text i 0 l) ∙ ap (λ (t : Bool). t && starts_at line (suc i) (drop (suc i) text)) (ne_eqb _ _ e)
-
-  pub starts-end : length text ≤ i → starts_at line i (drop i text) ≡ true
-  unfolding starts_at
-  starts-end l = ap (starts_at line i) (drop_of_length-le text l)
 
 -- ---- what stands at a place
 
@@ -120,3 +104,30 @@ text-is text line t =
     let n = text-long text line t in
     sym (take_all (length text) line (omega arith))
     ∙ starts-front line text (and-true (starts_at line 0 text) (eqb (length line) (length text)) t).0 (omega arith)
+
+-- ---- std's comparisons
+
+-- two tests that follow from each other
+same_test : (s t : Bool) → (s ≡ true → t ≡ true) → (t ≡ true → s ≡ true) → s ≡ t
+same_test true t f g = sym (f refl)
+same_test false true f g = g refl
+same_test false false f g = refl
+
+pub text_same : (text line : List ℕ) (r : Bool) → r ≡ bytes_eq line text → r ≡ is_text text line
+unfolding is_text
+text_same text line r e =
+    let same = bytes_eq-Decides line text in
+    e
+    ∙ same_test (bytes_eq line text) (is_text text line)
+    (λ t.
+    let l = same.0 t in
+    and_is _ _ (starts_is line text [] 0 (l ∙ sym (append-nil text))) (eq-eqb _ _ (ap length l)))
+    (λ t. same.1 (text-is text line t))
+
+-- a text of one byte begins a line that has it first
+pub first_same : (b : ℕ) (line : List ℕ) → (b ≡ 0 → ⊥) → pointwise eqb (b ∷ []) (take 1 line) ≡ eqb (get_or line 0 0) b
+first_same b [] z = sym (ne_eqb 0 b (λ e. z (sym e)))
+first_same b (a ∷ line) z =
+    same_test (eqb b a && true) (eqb a b)
+    (λ t. eq-eqb a b (sym (eqb-true b a (and-true (eqb b a) true t).0)))
+    (λ t. and_is (eqb b a) true (eq-eqb b a (sym (eqb-true a b t))) refl)

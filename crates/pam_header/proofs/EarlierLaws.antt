@@ -10,6 +10,7 @@ use lib.Dec.{eqb, leb}
 use lib.ListN.{length, get_or, take, drop, length-append, take-append-drop, length-drop, get_or-append}
 use lib.Seq.{drop-drop, length-take-le}
 use borrow.Author.Tests.{ne_eqb, le-leb, leb-true}
+use Rattle.std.specs.Option.{IsSome}
 use Rattle.plane.proofs.Search.{either, not-both, and_is, not_is, or_right}
 use Rattle.plane.proofs.Refusal.{and-true}
 use Rattle.text.specs.Decimal.{is_digit, all_digits, value_of, number_upto}
@@ -21,7 +22,8 @@ use Rattle.pam_header.specs.EarlierHeader.{width_text, height_text, tail_text, d
 use Rattle.pam_header.specs.EarlierHeader.{width_at, middle_at, height_at, tail_at, body_at, width_of, height_of, earlier_ok, earlier_of}
 use Rattle.pam_header.proofs.Comparing.{byte-first, no_zero, starts-split}
 use Rattle.pam_header.proofs.Numbers.{numeral}
-use Rattle.pam_header.proofs.HeaderLaws.{side-given, header-accepted}
+use Rattle.pam_header.proofs.Sides.{side-given}
+use Rattle.pam_header.proofs.HeaderLaws.{header-accepted}
 
 -- ---- an input that was accepted starts with a header in the one order
 
@@ -198,7 +200,7 @@ module _ (w h : List ℕ) (m : is_numeral w ≡ true) (n : is_numeral h ≡ true
 
 -- ---- what an earlier header said is said still
 
-pub earlier-same : (input : List ℕ) → (earlier_of input).ok ≡ true → header_of input ≡ earlier_of input
+pub earlier-same : (input : List ℕ) → IsSome (earlier_of input) → header_of input ≡ earlier_of input
 unfolding earlier_of said_by
 earlier-same input o =
     ⊎_elim {C = header_of input ≡ earlier_of input}

@@ -8,9 +8,11 @@ use mathlib.Core.Logic.{⊎_elim}
 use Prim.Native.Nat.{ℕ, ◌+◌, ◌-◌, ◌≤◌}
 use native.Mathlib.Omega.{arith}
 use lib.Dec.{eqb}
-use lib.ListN.{length, take, drop, length-append, length-take, length-drop, take-append-drop}
+use lib.ListN.{length, take, drop, length-append, length-take, take-append-drop}
 use lib.Seq.{drop_at, take-append-add}
 use borrow.Author.Tests.{le-leb, not-true}
+use Rattle.std.proofs.Common.{Some}
+use Rattle.std.specs.Option.{IsSome}
 use Rattle.plane.proofs.Search.{either, not-both, and_is}
 use Rattle.plane.proofs.Refusal.{and-true}
 use Rattle.text.specs.Decimal.{value_of}
@@ -18,9 +20,9 @@ use Rattle.pam_header.specs.Header.{in_front, lines_of, count_of, starts_at, is_
 use Rattle.pam_header.specs.Header.{first_text, width_name, height_name, end_text}
 use Rattle.pam_header.specs.Header.{field_lines, fields_ok, side_from, side_in, bytes_of, are_lines_ok, most_header, header_by, header_of}
 use Rattle.pam_header.specs.HeaderText.{is_plain, all_plain, text_of, header_text, Stands, Lines, said_by, HasHeader}
-use Rattle.pam_header.proofs.Comparing.{starts_is, starts-front, text-is}
+use Rattle.pam_header.proofs.Comparing.{text-is}
 use Rattle.pam_header.proofs.Lines.{first-line, lines-text}
-use Rattle.pam_header.proofs.Numbers.{numeral}
+use Rattle.pam_header.proofs.Sides.{side-given, side-line}
 use Rattle.pam_header.proofs.Sizes.{fields-are, lines_ok}
 
 -- ---- lines and their text
@@ -125,12 +127,6 @@ end-found (line ∷ lines) l =
 -- ---- the sides
 
 module _ (name : List ℕ) where
-  -- a name and a number give a side
-  pub side-given : (digits : List ℕ) → is_numeral digits ≡ true → is_side name (name ++ digits) ≡ true
-  unfolding is_side
-  side-given digits e =
-      and_is _ _ (starts_is (name ++ digits) name digits 0 refl) (ap is_numeral (drop_at name digits (length name) refl) ∙ e)
-
   side-none : (lines : List (List ℕ)) (v : ℕ) → count_of (is_side name) lines ≡ 0 → side_in name v lines ≡ v
   unfolding side_in side_from count_of
   side-none [] v e = refl
@@ -148,7 +144,7 @@ module _ (name : List ℕ) where
       → side_in name v (before ++ ((name ++ digits) ∷ after)) ≡ value_of digits
   unfolding side_in side_from count_of
   side-is [] digits after v n e =
-      let g = side-given digits n in
+      let g = side-given name digits n in
       let z : 1 + count_of (is_side name) after ≡ 1 = rw g at e in
       let s : side_from name v (name ++ digits) ≡ value_of digits = rw g (ap value_of (drop_at name digits (length name) refl)) in
       ap (λ (k : ℕ). side_in name k after) s ∙ side-none after (value_of digits) (omega arith)
@@ -157,22 +153,12 @@ module _ (name : List ℕ) where
       ⊎_elim {C = side_in name v (line ∷ all) ≡ value_of digits}
       (λ (t : is_side name line ≡ true).
       let z : 1 + count_of (is_side name) all ≡ 1 = rw t at e in
-      absurd (omega (arith, count-some (is_side name) before (name ++ digits) after (side-given digits n))))
+      absurd (omega (arith, count-some (is_side name) before (name ++ digits) after (side-given name digits n))))
       (λ (t : is_side name line ≡ false).
       let z : 0 + count_of (is_side name) all ≡ 1 = rw t at e in
       let s : side_from name v line ≡ v = rw t in
       ap (λ (k : ℕ). side_in name k all) s ∙ side-is before digits after v n (omega arith))
       (either (is_side name line))
-
-  -- a line that gives it is the name and a number
-  side-line : (line : List ℕ) → is_side name line ≡ true → name ++ drop (length name) line ≡ line
-  unfolding is_side
-  side-line line t =
-      let a = and-true (starts_at line 0 name) (is_numeral (drop (length name) line)) t in
-      let some = (numeral (drop (length name) line) a.1).some in
-      let l : length name ≤ length line = omega (arith, some, length-drop (length name) line) in
-      ap (λ (x : List ℕ). x ++ drop (length name) line) (sym (starts-front line name a.0 l))
-      ∙ take-append-drop (length name) line
 
   side-found : (lines : List (List ℕ)) → 1 ≤ count_of (is_side name) lines → (digits : List ℕ) × Stands name digits lines
   unfolding count_of is_side
@@ -185,7 +171,7 @@ module _ (name : List ℕ) where
         record {
           before = [];
           after = lines;
-          lines_are = ap (λ (x : List ℕ). x ∷ lines) (sym (side-line line t));
+          lines_are = ap (λ (x : List ℕ). x ∷ lines) (sym (side-line name line t));
           number = (and-true (starts_at line 0 name) (is_numeral digits) t).1;
         },
       ))
@@ -224,7 +210,7 @@ header-long lines =
 -- whatever lines follow ENDHDR
 header_is : (lines more : List (List ℕ)) → fields_ok lines ≡ true
     → header_by (first_text ∷ (lines ++ (end_text ∷ more)))
-    ≡ record { ok = true; height = side_in height_name 0 lines; width = side_in width_name 0 lines; body = length (header_text lines) }
+    ≡ Some (record { height = side_in height_name 0 lines; width = side_in width_name 0 lines; body = length (header_text lines) })
 unfolding header_by are_lines_ok is_text starts_at
 header_is lines more o =
     rw (
@@ -235,7 +221,7 @@ header_is lines more o =
     )
 
 pub header-accepted : (w h : List ℕ) (lines : List (List ℕ)) (rest : List ℕ) → Lines w h lines
-    → header_of (header_text lines ++ rest) ≡ said_by w h lines
+    → header_of (header_text lines ++ rest) ≡ Some (said_by w h lines)
 unfolding header_of header_text all_plain is_plain said_by
 header-accepted w h lines rest m =
     let text = header_text lines in
@@ -259,7 +245,7 @@ header-accepted w h lines rest m =
 
 -- ---- an input that is accepted starts with a header
 
-header-lines : (input : List ℕ) → (header_of input).ok ≡ true → are_lines_ok (lines_of (take most_header input)) ≡ true
+header-lines : (input : List ℕ) → IsSome (header_of input) → are_lines_ok (lines_of (take most_header input)) ≡ true
 unfolding header_of header_by
 header-lines input o =
     let lines = lines_of (take most_header input) in
@@ -268,7 +254,7 @@ header-lines input o =
     (λ (t : are_lines_ok lines ≡ false). let z : false ≡ true = rw t at o in not-both false z refl)
     (either (are_lines_ok lines))
 
-pub header-means : (input : List ℕ) → (header_of input).ok ≡ true → HasHeader input
+pub header-means : (input : List ℕ) → IsSome (header_of input) → HasHeader input
 unfolding header_text all_plain
 header-means input o =
     let front = take most_header input in

@@ -1,6 +1,7 @@
 mod Comparing
 mod Lines
 mod Numbers
+mod Sides
 pub mod Sizes
 pub mod HeaderLaws
 pub mod EarlierLaws

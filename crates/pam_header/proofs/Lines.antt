@@ -1,7 +1,7 @@
 -- The lines of a text one after the other, and the header that they give.
 -- Assumes nothing.
 use mathlib.Core.Path.{◌≡◌, refl, sym, ap, ◌∙◌}
-use mathlib.Core.Bool.{Bool, true, false, cond, ◌&&◌}
+use mathlib.Core.Bool.{Bool, true, false, cond, not, ◌&&◌, ◌||◌}
 use mathlib.Core.List.{List, [], ◌∷◌, ◌++◌}
 use mathlib.Core.Logic.{⊎_elim}
 use Prim.Native.Nat.{ℕ, suc, ◌+◌, ◌-◌, ◌≤◌, ◌<◌}
@@ -9,22 +9,34 @@ use native.Mathlib.Nat.{zero-add}
 use native.Mathlib.Numerals.{add-one}
 use native.Mathlib.Omega.{arith}
 use lib.Dec.{eqb, leb}
-use lib.ListN.{length, get_or, take, drop, drop_of_length-le, length-drop}
-use lib.Seq.{drop-cons, drop-drop, length-take-le}
-use borrow.Author.Tests.{eq-eqb, ne_eqb, le-leb, eqb-true}
-use Rattle.plane.proofs.Search.{either, not-both}
+use lib.ListN.{length, get_or, take, drop, get_or-eq_default, length-drop, take-append-drop}
+use lib.Seq.{length-take-le, take_all}
+use borrow.Author.Tests.{le-leb, lt-ltb, le-ltb, eqb-true}
+use Rattle.std.proofs.Common.{Option, Some, None}
+use Rattle.std.specs.Option.{is_some, unwrap_or}
+use Rattle.std.specs.List.{position, position_or_len}
+use Rattle.std.specs.Cmp.Lexicographic.{pointwise}
+use Rattle.std.proofs.lemmas.Slice.Eq.{bytes_eq-Decides}
+use Rattle.plane.proofs.Search.{which, either, not-both, and_no}
+use Rattle.plane.proofs.Refusal.{and-true}
+use Rattle.text.specs.Decimal.{value_of}
 use Rattle.pam_header.specs.declared.Header.{Header}
 use Rattle.pam_header.specs.declared.Fields.{Fields}
-use Rattle.pam_header.specs.Header.{in_front, lines_of, count_of, starts_at, is_text, is_side, is_other}
+use Rattle.pam_header.specs.Header.{in_front, lines_of, count_of, starts_at, is_text, is_numeral, is_side, is_skipped, is_other}
 use Rattle.pam_header.specs.Header.{first_text, width_name, height_name, depth_text, maxval_text, tupltype_text, end_text}
-use Rattle.pam_header.specs.Header.{field_lines, fields_ok, side_in, bytes_of, are_lines_ok, declined, header_by}
-use Rattle.pam_header.specs.steps.Reading.{line_long, no_fields, with_line, Few, seen_ok, header_from, read_from}
+use Rattle.pam_header.specs.Header.{field_lines, fields_ok, side_from, side_in, bytes_of, are_lines_ok, header_by}
+use Rattle.pam_header.specs.steps.Reading.{is_newline, with_line, header_from}
 use Rattle.pam_header.specs.HeaderText.{text_of}
-use Rattle.pam_header.proofs.Comparing.{no_zero, starts_is, starts-split, text-long, text-is}
+use Rattle.pam_header.proofs.Comparing.{text-long, text-is}
 
 -- ---- the first line of a text
 
-pub long-most : (text : List ℕ) → line_long text ≤ length text
+-- how many bytes stand before the first newline, or before the end
+unfoldable line_long : List ℕ → ℕ
+line_long [] = 0
+line_long (b ∷ text) = cond (eqb b 10) 0 (suc (line_long text))
+
+long-most : (text : List ℕ) → line_long text ≤ length text
 unfolding line_long
 long-most [] = omega arith
 long-most (b ∷ text) = most (eqb b 10) (long-most text)
@@ -33,22 +45,8 @@ long-most (b ∷ text) = most (eqb b 10) (long-most text)
     most true l = omega arith
     most false l = omega arith
 
--- from a place on: past the end, at a newline, at any other byte
-module _ (text : List ℕ) (i : ℕ) where
-  pub long-past : length text ≤ i → line_long (drop i text) ≡ 0
-  unfolding line_long
-  long-past l = ap line_long (drop_of_length-le text l)
-
-  pub long-here : i < length text → get_or text i 0 ≡ 10 → line_long (drop i text) ≡ 0
-  unfolding line_long
-  long-here l e = rw (drop-cons text i 0 l, eq-eqb (get_or text i 0) 10 e)
-
-  pub long-more : i < length text → (get_or text i 0 ≡ 10 → ⊥) → line_long (drop i text) ≡ suc (line_long (drop (i + 1) text))
-  unfolding line_long
-  long-more l e = rw (drop-cons text i 0 l, ne_eqb (get_or text i 0) 10 e, add-one i)
-
 -- bytes without a newline are no line
-pub lines_none : (text : List ℕ) → line_long text ≡ length text → lines_of text ≡ []
+lines_none : (text : List ℕ) → line_long text ≡ length text → lines_of text ≡ []
 unfolding line_long lines_of in_front
 lines_none [] e = refl
 lines_none (b ∷ text) e =
@@ -60,7 +58,7 @@ lines_none (b ∷ text) e =
     (either (eqb b 10))
 
 -- else the bytes before the newline are the first line, and those after it give the others
-pub lines-some : (text : List ℕ) → line_long text < length text
+lines-some : (text : List ℕ) → line_long text < length text
     → lines_of text ≡ take (line_long text) text ∷ lines_of (drop (suc (line_long text)) text)
 unfolding line_long lines_of in_front
 lines-some [] l = absurd (omega arith)
@@ -72,162 +70,399 @@ lines-some (b ∷ text) l =
     rw (t, lines-some text (omega arith)))
     (either (eqb b 10))
 
+-- ---- where the first line ends
+
+line_is : (text : List ℕ) → position_or_len is_newline text ≡ line_long text
+unfolding line_long
+line_is [] = refl
+line_is (b ∷ text) =
+    ⊎_elim {C = position_or_len is_newline (b ∷ text) ≡ line_long (b ∷ text)}
+    (λ (t : eqb b 10 ≡ true). rw t)
+    (λ (t : eqb b 10 ≡ false). rw (t, line_is text) (omega arith))
+    (either (eqb b 10))
+
+module _ (text : List ℕ) where
+  -- no newline: no line
+  pub read_none : position is_newline text ≡ None → lines_of text ≡ []
+  read_none e =
+      let n = position_or_len is_newline text in
+      ⊎_elim {C = lines_of text ≡ []}
+      (λ (l : n < length text). let z : ◌≡◌ {A = Option ℕ} (Some n) None = rw (lt-ltb n (length text) l) at e in cc)
+      (λ (l : length text ≤ n). lines_none text (omega (arith, line_is text, long-most text)))
+      (which n (length text))
+
+  -- a newline: the bytes before it are the first line
+  pub record Ends (end : ℕ) : Type 0 where
+    pub inside : end < length text
+    pub lines_are : lines_of text ≡ take end text ∷ lines_of (drop (end + 1) text)
+
+  pub read-some : (end : ℕ) → position is_newline text ≡ Some end → Ends end
+  read-some end e =
+      let n = position_or_len is_newline text in
+      ⊎_elim {C = Ends end}
+      (λ (l : n < length text).
+      let z : ◌≡◌ {A = Option ℕ} (Some n) (Some end) = rw (lt-ltb n (length text) l) at e in
+      let same : n ≡ end = cc in
+      let long : line_long text ≡ end = sym (line_is text) ∙ same in
+      record { inside = omega arith; lines_are = rw (← long) (lines-some text (omega (arith, long)) ∙ ap (λ (k : ℕ). take (line_long text) text ∷ lines_of (drop k text)) (sym (add-one (line_long text)))) })
+      (λ (l : length text ≤ n). let z : ◌≡◌ {A = Option ℕ} None (Some end) = rw (le-ltb n (length text) l) at e in cc)
+      (which n (length text))
+
+-- ---- what a line is
+
+module _ (line : List ℕ) (b : ℕ) (e : get_or line 0 0 ≡ b) where
+  -- a line with another first byte is no such line
+  no-side : (first : ℕ) (name : List ℕ) → eqb b first ≡ false → is_side (first ∷ name) line ≡ false
+  unfolding is_side starts_at
+  no-side first name n = rw (e, n)
+
+  no-text : (first : ℕ) (text : List ℕ) → eqb b first ≡ false → is_text (first ∷ text) line ≡ false
+  unfolding is_text starts_at
+  no-text first text n = rw (e, n)
+
+-- the first byte of a line that gives a side
+side-first : (first : ℕ) (name line : List ℕ) → is_side (first ∷ name) line ≡ true → get_or line 0 0 ≡ first
+unfolding is_side starts_at
+side-first first name line t =
+    let a = and-true _ (is_numeral (drop (length (first ∷ name)) line)) t in
+    eqb-true (get_or line 0 0) first (and-true (eqb (get_or line 0 0) first) (starts_at line 1 name) a.0).0
+
 -- ---- what lines give
 
--- after several lines
-after : Fields → List (List ℕ) → Fields
-after s [] = s
-after s (line ∷ lines) = after (with_line s line) lines
+-- with those of further lines each field stands on one line and on no second, and no line has no place
+unfoldable fits : Fields → List (List ℕ) → Bool
+fits s lines =
+    eqb (cond (is_some s.width) 1 0 + count_of (is_side width_name) lines) 1
+    && eqb (cond (is_some s.height) 1 0 + count_of (is_side height_name) lines) 1
+    && eqb (cond s.depth 1 0 + count_of (is_text depth_text) lines) 1
+    && eqb (cond s.maxval 1 0 + count_of (is_text maxval_text) lines) 1
+    && eqb (cond s.tupltype 1 0 + count_of (is_text tupltype_text) lines) 1
+    && eqb (count_of is_other lines) 0
 
-record Given (s : Fields) (lines : List (List ℕ)) : Type 0 where
-  widths_are : (after s lines).widths ≡ s.widths + count_of (is_side width_name) lines
-  heights_are : (after s lines).heights ≡ s.heights + count_of (is_side height_name) lines
-  depths_are : (after s lines).depths ≡ s.depths + count_of (is_text depth_text) lines
-  maxvals_are : (after s lines).maxvals ≡ s.maxvals + count_of (is_text maxval_text) lines
-  tupltypes_are : (after s lines).tupltypes ≡ s.tupltypes + count_of (is_text tupltype_text) lines
-  others_are : (after s lines).others ≡ s.others + count_of is_other lines
-  width_is : (after s lines).width ≡ side_in width_name s.width lines
-  height_is : (after s lines).height ≡ side_in height_name s.height lines
+-- what that says, sum by sum
+record Fits (s : Fields) (lines : List (List ℕ)) : Type 0 where
+  one_width : cond (is_some s.width) 1 0 + count_of (is_side width_name) lines ≡ 1
+  one_height : cond (is_some s.height) 1 0 + count_of (is_side height_name) lines ≡ 1
+  one_depth : cond s.depth 1 0 + count_of (is_text depth_text) lines ≡ 1
+  one_maxval : cond s.maxval 1 0 + count_of (is_text maxval_text) lines ≡ 1
+  one_tupltype : cond s.tupltype 1 0 + count_of (is_text tupltype_text) lines ≡ 1
+  no_other : count_of is_other lines ≡ 0
 
-given : (s : Fields) (lines : List (List ℕ)) → Given s lines
-unfolding after count_of side_in with_line
-given s [] =
-    record {
-      widths_are = omega arith;
-      heights_are = omega arith;
-      depths_are = omega arith;
-      maxvals_are = omega arith;
-      tupltypes_are = omega arith;
-      others_are = omega arith;
-      width_is = refl;
-      height_is = refl;
-    }
-given s (line ∷ lines) =
-    let g = given (with_line s line) lines in
-    record {
-      widths_are = omega (arith, g.widths_are);
-      heights_are = omega (arith, g.heights_are);
-      depths_are = omega (arith, g.depths_are);
-      maxvals_are = omega (arith, g.maxvals_are);
-      tupltypes_are = omega (arith, g.tupltypes_are);
-      others_are = omega (arith, g.others_are);
-      width_is = g.width_is;
-      height_is = g.height_is;
-    }
+not-fits : (s : Fields) (lines : List (List ℕ)) → (Fits s lines → ⊥) → fits s lines ≡ false
+unfolding fits
+not-fits s lines f =
+    let w = eqb (cond (is_some s.width) 1 0 + count_of (is_side width_name) lines) 1 in
+    let h = eqb (cond (is_some s.height) 1 0 + count_of (is_side height_name) lines) 1 in
+    let d = eqb (cond s.depth 1 0 + count_of (is_text depth_text) lines) 1 in
+    let m = eqb (cond s.maxval 1 0 + count_of (is_text maxval_text) lines) 1 in
+    let t = eqb (cond s.tupltype 1 0 + count_of (is_text tupltype_text) lines) 1 in
+    ⊎_elim {C = fits s lines ≡ false}
+    (λ (e : fits s lines ≡ true).
+    let o5 = and-true (w && h && d && m && t) (eqb (count_of is_other lines) 0) e in
+    let o4 = and-true (w && h && d && m) t o5.0 in
+    let o3 = and-true (w && h && d) m o4.0 in
+    let o2 = and-true (w && h) d o3.0 in
+    let o1 = and-true w h o2.0 in
+    absurd
+    (f
+    (record {
+      one_width = eqb-true _ _ o1.0;
+      one_height = eqb-true _ _ o1.1;
+      one_depth = eqb-true _ _ o2.1;
+      one_maxval = eqb-true _ _ o3.1;
+      one_tupltype = eqb-true _ _ o4.1;
+      no_other = eqb-true _ _ o5.1;
+    })))
+    (λ (e : fits s lines ≡ false). e)
+    (either (fits s lines))
 
--- no count grows by more than one
-pub few-more : (s : Fields) (line : List ℕ) (n : ℕ) → Few s n → Few (with_line s line) (n + 1)
-unfolding with_line
-few-more s line n f =
-    omega (
-      arith,
-      f,
-      one (is_side width_name line),
-      one (is_side height_name line),
-      one (is_text depth_text line),
-      one (is_text maxval_text line),
-      one (is_text tupltype_text line),
-      one (is_other line),
-    )
+-- what the tests say of a line
+record Tests (line : List ℕ) (w h d m t o : Bool) : Type 0 where
+  width_is : is_side width_name line ≡ w
+  height_is : is_side height_name line ≡ h
+  depth_is : is_text depth_text line ≡ d
+  maxval_is : is_text maxval_text line ≡ m
+  tupltype_is : is_text tupltype_text line ≡ t
+  other_is : is_other line ≡ o
+
+other-by : {s w h d m t : Bool} (line : List ℕ) → is_skipped line ≡ s → is_side width_name line ≡ w → is_side height_name line ≡ h
+    → is_text depth_text line ≡ d → is_text maxval_text line ≡ m → is_text tupltype_text line ≡ t
+    → is_other line ≡ not (s || w || h || d || m || t)
+unfolding is_other
+other-by line s0 w0 h0 d0 m0 t0 = rw (s0, w0, h0, d0, m0, t0)
+
+skipped-tests : (line : List ℕ) → is_skipped line ≡ true → Tests line false false false false false false
+unfolding is_skipped
+skipped-tests line e =
+    ⊎_elim {C = Tests line false false false false false false}
+    (λ (t : eqb (length line) 0 ≡ true). by 0 (get_or-eq_default line 0 (omega (arith, eqb-true (length line) 0 t))) refl refl refl refl refl)
+    (λ (t : eqb (length line) 0 ≡ false).
+    let first : eqb (get_or line 0 0) 35 ≡ true = rw t at e in by 35 (eqb-true (get_or line 0 0) 35 first) refl refl refl refl refl)
+    (either (eqb (length line) 0))
   where
-    one : (t : Bool) → cond t 1 0 ≤ 1
-    one true = omega arith
-    one false = omega arith
+    by : (b : ℕ) → get_or line 0 0 ≡ b → eqb b 87 ≡ false → eqb b 72 ≡ false → eqb b 68 ≡ false → eqb b 77 ≡ false → eqb b 84 ≡ false
+        → Tests line false false false false false false
+    by b f w0 h0 d0 m0 t0 =
+        let w = no-side line b f 87 _ w0 in
+        let h = no-side line b f 72 _ h0 in
+        let d = no-text line b f 68 _ d0 in
+        let m = no-text line b f 77 _ m0 in
+        let t = no-text line b f 84 _ t0 in
+        record { width_is = w; height_is = h; depth_is = d; maxval_is = m; tupltype_is = t; other_is = other-by line e w h d m t }
 
--- ---- a line that stands in a text from a place to its end
+width-tests : (line : List ℕ) → is_skipped line ≡ false → is_side width_name line ≡ true → Tests line true false false false false false
+width-tests line s e =
+    let b = side-first 87 _ line e in
+    let h = no-side line 87 b 72 _ refl in
+    let d = no-text line 87 b 68 _ refl in
+    let m = no-text line 87 b 77 _ refl in
+    let t = no-text line 87 b 84 _ refl in
+    record { width_is = e; height_is = h; depth_is = d; maxval_is = m; tupltype_is = t; other_is = other-by line s e h d m t }
 
-pub read_past : (text : List ℕ) (s : Fields) (at : ℕ) → length text ≤ at → declined ≡ read_from s at (lines_of (drop at text))
-unfolding read_from lines_of
-read_past text s at l = rw (drop_of_length-le text l)
+height-tests : (line : List ℕ) → is_skipped line ≡ false → is_side width_name line ≡ false → is_side height_name line ≡ true
+    → Tests line false true false false false false
+height-tests line s w e =
+    let b = side-first 72 _ line e in
+    let d = no-text line 72 b 68 _ refl in
+    let m = no-text line 72 b 77 _ refl in
+    let t = no-text line 72 b 84 _ refl in
+    record { width_is = w; height_is = e; depth_is = d; maxval_is = m; tupltype_is = t; other_is = other-by line s w e d m t }
 
-pub end-most : (text : List ℕ) (at : ℕ) → at ≤ length text → at + line_long (drop at text) ≤ length text
-end-most text at l = omega (arith, length-drop at text, long-most (drop at text))
+-- a line that is one of the other texts
+text-tests : {w h d m t o : Bool} (line text : List ℕ) → Tests text w h d m t o → is_text text line ≡ true → Tests line w h d m t o
+text-tests {w} {h} {d} {m} {t} {o} line text k e = rw (text-is text line e) k
 
-module _ (text : List ℕ) (s : Fields) (at end : ℕ) (e : end ≡ at + line_long (drop at text)) (inside : at ≤ length text) where
-  long-drop : length (drop at text) ≡ length text - at
-  long-drop = length-drop at text
+depth-tests : Tests depth_text false false true false false false
+unfolding is_side is_text starts_at is_other is_skipped
+depth-tests = record { width_is = refl; height_is = refl; depth_is = refl; maxval_is = refl; tupltype_is = refl; other_is = refl }
 
-  -- bytes that no newline ends give no header
-  pub read_none : length text ≤ end → declined ≡ read_from s at (lines_of (drop at text))
-  unfolding read_from
-  read_none l = rw (lines_none (drop at text) (omega (arith, e, long-drop, long-most (drop at text))))
+maxval-tests : Tests maxval_text false false false true false false
+unfolding is_side is_text starts_at is_other is_skipped
+maxval-tests = record { width_is = refl; height_is = refl; depth_is = refl; maxval_is = refl; tupltype_is = refl; other_is = refl }
 
-  line : List ℕ
-  line = take (end - at) (drop at text)
+tupltype-tests : Tests tupltype_text false false false false true false
+unfolding is_side is_text starts_at is_other is_skipped
+tupltype-tests = record { width_is = refl; height_is = refl; depth_is = refl; maxval_is = refl; tupltype_is = refl; other_is = refl }
 
-  read-line : end < length text
-      → read_from s at (lines_of (drop at text))
-      ≡ cond (is_text end_text line) (header_from s (end + 1)) (read_from (with_line s line) (end + 1) (lines_of (drop (end + 1) text)))
-  unfolding read_from line
-  read-line l =
-      let n = line_long (drop at text) in
-      let more : n < length (drop at text) = omega (arith, e, long-drop) in
-      let k : n ≡ end - at = omega (arith, e) in
-      let next : at + length (take n (drop at text)) + 1 ≡ end + 1 = omega (arith, e, length-take-le n (drop at text) (omega arith)) in
-      let place : at + suc n ≡ end + 1 = omega (arith, e) in
-      let past : drop (suc n) (drop at text) ≡ drop (end + 1) text = drop-drop (suc n) at text ∙ ap (λ (m : ℕ). drop m text) place in
-      rw (lines-some (drop at text) more, past, next, k)
+-- ---- one more line
 
-  -- the line ENDHDR, and any other
-  pub read-end : end < length text → is_text end_text (take (end - at) (drop at text)) ≡ true
-      → header_from s (end + 1) ≡ read_from s at (lines_of (drop at text))
-  unfolding line
-  read-end l t = sym (read-line l ∙ rw t)
+-- what is asked of further lines with it is what is asked of them after it, and the sides are those after it
+record Same (s : Fields) (line : List ℕ) (s' : Fields) : Type 0 where
+  fits_same : (lines : List (List ℕ)) → fits s (line ∷ lines) ≡ fits s' lines
+  height_same : side_from height_name (unwrap_or s.height 0) line ≡ unwrap_or s'.height 0
+  width_same : side_from width_name (unwrap_or s.width 0) line ≡ unwrap_or s'.width 0
 
-  pub read_next : end < length text → is_text end_text (take (end - at) (drop at text)) ≡ false
-      → read_from (with_line s (take (end - at) (drop at text))) (end + 1) (lines_of (drop (end + 1) text))
-      ≡ read_from s at (lines_of (drop at text))
-  unfolding line
-  read_next l t = sym (read-line l ∙ rw t)
+abbrev Step : Fields → List ℕ → Option Fields → Type 0
+Step s line None = (lines : List (List ℕ)) → fits s (line ∷ lines) ≡ false
+Step s line (Some s') = Same s line s'
+
+-- a field that was seen already makes two
+twice : (s t : Bool) (n : ℕ) → s ≡ true → t ≡ true → cond s 1 0 + (cond t 1 0 + n) ≡ 1 → ⊥
+twice s t n e f g = let z : 1 + (1 + n) ≡ 1 = rw (e, f) at g in omega arith
+
+module _ (s : Fields) (line : List ℕ) where
+  -- a line that is skipped changes nothing
+  step-skipped : Tests line false false false false false false → Same s line s
+  unfolding fits count_of side_from
+  step-skipped k = record {
+    fits_same = λ lines. rw (k.width_is, k.height_is, k.depth_is, k.maxval_is, k.tupltype_is, k.other_is) (simp zero-add);
+    height_same = rw k.height_is;
+    width_same = rw k.width_is;
+  }
+
+  -- a field stands already, or it is the one that changes
+  unless : (t : Bool) (s' : Fields) → (t ≡ true → Step s line None) → (t ≡ false → Same s line s') → Step s line (cond t None (Some s'))
+  unless true s' f g = f refl
+  unless false s' f g = g refl
+
+  step-width : Tests line true false false false false false → Step s line (cond (is_some s.width) None (Some (record s { width = Some (value_of (drop (length width_name) line)) })))
+  unfolding fits count_of side_from
+  step-width k =
+      unless (is_some s.width) (record s { width = Some (value_of (drop (length width_name) line)) })
+      (λ e lines. not-fits s (line ∷ lines) (λ f. twice _ _ _ e k.width_is f.one_width))
+      (λ e. record {
+        fits_same = λ lines. rw (e, k.width_is, k.height_is, k.depth_is, k.maxval_is, k.tupltype_is, k.other_is) (simp zero-add);
+        height_same = rw k.height_is;
+        width_same = rw k.width_is;
+      })
+
+  step-height : Tests line false true false false false false → Step s line (cond (is_some s.height) None (Some (record s { height = Some (value_of (drop (length height_name) line)) })))
+  unfolding fits count_of side_from
+  step-height k =
+      unless (is_some s.height) (record s { height = Some (value_of (drop (length height_name) line)) })
+      (λ e lines. not-fits s (line ∷ lines) (λ f. twice _ _ _ e k.height_is f.one_height))
+      (λ e. record {
+        fits_same = λ lines. rw (e, k.width_is, k.height_is, k.depth_is, k.maxval_is, k.tupltype_is, k.other_is) (simp zero-add);
+        height_same = rw k.height_is;
+        width_same = rw k.width_is;
+      })
+
+  step-depth : Tests line false false true false false false → Step s line (cond s.depth None (Some (record s { depth = true })))
+  unfolding fits count_of side_from
+  step-depth k =
+      unless s.depth (record s { depth = true })
+      (λ e lines. not-fits s (line ∷ lines) (λ f. twice _ _ _ e k.depth_is f.one_depth))
+      (λ e. record {
+        fits_same = λ lines. rw (e, k.width_is, k.height_is, k.depth_is, k.maxval_is, k.tupltype_is, k.other_is) (simp zero-add);
+        height_same = rw k.height_is;
+        width_same = rw k.width_is;
+      })
+
+  step-maxval : Tests line false false false true false false → Step s line (cond s.maxval None (Some (record s { maxval = true })))
+  unfolding fits count_of side_from
+  step-maxval k =
+      unless s.maxval (record s { maxval = true })
+      (λ e lines. not-fits s (line ∷ lines) (λ f. twice _ _ _ e k.maxval_is f.one_maxval))
+      (λ e. record {
+        fits_same = λ lines. rw (e, k.width_is, k.height_is, k.depth_is, k.maxval_is, k.tupltype_is, k.other_is) (simp zero-add);
+        height_same = rw k.height_is;
+        width_same = rw k.width_is;
+      })
+
+  step-tupltype : Tests line false false false false true false → Step s line (cond s.tupltype None (Some (record s { tupltype = true })))
+  unfolding fits count_of side_from
+  step-tupltype k =
+      unless s.tupltype (record s { tupltype = true })
+      (λ e lines. not-fits s (line ∷ lines) (λ f. twice _ _ _ e k.tupltype_is f.one_tupltype))
+      (λ e. record {
+        fits_same = λ lines. rw (e, k.width_is, k.height_is, k.depth_is, k.maxval_is, k.tupltype_is, k.other_is) (simp zero-add);
+        height_same = rw k.height_is;
+        width_same = rw k.width_is;
+      })
+
+  -- a line that has no place
+  step-other : is_other line ≡ true → (lines : List (List ℕ)) → fits s (line ∷ lines) ≡ false
+  unfolding count_of
+  step-other e lines =
+      not-fits s (line ∷ lines)
+      (λ f. let z : 1 + count_of is_other lines ≡ 0 = rw e at f.no_other in omega arith)
+
+  step : Step s line (with_line s line)
+  step =
+      by (is_skipped line) (is_side width_name line) (is_side height_name line) (is_text depth_text line) (is_text maxval_text line)
+      (is_text tupltype_text line) refl refl refl refl refl refl
+    where
+      by : (k w h d m t : Bool) → is_skipped line ≡ k → is_side width_name line ≡ w → is_side height_name line ≡ h
+          → is_text depth_text line ≡ d → is_text maxval_text line ≡ m → is_text tupltype_text line ≡ t
+          → Step s line (with_line s line)
+      by true w h d m t k0 w0 h0 d0 m0 t0 = rw k0 (step-skipped (skipped-tests line k0))
+      by false true h d m t k0 w0 h0 d0 m0 t0 = rw (k0, w0) (step-width (width-tests line k0 w0))
+      by false false true d m t k0 w0 h0 d0 m0 t0 = rw (k0, w0, h0) (step-height (height-tests line k0 w0 h0))
+      by false false false true m t k0 w0 h0 d0 m0 t0 = rw (k0, w0, h0, d0) (step-depth (text-tests line depth_text depth-tests d0))
+      by false false false false true t k0 w0 h0 d0 m0 t0 =
+          rw (k0, w0, h0, d0, m0) (step-maxval (text-tests line maxval_text maxval-tests m0))
+      by false false false false false true k0 w0 h0 d0 m0 t0 =
+          rw (k0, w0, h0, d0, m0, t0) (step-tupltype (text-tests line tupltype_text tupltype-tests t0))
+      by false false false false false false k0 w0 h0 d0 m0 t0 =
+          rw (k0, w0, h0, d0, m0, t0) (step-other (other-by line k0 w0 h0 d0 m0 t0))
 
 -- ---- the header that they give
 
-made : Bool → Fields → ℕ → Header
-made t s at = cond t (record { ok = true; height = s.height; width = s.width; body = at }) declined
+-- before the first line
+abbrev pub no_fields : Fields
+no_fields = record { width = None; height = None; depth = false; maxval = false; tupltype = false }
 
--- those up to ENDHDR count, and the pixels stand after it
-read_is : (s : Fields) (at : ℕ) (lines : List (List ℕ)) → let g = after s (field_lines lines) in
-    read_from s at lines ≡ made (leb 1 (count_of (is_text end_text) lines) && seen_ok g) g (at + bytes_of (field_lines lines) + 7)
-unfolding made read_from count_of field_lines bytes_of after header_from
+-- the header whose further lines are these, the first of them at a place
+unfoldable pub read_from : Option Fields → ℕ → List (List ℕ) → Option Header
+read_from None at lines = None
+read_from (Some s) at [] = None
+read_from (Some s) at (line ∷ lines) =
+    let next = at + length line + 1 in cond (is_text end_text line) (header_from s next) (read_from (with_line s line) next lines)
+
+made : Bool → ℕ → ℕ → ℕ → Option Header
+made t h w at = cond t (Some (record { height = h; width = w; body = at })) None
+
+-- where no further line is asked for
+header-fits : (s : Fields) (at : ℕ) → header_from s at ≡ made (fits s []) (unwrap_or s.height 0) (unwrap_or s.width 0) at
+unfolding made fits count_of
+header-fits s at = by s.width s.height s.depth s.maxval s.tupltype
+  where
+    by : (w h : Option ℕ) (d m t : Bool) → let s : Fields = record { width = w; height = h; depth = d; maxval = m; tupltype = t } in
+        header_from s at ≡ made (fits s []) (unwrap_or h 0) (unwrap_or w 0) at
+    by None None d m t = refl
+    by None (Some h) d m t = refl
+    by (Some w) None d m t = refl
+    by (Some w) (Some h) false m t = refl
+    by (Some w) (Some h) true false t = refl
+    by (Some w) (Some h) true true false = refl
+    by (Some w) (Some h) true true true = refl
+
+-- the lines up to ENDHDR count, and the pixels stand after it
+abbrev Reads : Fields → ℕ → List (List ℕ) → Type 0
+Reads s at lines =
+    let f = field_lines lines in
+    read_from (Some s) at lines
+    ≡ made (leb 1 (count_of (is_text end_text) lines) && fits s f) (side_in height_name (unwrap_or s.height 0) f)
+    (side_in width_name (unwrap_or s.width 0) f) (at + bytes_of f + 7)
+
+-- after a line that is not ENDHDR
+further : (s : Fields) (at : ℕ) (line : List ℕ) (lines : List (List ℕ)) → ((s' : Fields) → Reads s' (at + length line + 1) lines)
+    → (o : Option Fields) → Step s line o → let f = field_lines lines in
+    read_from o (at + length line + 1) lines
+    ≡ made (leb 1 (count_of (is_text end_text) lines) && fits s (line ∷ f))
+    (side_in height_name (side_from height_name (unwrap_or s.height 0) line) f)
+    (side_in width_name (side_from width_name (unwrap_or s.width 0) line) f) (at + (length line + 1 + bytes_of f) + 7)
+unfolding made read_from
+further s at line lines ih None k = rw (k (field_lines lines), and_no (leb 1 (count_of (is_text end_text) lines)))
+further s at line lines ih (Some s') k =
+    let f = field_lines lines in
+    let n : at + (length line + 1 + bytes_of f) + 7 ≡ at + length line + 1 + bytes_of f + 7 = omega arith in
+    rw (k.fits_same f, k.height_same, k.width_same, n) (ih s')
+
+read_is : (s : Fields) (at : ℕ) (lines : List (List ℕ)) → Reads s at lines
+unfolding made read_from count_of field_lines bytes_of side_in
 read_is s at [] = refl
 read_is s at (line ∷ lines) =
-    let all = line ∷ lines in
-    let g = after s (field_lines all) in
-    ⊎_elim
-    {C = read_from s at all ≡ made (leb 1 (count_of (is_text end_text) all) && seen_ok g) g (at + bytes_of (field_lines all) + 7)}
+    ⊎_elim {C = Reads s at (line ∷ lines)}
     (λ (t : is_text end_text line ≡ true).
     let n : at + length line + 1 ≡ at + 0 + 7 = omega (arith, text-long end_text line t) in
-    rw (t, le-leb 1 (1 + count_of (is_text end_text) lines) (omega arith), n))
+    rw (t, le-leb 1 (1 + count_of (is_text end_text) lines) (omega arith), n) (header-fits s (at + 0 + 7)))
     (λ (t : is_text end_text line ≡ false).
-    let next = at + length line + 1 in
-    let n : next + bytes_of (field_lines lines) + 7 ≡ at + (length line + 1 + bytes_of (field_lines lines)) + 7 = omega arith in
-    rw (t, read_is (with_line s line) next lines, n, zero-add (count_of (is_text end_text) lines)))
+    rw (t, zero-add (count_of (is_text end_text) lines))
+    (further s at line lines (λ s'. read_is s' (at + length line + 1) lines) (with_line s line) (step s line)))
     (either (is_text end_text line))
 
 -- lines of which the first is P7 give the header of the definition
-header_read : (first : List ℕ) (rest : List (List ℕ)) → is_text first_text first ≡ true
-    → read_from no_fields 3 rest ≡ header_by (first ∷ rest)
-unfolding made header_by are_lines_ok fields_ok seen_ok bytes_of
-header_read first rest e =
-    let g = given no_fields (field_lines rest) in
-    read_is no_fields 3 rest
-    ∙ rw (
-      e,
-      g.widths_are,
-      g.heights_are,
-      g.depths_are,
-      g.maxvals_are,
-      g.tupltypes_are,
-      g.others_are,
-      g.width_is,
-      g.height_is,
-    )
-    (simp zero-add)
+header_read : (rest : List (List ℕ)) → read_from (Some no_fields) 3 rest ≡ header_by (first_text ∷ rest)
+unfolding made header_by are_lines_ok fields_ok fits bytes_of is_text starts_at
+header_read rest = read_is no_fields 3 rest ∙ simp zero-add
 
--- others do not
-pub header-not : (lines : List (List ℕ)) → is_text first_text (get_or lines 0 []) ≡ false → declined ≡ header_by lines
-unfolding header_by are_lines_ok
-header-not lines e = rw e
+-- ---- a line of a text whose front is read
+
+module _ (front rest : List ℕ) (s : Fields) where
+  -- where it has no newline
+  pub read-nothing : position is_newline rest ≡ None → (at : ℕ) → None ≡ read_from (Some s) at (lines_of rest)
+  unfolding read_from
+  read-nothing e at = rw (read_none rest e)
+
+  -- else the line is the bytes before the first, and more stands after it
+  pub record Read (line more : List ℕ) : Type 0 where
+    pub shorter : length more < length rest
+    pub read_same : read_from (Some s) (length front - length rest) (lines_of rest)
+        ≡ cond (is_text end_text line) (header_from s (length front - length more))
+        (read_from (with_line s line) (length front - length more) (lines_of more))
+
+  pub read-line : (end : ℕ) → position is_newline rest ≡ Some end → length rest ≤ length front
+      → Read (take end rest) (take (length rest - (end + 1)) (drop (end + 1) rest))
+  unfolding read_from
+  read-line end e l =
+      let ends = read-some rest end e in
+      let inside = ends.inside in
+      let less : length (drop (end + 1) rest) ≡ length rest - (end + 1) = length-drop (end + 1) rest in
+      let all = take_all (length rest - (end + 1)) (drop (end + 1) rest) (omega arith) in
+      let long : length (take end rest) ≡ end = length-take-le end rest (omega arith) in
+      let next : length front - length rest + length (take end rest) + 1 ≡ length front - length (drop (end + 1) rest) = omega arith in
+      rw all (record { shorter = omega arith; read_same = rw (ends.lines_are, next) })
+
+  -- the line ENDHDR, and any other
+  pub read-end : (line more : List ℕ) → Read line more → is_text end_text line ≡ true
+      → header_from s (length front - length more) ≡ read_from (Some s) (length front - length rest) (lines_of rest)
+  read-end line more r t = sym (r.read_same ∙ rw t)
+
+  pub read_on : (line more : List ℕ) (o : Option Fields) → Read line more → is_text end_text line ≡ false → with_line s line ≡ o
+      → read_from o (length front - length more) (lines_of more) ≡ read_from (Some s) (length front - length rest) (lines_of rest)
+  read_on line more o r t e =
+      sym (r.read_same ∙ rw t (ap (λ (q : Option Fields). read_from q (length front - length more) (lines_of more)) e))
 
 -- ---- from the first bytes to the header
 
@@ -256,40 +491,26 @@ first-line (line ∷ lines) e = ap (λ (x : List ℕ). x ∷ lines) (text-is fir
 abbrev p7 : List ℕ
 p7 = 80 ∷ 55 ∷ 10 ∷ []
 
-first_is : (front : List ℕ) → starts_at front 0 p7 ≡ true → lines_of front ≡ first_text ∷ lines_of (drop 3 front)
-unfolding no_zero lines_of in_front
-first_is front e = ap lines_of (starts-split front p7 0 refl e)
+module _ (front : List ℕ) where
+  pub first_is : pointwise eqb (take 3 front) p7 ≡ true
+      → read_from (Some no_fields) 3 (lines_of (drop 3 front)) ≡ header_by (lines_of front)
+  unfolding lines_of in_front
+  first_is e =
+      let begins = (bytes_eq-Decides (take 3 front) p7).0 e in
+      let whole : front ≡ p7 ++ drop 3 front = sym (take-append-drop 3 front) ∙ ap (λ (l : List ℕ). l ++ drop 3 front) begins in
+      let lines : lines_of front ≡ first_text ∷ lines_of (drop 3 front) = ap lines_of whole in
+      header_read (lines_of (drop 3 front)) ∙ ap header_by (sym lines)
 
-first-not : (front : List ℕ) → starts_at front 0 p7 ≡ false → is_text first_text (get_or (lines_of front) 0 []) ≡ false
-unfolding text_of
-first-not front e =
-    let lines = lines_of front in
-    let last = lines-text front in
-    ⊎_elim {C = is_text first_text (get_or lines 0 []) ≡ false}
-    (λ (t : is_text first_text (get_or lines 0 []) ≡ true).
-    let split : front ≡ p7 ++ (text_of (drop 1 lines) ++ last.0) =
-    last.1 ∙ ap (λ (ls : List (List ℕ)). text_of ls ++ last.0) (first-line lines t) in
-    not-both (starts_at front 0 p7) (starts_is front p7 _ 0 split) e)
-    (λ (t : is_text first_text (get_or lines 0 []) ≡ false). t)
-    (either (is_text first_text (get_or lines 0 [])))
-
-begins : (front : List ℕ) → starts_at front 0 p7 ≡ is_text first_text (get_or (lines_of front) 0 [])
-unfolding is_text starts_at
-begins front =
-    ⊎_elim {C = starts_at front 0 p7 ≡ is_text first_text (get_or (lines_of front) 0 [])}
-    (λ (t : starts_at front 0 p7 ≡ true).
-    t ∙ sym (ap (λ (ls : List (List ℕ)). is_text first_text (get_or ls 0 [])) (first_is front t)))
-    (λ (t : starts_at front 0 p7 ≡ false). t ∙ sym (first-not front t))
-    (either (starts_at front 0 p7))
-
-pub first_found : (r : Bool) (front : List ℕ) → r ≡ starts_at front 0 p7 → r ≡ is_text first_text (get_or (lines_of front) 0 [])
-first_found r front e = e ∙ begins front
-
-module _ (front : List ℕ) (e : is_text first_text (get_or (lines_of front) 0 []) ≡ true) where
-  pub first-long : 3 ≤ length front
-  unfolding no_zero
-  first-long = omega (arith, ap length (starts-split front p7 0 refl (begins front ∙ e)))
-
-  pub header_is : read_from no_fields 3 (lines_of (drop 3 front)) ≡ header_by (lines_of front)
-  unfolding is_text starts_at
-  header_is = header_read first_text (lines_of (drop 3 front)) refl ∙ ap header_by (sym (first_is front (begins front ∙ e)))
+  pub first-not : pointwise eqb (take 3 front) p7 ≡ false → header_by (lines_of front) ≡ None
+  unfolding text_of header_by are_lines_ok
+  first-not e =
+      let lines = lines_of front in
+      let last = lines-text front in
+      ⊎_elim {C = header_by lines ≡ None}
+      (λ (t : is_text first_text (get_or lines 0 []) ≡ true).
+      let split : front ≡ p7 ++ (text_of (drop 1 lines) ++ last.0) =
+      last.1 ∙ ap (λ (ls : List (List ℕ)). text_of ls ++ last.0) (first-line lines t) in
+      let begins : take 3 front ≡ p7 = ap (take 3) split in
+      not-both _ ((bytes_eq-Decides (take 3 front) p7).1 begins) e)
+      (λ (t : is_text first_text (get_or lines 0 []) ≡ false). rw t)
+      (either (is_text first_text (get_or lines 0 [])))

@@ -10,11 +10,13 @@ use native.Mathlib.Omega.{arith}
 use lib.Dec.{eqb, leb}
 use lib.ListN.{length, get_or, take, drop}
 use lib.Seq.{take-length}
-use borrow.Author.Tests.{eq-eqb, le-leb, leb-true, eqb-true, eqb-false, not-true}
-use Rattle.plane.proofs.Search.{either, and_is}
+use borrow.Author.Tests.{ne_eqb, le-leb, leb-true, eqb-true, eqb-false, not-true}
+use Rattle.std.specs.Char.{is_ascii_digit}
+use Rattle.std.specs.List.{list_all}
+use Rattle.plane.proofs.Search.{either}
 use Rattle.plane.proofs.Refusal.{and-true}
 use Rattle.text.specs.Decimal.{is_digit, all_digits, value_from, value_of, digits_upto, number_upto}
-use Rattle.text.proofs.Decimal.{digit-is, digits-most, value-below, stand}
+use Rattle.text.proofs.Decimal.{digit-is, value-below}
 use Rattle.pam_header.specs.Header.{most_digits, is_numeral}
 use Rattle.pam_header.proofs.Comparing.{byte-first, byte-is, drop-one}
 
@@ -38,10 +40,9 @@ zero-ends : is_digit 0 ≡ false
 unfolding is_digit
 zero-ends = refl
 
--- digits up to the end of a text are counted
-digits_last : (input : List ℕ) (at : ℕ) → all_digits (drop at input) ≡ true → length (drop at input) ≤ most_digits
-    → digits_upto most_digits input at ≡ length (drop at input)
-digits_last input at d l = digits_are input most_digits (drop at input) [] at (sym (append-nil (drop at input))) d l zero-ends
+-- in a text of digits all are counted
+digits_last : (l : List ℕ) → all_digits l ≡ true → length l ≤ most_digits → digits_upto most_digits l 0 ≡ length l
+digits_last l d few = digits_are l most_digits l [] 0 (sym (append-nil l)) d few zero-ends
 
 -- ---- a number
 
@@ -64,30 +65,23 @@ numeral l e =
       first = eqb-false (get_or l 0 0) 48 (not-true (eqb (get_or l 0 0) 48) a.1);
     }
 
--- all bytes are counted where they are at most five digits
-pub digits-all : (l : List ℕ) → eqb (digits_upto most_digits l 0) (length l) ≡ all_digits l && leb (length l) most_digits
-digits-all l =
-    let n = digits_upto most_digits l 0 in
-    same (eqb n (length l)) (all_digits l && leb (length l) most_digits)
-    (λ e.
-    let z = eqb-true n (length l) e in
-    let all : all_digits l ≡ true = ap all_digits (sym (take-length l) ∙ ap (λ (k : ℕ). take k l) (sym z)) ∙ (stand l most_digits 0).all in
-    and_is _ _ all (le-leb (length l) most_digits (omega (arith, z, digits-most l most_digits 0))))
-    (λ e.
-    let a = and-true (all_digits l) (leb (length l) most_digits) e in
-    eq-eqb n (length l) (digits_last l 0 a.0 (leb-true (length l) most_digits a.1)))
-  where
-    same : (s t : Bool) → (s ≡ true → t ≡ true) → (t ≡ true → s ≡ true) → s ≡ t
-    same true t f g = sym (f refl)
-    same false true f g = g refl
-    same false false f g = refl
+-- the test of each byte is that of all
+pub all_each : (l : List ℕ) → list_all is_ascii_digit l ≡ all_digits l
+unfolding all_digits is_digit
+all_each [] = refl
+all_each (b ∷ l) = ap (λ (t : Bool). is_digit b && t) (all_each l)
 
--- a number that a line ends with is read whole
-pub number-last : (line : List ℕ) (at : ℕ) → is_numeral (drop at line) ≡ true → number_upto most_digits line at ≡ value_of (drop at line)
+-- a text is not empty where it has at least one byte
+pub some-long : (n : ℕ) → not (eqb n 0) ≡ leb 1 n
+some-long zero = refl
+some-long (suc n) = rw (ne_eqb (suc n) 0 (λ e. omega (arith, e)), le-leb 1 (suc n) (omega arith))
+
+-- a number is read whole
+pub number-all : (l : List ℕ) → is_numeral l ≡ true → number_upto most_digits l 0 ≡ value_of l
 unfolding number_upto
-number-last line at e =
-    let m = numeral (drop at line) e in
-    ap value_of (ap (λ (k : ℕ). take k (drop at line)) (digits_last line at m.digits m.few) ∙ take-length (drop at line))
+number-all l e =
+    let m = numeral l e in
+    ap value_of (ap (λ (k : ℕ). take k l) (digits_last l m.digits m.few) ∙ take-length l)
 
 -- a value does not fall with more digits
 value_grows : (v : ℕ) (l : List ℕ) → v ≤ value_from v l

@@ -10,24 +10,21 @@ use lib.Dec.{eqb, leb}
 use lib.ListN.{length, get_or, take, drop, length-take}
 use lib.Seq.{take-take}
 use borrow.Author.Tests.{leb-true, eqb-true}
+use Rattle.std.proofs.Common.{Option, Some, None}
 use Rattle.plane.proofs.Search.{either, not-both}
 use Rattle.plane.proofs.Refusal.{and-true}
 use Rattle.text.specs.Decimal.{value_of}
 use Rattle.pam_header.specs.declared.Header.{Header}
-use Rattle.pam_header.specs.Header.{in_front, lines_of, count_of, starts_at, is_text, is_numeral, is_side, is_other}
+use Rattle.pam_header.specs.Header.{in_front, lines_of, count_of, starts_at, is_text, is_side, is_other}
 use Rattle.pam_header.specs.Header.{first_text, width_name, height_name, depth_text, maxval_text, tupltype_text, end_text}
 use Rattle.pam_header.specs.Header.{field_lines, fields_ok, side_from, side_in, bytes_of, are_lines_ok, most_header, header_by, header_of}
 use Rattle.pam_header.proofs.Comparing.{text-long}
+use Rattle.pam_header.proofs.Sides.{side-number}
 use Rattle.pam_header.proofs.Numbers.{numeral, value-some, value-most}
 
 -- ---- the sides
 
 module _ (name : List ℕ) where
-  -- the number of a line that gives a side
-  side-number : (line : List ℕ) → is_side name line ≡ true → is_numeral (drop (length name) line) ≡ true
-  unfolding is_side
-  side-number line t = (and-true (starts_at line 0 name) (is_numeral (drop (length name) line)) t).1
-
   -- a side that some line gives is at least 1, and none is above 99999
   side-some : (lines : List (List ℕ)) (v : ℕ) → 1 ≤ v + count_of (is_side name) lines → 1 ≤ side_in name v lines
   unfolding side_in side_from count_of
@@ -35,7 +32,7 @@ module _ (name : List ℕ) where
   side-some (line ∷ lines) v l =
       ⊎_elim {C = 1 ≤ side_in name v (line ∷ lines)}
       (λ (t : is_side name line ≡ true).
-      let some = value-some (drop (length name) line) (numeral _ (side-number line t)) in
+      let some = value-some (drop (length name) line) (numeral _ (side-number name line t)) in
       rw t (side-some lines (value_of (drop (length name) line)) (omega arith)))
       (λ (t : is_side name line ≡ false).
       let m : 1 ≤ v + (0 + count_of (is_side name) lines) = rw t at l in
@@ -48,7 +45,7 @@ module _ (name : List ℕ) where
   side-most (line ∷ lines) v l =
       ⊎_elim {C = side_in name v (line ∷ lines) ≤ 99999}
       (λ (t : is_side name line ≡ true).
-      rw t (side-most lines _ (value-most (drop (length name) line) (numeral _ (side-number line t)))))
+      rw t (side-most lines _ (value-most (drop (length name) line) (numeral _ (side-number name line t)))))
       (λ (t : is_side name line ≡ false). rw t (side-most lines v l))
       (either (is_side name line))
 
@@ -128,51 +125,54 @@ fields-are lines e =
       no_other = eqb-true _ _ o5.1;
     }
 
--- what a header says is small, and the sides that an accepted one gives are at least 1
+-- what a header says is small, and the sides are at least 1
 pub record Small (header : Header) : Type 0 where
   pub height_most : header.height ≤ 99999
   pub width_most : header.width ≤ 99999
   pub body_most : header.body ≤ most_header
-  pub height_some : header.ok ≡ true → 1 ≤ header.height
-  pub width_some : header.ok ≡ true → 1 ≤ header.width
+  pub height_some : 1 ≤ header.height
+  pub width_some : 1 ≤ header.width
 
-small_by : (lines : List (List ℕ)) → bytes_of lines ≤ most_header → Small (header_by lines)
+small_by : (lines : List (List ℕ)) → bytes_of lines ≤ most_header → (header : Header) → header_by lines ≡ Some header → Small header
 unfolding header_by bytes_of is_text starts_at
-small_by lines l =
-    ⊎_elim {C = Small (header_by lines)}
+small_by lines l header e =
+    ⊎_elim {C = Small header}
     (λ (t : are_lines_ok lines ≡ true).
     let o = lines_ok lines t in
     let fields = field_lines (drop 1 lines) in
     let f = fields-are fields o.fields_are_ok in
-    rw t
-    (record {
+    let small : Small (header_with fields) =
+    record {
       height_most = side-most height_name fields 0 (omega arith);
       width_most = side-most width_name fields 0 (omega arith);
       body_most = omega (arith, l, after_first lines o.first_is, field-bytes (drop 1 lines) o.end_stands);
-      height_some = λ _. side-some height_name fields 0 (omega (arith, f.one_height));
-      width_some = λ _. side-some width_name fields 0 (omega (arith, f.one_width));
-    }))
-    (λ (t : are_lines_ok lines ≡ false).
-    rw t
-    (record {
-      height_most = omega arith;
-      width_most = omega arith;
-      body_most = omega arith;
-      height_some = λ e. not-both false e refl;
-      width_some = λ e. not-both false e refl;
-    }))
+      height_some = side-some height_name fields 0 (omega (arith, f.one_height));
+      width_some = side-some width_name fields 0 (omega (arith, f.one_width));
+    } in
+    let given : ◌≡◌ {A = Option Header} (Some (header_with fields)) (Some header) = rw t at e in
+    let same : header_with fields ≡ header = cc in
+    rw same at small)
+    (λ (t : are_lines_ok lines ≡ false). let z : ◌≡◌ {A = Option Header} None (Some header) = rw t at e in cc)
     (either (are_lines_ok lines))
   where
+    header_with : List (List ℕ) → Header
+    header_with fields =
+        record {
+          height = side_in height_name 0 fields;
+          width = side_in width_name 0 fields;
+          body = bytes_of (first_text ∷ []) + bytes_of fields + bytes_of (end_text ∷ []);
+        }
+
     after_first : (all : List (List ℕ)) → is_text first_text (get_or all 0 []) ≡ true → 3 + bytes_of (drop 1 all) ≤ bytes_of all
     after_first [] e = not-both false e refl
     after_first (first ∷ rest) e = omega (arith, text-long first_text first e)
 
-pub header-small : (input : List ℕ) → Small (header_of input)
+pub header-small : (input : List ℕ) (header : Header) → header_of input ≡ Some header → Small header
 unfolding header_of
-header-small input =
+header-small input header e =
     let front = take most_header input in
     let long : length front ≤ most_header = rw length-take (omega arith) in
-    small_by (lines_of front) (omega (arith, bytes_most front))
+    small_by (lines_of front) (omega (arith, bytes_most front)) header e
 
 -- the header depends on the first most_header bytes alone, and with it the refusal 8
 pub header-first : (n : ℕ) (input : List ℕ) → most_header ≤ n → header_of (take n input) ≡ header_of input

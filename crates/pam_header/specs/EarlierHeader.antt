@@ -1,10 +1,10 @@
 -- The header that cutcard accepted at first: its lines in one order, and none skipped. It is kept for the law that every file which
 -- was accepted then still prints the same bytes (R80). Past the end of the input every byte is read as 0, which no text holds.
 -- Assumes nothing.
-use Rattle.std.specs.Prelude.{ℕ, ◌+◌, Bool, true, cond, not, ◌&&◌, List, [], ◌∷◌, eqb, leb, length, get_or}
+use Rattle.std.specs.Prelude.{ℕ, ◌+◌, Bool, cond, not, ◌&&◌, List, [], ◌∷◌, eqb, leb, length, get_or, Option, Some, None}
 use Rattle.text.specs.Decimal.{digits_upto, number_upto}
 use Rattle.pam_header.specs.declared.Header.{Header}
-use Rattle.pam_header.specs.Header.{starts_at, most_digits, declined}
+use Rattle.pam_header.specs.Header.{starts_at, most_digits}
 
 -- "P7\nWIDTH " (R80)
 abbrev pub width_text : List ℕ
@@ -65,8 +65,8 @@ earlier_ok input =
     && starts_at input (tail_at input) tail_text
 
 -- what it says, in the form of `header_of` (R80)
-unfoldable pub earlier_of : List ℕ → Header
+unfoldable pub earlier_of : List ℕ → Option Header
 earlier_of input =
     cond (earlier_ok input)
-    (record { ok = true; height = height_of input; width = width_of input; body = body_at input })
-    declined
+    (Some (record { height = height_of input; width = width_of input; body = body_at input }))
+    None

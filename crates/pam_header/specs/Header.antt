@@ -1,6 +1,6 @@
 -- The header of a PAM file, by its lines (R38).
 -- Assumes nothing.
-use Rattle.std.specs.Prelude.{ℕ, suc, ◌+◌, Bool, true, false, cond, not, ◌&&◌, ◌||◌, List, [], ◌∷◌, eqb, leb, length, get_or, take, drop}
+use Rattle.std.specs.Prelude.{ℕ, suc, ◌+◌, Bool, true, cond, not, ◌&&◌, ◌||◌, List, [], ◌∷◌, eqb, leb, length, get_or, take, drop, Option, Some, None}
 use Rattle.text.specs.Decimal.{all_digits, value_of}
 use Rattle.pam_header.specs.declared.Header.{Header}
 
@@ -124,22 +124,19 @@ are_lines_ok lines =
 abbrev pub most_header : ℕ
 most_header = 4096
 
--- what a header says: that it is accepted, the sides, and where the pixels stand; or that it is not (R38)
-abbrev pub declined : Header
-declined = record { ok = false; height = 0; width = 0; body = 0 }
-
-unfoldable pub header_by : List (List ℕ) → Header
+-- what a header says, where it is accepted: the sides, and where the pixels stand (R38)
+unfoldable pub header_by : List (List ℕ) → Option Header
 header_by lines =
     let fields = field_lines (drop 1 lines) in
     cond (are_lines_ok lines)
+    (Some
     (record {
-      ok = true;
       height = side_in height_name 0 fields;
       width = side_in width_name 0 fields;
       body = bytes_of (first_text ∷ []) + bytes_of fields + bytes_of (end_text ∷ []);
-    })
-    declined
+    }))
+    None
 
 -- the header of an input stands in its first 4096 bytes (R38)
-unfoldable pub header_of : List ℕ → Header
+unfoldable pub header_of : List ℕ → Option Header
 header_of input = header_by (lines_of (take most_header input))

@@ -1,6 +1,6 @@
 -- The header as a text, for the law that just these texts are accepted. No contract cites it.
 -- Assumes nothing.
-use Rattle.std.specs.Prelude.{ℕ, ◌≤◌, ◌≡◌, Bool, true, not, ◌&&◌, List, [], ◌∷◌, ◌++◌, eqb, length}
+use Rattle.std.specs.Prelude.{ℕ, ◌≤◌, ◌≡◌, Bool, true, not, ◌&&◌, List, [], ◌∷◌, ◌++◌, eqb, length, Some}
 use Rattle.text.specs.Decimal.{value_of}
 use Rattle.pam_header.specs.declared.Header.{Header}
 use Rattle.pam_header.specs.Header.{is_numeral, first_text, width_name, height_name, end_text, fields_ok, most_header, header_of}
@@ -40,7 +40,7 @@ pub record Lines (w h : List ℕ) (lines : List (List ℕ)) : Type 0 where
 
 -- what the header with these lines says: its digits as sides, and that the pixels stand right after it (R38)
 unfoldable pub said_by : List ℕ → List ℕ → List (List ℕ) → Header
-said_by w h lines = record { ok = true; height = value_of h; width = value_of w; body = length (header_text lines) }
+said_by w h lines = record { height = value_of h; width = value_of w; body = length (header_text lines) }
 
 -- an input starts with such a header, and is read so (R38)
 pub record HasHeader (input : List ℕ) : Type 0 where
@@ -50,4 +50,4 @@ pub record HasHeader (input : List ℕ) : Type 0 where
   pub rest : List ℕ
   pub lines_ok : Lines width height lines
   pub input_is : input ≡ header_text lines ++ rest
-  pub header_is : header_of input ≡ said_by width height lines
+  pub header_is : header_of input ≡ Some (said_by width height lines)

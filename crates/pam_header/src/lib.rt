@@ -1,10 +1,11 @@
 // Reading the header of a PAM file, line by line.
 #![tactic(auto)]
 
-ghost use Rattle.std.specs.Prelude.{◌≡◌, true, [], ◌+◌, ◌*◌, ◌≤◌, ◌<◌, length, get_or, drop};
-ghost use Rattle.pam_header.specs.Header.{starts_at, is_text, is_numeral, is_side, side_from, is_skipped};
-ghost use Rattle.pam_header.specs.Header.{lines_of, first_text, most_header, declined, header_by, header_of};
-ghost use Rattle.pam_header.specs.steps.Reading.{line_long, more, with_line, Few, no_fields, header_from, read_from};
+ghost use Rattle.std.specs.Prelude.{◌≡◌};
+ghost use Rattle.std.specs.Char.{is_ascii_digit};
+ghost use Rattle.std.specs.List.{list_all, position};
+ghost use Rattle.pam_header.specs.Header.{is_text, is_skipped, is_numeral, lines_of, header_by, header_of};
+ghost use Rattle.pam_header.specs.steps.Reading.{is_newline, side_on, line_of, with_line, header_from};
 
 // The most bytes of a header, up to and with the newline of ENDHDR.
 const MOST_HEADER: usize = 4096;
@@ -12,224 +13,192 @@ const MOST_HEADER: usize = 4096;
 // The most digits of a number.
 const MOST_DIGITS: usize = 5;
 
-// What a header says: whether it is accepted, and if so the sides and where the pixels stand.
+// What a header says: the sides, and where the pixels stand.
 #[derive(Clone, Copy)]
 pub struct Header {
-    pub ok: bool,
     pub height: usize,
     pub width: usize,
     pub body: usize,
 }
 
-// What the lines so far gave: on how many of them each field stands, how many have no place in a header, and the sides.
-#[derive(Drop)]
+// A line between P7 and ENDHDR: an empty one or a comment, or one of the five fields.
+#[derive(Clone, Copy)]
+enum Line {
+    Skipped,
+    Width(usize),
+    Height(usize),
+    Depth,
+    Maxval,
+    Tupltype,
+}
+
+// The fields on the lines so far: the sides, and which of the others were seen.
+#[derive(Clone, Copy)]
 struct Fields {
-    widths: usize,
-    heights: usize,
-    depths: usize,
-    maxvals: usize,
-    tupltypes: usize,
-    others: usize,
-    width: usize,
-    height: usize,
+    width: Option<usize>,
+    height: Option<usize>,
+    depth: bool,
+    maxval: bool,
+    tupltype: bool,
 }
 
 // ---- what a line is
-
-// Whether a line begins with a text.
-fn starts(line: &[u8], text: &[u8]) -> bool
-    ensures { result ≡ starts_at line.now 0 text.now }
-{
-    let mut i = 0usize;
-    while i < text.len() {
-        let b = text::byte_at(line, i);
-        if b != text[i] {
-            return false;
-        }
-        i += 1;
-    }
-    true
-}
 
 // Whether a line is a text and nothing more.
 fn is_text(line: &[u8], text: &[u8]) -> bool
     ensures { result ≡ is_text text.now line.now }
 {
-    starts(line, text) & (line.len() == text.len())
-}
-
-// Whether these are 1 to 5 digits, the first not '0'.
-fn is_numeral(digits: &[u8]) -> bool
-    ensures { result ≡ is_numeral digits.now }
-{
-    let n = digits.len();
-    (text::digits(digits, 0, MOST_DIGITS) == n) & (1 <= n) & !(text::byte_at(digits, 0) == b'0')
-}
-
-// Whether a line is a name, with its space, and a number.
-fn is_side(line: &[u8], name: &[u8]) -> bool
-    ensures { result ≡ is_side name.now line.now }
-{
-    let at = name.len();
-    if line.len() < at {
-        return false;
-    }
-    starts(line, name) & is_numeral(&line[at..])
-}
-
-// The number on such a line; for any other line the old one.
-fn side(line: &[u8], name: &[u8], old: usize) -> usize
-    ensures { result ≡ side_from name.now old line.now }
-{
-    if !is_side(line, name) {
-        return old;
-    }
-    text::read_number(line, name.len(), MOST_DIGITS) as usize
+    line == text
 }
 
 // Whether a line is empty or begins with '#'.
 fn is_skipped(line: &[u8]) -> bool
     ensures { result ≡ is_skipped line.now }
 {
-    (line.len() == 0) | (text::byte_at(line, 0) == b'#')
+    line.is_empty() | line.starts_with(b"#")
+}
+
+// Whether all bytes are digits.
+fn all_digits(text: &[u8]) -> bool
+    ensures { result ≡ list_all is_ascii_digit text.now }
+{
+    text.iter().all(|b| b.is_ascii_digit())
+}
+
+// Whether these are 1 to 5 digits, the first not '0'.
+fn is_numeral(digits: &[u8]) -> bool
+    ensures { result ≡ is_numeral digits.now }
+{
+    all_digits(digits)
+        & (digits.len() <= MOST_DIGITS)
+        & !digits.is_empty()
+        & !digits.starts_with(b"0")
+}
+
+// The number on a line that is a name, with its space, and a number.
+fn side(line: &[u8], name: &[u8]) -> Option<usize>
+    ensures { result ≡ side_on name.now line.now }
+{
+    let digits = line.strip_prefix(name)?;
+    if !is_numeral(digits) {
+        return None;
+    }
+    Some(text::read_number(digits, 0, MOST_DIGITS) as usize)
+}
+
+// What a line is; None where it has no place between P7 and ENDHDR.
+fn line_of(line: &[u8]) -> Option<Line>
+    ensures { result ≡ line_of line.now }
+{
+    if is_skipped(line) {
+        return Some(Line::Skipped);
+    }
+    if let Some(width) = side(line, b"WIDTH ") {
+        return Some(Line::Width(width));
+    }
+    if let Some(height) = side(line, b"HEIGHT ") {
+        return Some(Line::Height(height));
+    }
+    // No match on byte strings: it would be proved byte by byte.
+    if is_text(line, b"DEPTH 4") {
+        return Some(Line::Depth);
+    }
+    if is_text(line, b"MAXVAL 255") {
+        return Some(Line::Maxval);
+    }
+    if is_text(line, b"TUPLTYPE RGB_ALPHA") {
+        return Some(Line::Tupltype);
+    }
+    None
 }
 
 // ---- one line after the other
 
-// A count with one more line, where that counts.
-fn counted(n: usize, t: bool) -> usize
-    requires { n < 6 * most_header }
-    ensures { result ≡ more n t }
-{
-    if t { n + 1 } else { n }
-}
-
-// What the lines gave, with one more.
-fn with_line(seen: Fields, line: &[u8]) -> Fields
-    requires { Few seen 4095 }
+// The fields with that of one more line; None where the line has no place in a header, or its field was seen already.
+fn with_line(seen: Fields, line: &[u8]) -> Option<Fields>
     ensures { result ≡ with_line seen line.now }
 {
-    let is_width = is_side(line, b"WIDTH ");
-    let is_height = is_side(line, b"HEIGHT ");
-    let is_depth = is_text(line, b"DEPTH 4");
-    let is_maxval = is_text(line, b"MAXVAL 255");
-    let is_tupltype = is_text(line, b"TUPLTYPE RGB_ALPHA");
-    let is_other = !(is_skipped(line) | is_width | is_height | is_depth | is_maxval | is_tupltype);
-    Fields {
-        widths: counted(seen.widths, is_width),
-        heights: counted(seen.heights, is_height),
-        depths: counted(seen.depths, is_depth),
-        maxvals: counted(seen.maxvals, is_maxval),
-        tupltypes: counted(seen.tupltypes, is_tupltype),
-        others: counted(seen.others, is_other),
-        width: side(line, b"WIDTH ", seen.width),
-        height: side(line, b"HEIGHT ", seen.height),
+    match line_of(line)? {
+        Line::Skipped => Some(seen),
+        Line::Width(width) if seen.width.is_none() => Some(Fields {
+            width: Some(width),
+            ..seen
+        }),
+        Line::Height(height) if seen.height.is_none() => Some(Fields {
+            height: Some(height),
+            ..seen
+        }),
+        Line::Depth if !seen.depth => Some(Fields {
+            depth: true,
+            ..seen
+        }),
+        Line::Maxval if !seen.maxval => Some(Fields {
+            maxval: true,
+            ..seen
+        }),
+        Line::Tupltype if !seen.tupltype => Some(Fields {
+            tupltype: true,
+            ..seen
+        }),
+        _ => None,
     }
 }
 
-// No header.
-fn declined_header() -> Header
-    ensures { result ≡ declined }
-{
-    Header {
-        ok: false,
-        height: 0,
-        width: 0,
-        body: 0,
-    }
-}
-
-// The header whose lines gave this, with the pixels at a place.
-fn header_from(seen: Fields, at: usize) -> Header
+// The header with these fields, where all were seen, and with the pixels at a place.
+fn header_from(seen: Fields, at: usize) -> Option<Header>
     ensures { result ≡ header_from seen at }
 {
-    let ok = (seen.widths == 1)
-        & (seen.heights == 1)
-        & (seen.depths == 1)
-        & (seen.maxvals == 1)
-        & (seen.tupltypes == 1)
-        & (seen.others == 0);
-    if !ok {
-        return declined_header();
-    }
-    Header {
-        ok: true,
-        height: seen.height,
-        width: seen.width,
-        body: at,
+    match seen {
+        Fields {
+            width: Some(width),
+            height: Some(height),
+            depth: true,
+            maxval: true,
+            tupltype: true,
+        } => Some(Header {
+            height,
+            width,
+            body: at,
+        }),
+        _ => None,
     }
 }
 
-// Where the line ends that a place is in: at its newline, or at the end of the text.
-fn line_end(text: &[u8], at: usize) -> usize
-    requires { at ≤ length text.now }
-    ensures { result ≡ at + line_long (drop at text.now) }
+// Where the first newline of a text stands.
+fn line_end(text: &[u8]) -> Option<usize>
+    ensures { result ≡ position is_newline text.now }
 {
-    let mut i = at;
-    while i < text.len() {
-        if text[i] == b'\n' {
-            return i;
-        }
-        i += 1;
-    }
-    i
-}
-
-// The header whose lines after P7 stand from a place on.
-fn read_lines(front: &[u8], start: usize) -> Header
-    requires { (start ≤ length front.now) × (length front.now ≤ most_header) }
-    ensures { result ≡ read_from no_fields start (lines_of (drop start front.now)) }
-{
-    let mut at = start;
-    let mut seen = Fields {
-        widths: 0,
-        heights: 0,
-        depths: 0,
-        maxvals: 0,
-        tupltypes: 0,
-        others: 0,
-        width: 0,
-        height: 0,
-    };
-    while at < front.len() {
-        let end = line_end(front, at);
-        if end == front.len() {
-            return declined_header();
-        }
-        let line = &front[at..end];
-        if is_text(line, b"ENDHDR") {
-            return header_from(seen, end + 1);
-        }
-        seen = with_line(seen, line);
-        at = end + 1;
-    }
-    declined_header()
-}
-
-// Whether the first line is P7.
-fn is_pam(front: &[u8]) -> bool
-    ensures { result ≡ is_text first_text (get_or (lines_of front.now) 0 []) }
-{
-    starts(front, b"P7\n")
+    text.iter().position(|b| *b == b'\n')
 }
 
 // The header that stands in the first bytes of an input.
-fn header_in(front: &[u8]) -> Header
-    requires { length front.now ≤ most_header }
+fn header_in(front: &[u8]) -> Option<Header>
     ensures { result ≡ header_by (lines_of front.now) }
 {
-    if !is_pam(front) {
-        return declined_header();
+    let mut rest = front.strip_prefix(b"P7\n")?;
+    let mut seen = Fields {
+        width: None,
+        height: None,
+        depth: false,
+        maxval: false,
+        tupltype: false,
+    };
+    // A while: its step is the length of the line.
+    while let Some(end) = line_end(rest) {
+        let line = &rest[..end];
+        let more = &rest[end + 1..];
+        if is_text(line, b"ENDHDR") {
+            return header_from(seen, front.len() - more.len());
+        }
+        seen = with_line(seen, line)?;
+        rest = more;
     }
-    read_lines(front, 3)
+    None
 }
 
 // The header of an input.
-pub fn read_header(input: &[u8]) -> Header
+pub fn read_header(input: &[u8]) -> Option<Header>
     ensures { result ≡ header_of input.now }
 {
-    if input.len() < MOST_HEADER {
-        return header_in(input);
-    }
-    header_in(&input[..MOST_HEADER])
+    header_in(&input[..MOST_HEADER.min(input.len())])
 }

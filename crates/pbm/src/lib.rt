@@ -1,25 +1,25 @@
-// What cutcard prints: the plain PBM file of a mask, or a refusal. Each function writes its piece from a place on and answers
-// the place after it.
+// What cutcard prints: the plain PBM file of a mask, or a refusal. Each function writes its piece to a page.
 #![tactic(auto)]
 
-ghost use Rattle.std.specs.Prelude.{◌≡◌, cond, [], ◌+◌, ◌*◌, ◌<◌, ◌≤◌, length};
-ghost use Rattle.text.specs.steps.Writing.{Wrote};
-ghost use Rattle.pbm.specs.Text.{bit_byte, ends_line, newline, pixel_text, pixels_text, pair_text, keyed_end};
+ghost use Rattle.std.specs.Prelude.{◌≡◌, ◌+◌, ◌*◌, ◌<◌, ◌≤◌, length};
+ghost use Rattle.text.specs.steps.Writing.{HasRoom, Wrote, Writes};
+ghost use Rattle.pbm.specs.Text.{bit_byte, ends_line, pixel_text, pixels_text, pair_text, keyed_end};
 ghost use Rattle.pbm.specs.Text.{crop_lines, size_line, mask_text, refusal_text};
 
 use plane::Box;
+use text::Page;
 
 // The most digits in a line.
 const LINE: usize = 70;
 
 // Two numbers with a space between them.
-fn pair(out: &mut [u8], at: usize, a: usize, b: usize) -> usize
-    requires { at + length (pair_text a b) ≤ length out.old }
-    ensures { Wrote (pair_text a b) out.old out.new at result }
+fn pair(page: &mut Page<'_>, a: usize, b: usize)
+    requires { HasRoom page.old (length (pair_text a b)) }
+    ensures { Writes (pair_text a b) page.old page.new }
 {
-    let first = text::write_number(out, at, a as u64);
-    let second = text::put(out, first, b' ');
-    text::write_number(out, second, b as u64)
+    page.number(a as u64);
+    page.put(b' ');
+    page.number(b as u64);
 }
 
 fn bit_byte(t: bool) -> u8
@@ -36,69 +36,56 @@ fn ends_line(w: usize, x: usize) -> bool
     ((x + 1) % LINE == 0) | (x + 1 == w)
 }
 
-// The newline where a line ends.
-fn line_end(out: &mut [u8], at: usize, ends: bool) -> usize
-    requires { at < length out.old }
-    ensures { Wrote (cond ends newline []) out.old out.new at result }
+// Pixel i of a mask with w columns, with the newline where a line ends.
+fn pixel(page: &mut Page<'_>, mask: &[u8], w: usize, i: usize)
+    requires { (0 < w) × (i < length mask.now) × HasRoom page.old 2 }
+    ensures { Writes (pixel_text mask.now w i) page.old page.new }
 {
-    if ends {
-        return text::put(out, at, b'\n');
+    page.put(bit_byte(mask[i] != 0));
+    if ends_line(w, i % w) {
+        page.put(b'\n');
     }
-    at
-}
-
-// Pixel i of a mask with w columns.
-fn pixel(out: &mut [u8], at: usize, mask: &[u8], w: usize, i: usize) -> usize
-    requires { (0 < w) × (i < length mask.now) × (at + 2 ≤ length out.old) }
-    ensures { Wrote (pixel_text mask.now w i) out.old out.new at result }
-{
-    let next = text::put(out, at, bit_byte(mask[i] != 0));
-    line_end(out, next, ends_line(w, i % w))
 }
 
 // All pixels of a mask.
-fn pixels(out: &mut [u8], at: usize, mask: &[u8], w: usize) -> usize
-    requires { (0 < w) × (at + 2 * length mask.now ≤ length out.old) }
-    ensures { Wrote (pixels_text mask.now w (length mask.now)) out.old out.new at result }
+fn pixels(page: &mut Page<'_>, mask: &[u8], w: usize)
+    requires { (0 < w) × HasRoom page.old (2 * length mask.now) }
+    ensures { Writes (pixels_text mask.now w (length mask.now)) page.old page.new }
 {
-    let mut next = at;
-    let mut i = 0usize;
-    while i < mask.len() {
-        next = pixel(out, next, mask, w, i);
-        i += 1;
+    for i in 0..mask.len() {
+        pixel(page, mask, w, i);
     }
-    next
 }
 
 // The end of the second line: the keyed flag.
-fn keyed_end(out: &mut [u8], at: usize, keyed: bool) -> usize
-    requires { at + 9 ≤ length out.old }
-    ensures { Wrote (keyed_end keyed) out.old out.new at result }
+fn keyed_end(page: &mut Page<'_>, keyed: bool)
+    requires { HasRoom page.old 9 }
+    ensures { Writes (keyed_end keyed) page.old page.new }
 {
-    let flag = text::copy(out, at, b" keyed ");
-    let end = text::put(out, flag, bit_byte(keyed));
-    text::put(out, end, b'\n')
+    page.copy(b" keyed ");
+    page.put(bit_byte(keyed));
+    page.put(b'\n');
 }
 
 // The first two lines: P1, and the comment with the crop box and the keyed flag.
-fn crop_lines(out: &mut [u8], at: usize, crop: Box, keyed: bool) -> usize
-    requires { at + length (crop_lines crop keyed) ≤ length out.old }
-    ensures { Wrote (crop_lines crop keyed) out.old out.new at result }
+fn crop_lines(page: &mut Page<'_>, crop: Box, keyed: bool)
+    requires { HasRoom page.old (length (crop_lines crop keyed)) }
+    ensures { Writes (crop_lines crop keyed) page.old page.new }
 {
-    let rows = text::copy(out, at, b"P1\n# crop ");
-    let between = pair(out, rows, crop.y0, crop.y1);
-    let columns = text::put(out, between, b' ');
-    let word = pair(out, columns, crop.x0, crop.x1);
-    keyed_end(out, word, keyed)
+    page.copy(b"P1\n# crop ");
+    pair(page, crop.y0, crop.y1);
+    page.put(b' ');
+    pair(page, crop.x0, crop.x1);
+    keyed_end(page, keyed);
 }
 
 // Width and height.
-fn size_line(out: &mut [u8], at: usize, h: usize, w: usize) -> usize
-    requires { at + length (size_line h w) ≤ length out.old }
-    ensures { Wrote (size_line h w) out.old out.new at result }
+fn size_line(page: &mut Page<'_>, h: usize, w: usize)
+    requires { HasRoom page.old (length (size_line h w)) }
+    ensures { Writes (size_line h w) page.old page.new }
 {
-    let end = pair(out, at, w, h);
-    text::put(out, end, b'\n')
+    pair(page, w, h);
+    page.put(b'\n');
 }
 
 // A mask with its crop box and keyed flag, from the front of the buffer, which has room for two bytes a pixel.
@@ -107,17 +94,21 @@ pub fn write_mask(out: &mut [u8], mask: &[u8], h: usize, w: usize, crop: Box, ke
     requires out_len { length (crop_lines crop keyed) + length (size_line h w) + 2 * (h * w) ≤ length out.old }
     ensures { Wrote (mask_text mask.now h w crop keyed) out.old out.new 0 result }
 {
-    let size = crop_lines(out, 0, crop, keyed);
-    let body = size_line(out, size, h, w);
-    pixels(out, body, mask, w)
+    let mut page = Page { out, at: 0 };
+    crop_lines(&mut page, crop, keyed);
+    size_line(&mut page, h, w);
+    pixels(&mut page, mask, w);
+    page.at
 }
 
-// A refusal, from the front of the buffer.
+// A refusal by its number, from the front of the buffer.
 pub fn write_refusal(out: &mut [u8], n: u32) -> usize
     requires { length (refusal_text n) ≤ length out.old }
     ensures { Wrote (refusal_text n) out.old out.new 0 result }
 {
-    let at = text::copy(out, 0, b"refused ");
-    let end = text::write_number(out, at, n as u64);
-    text::put(out, end, b'\n')
+    let mut page = Page { out, at: 0 };
+    page.copy(b"refused ");
+    page.number(u64::from(n));
+    page.put(b'\n');
+    page.at
 }

@@ -15,6 +15,7 @@ use mir.Syntax.{w64}
 use mir.Val.{Fits}
 use mir.Facts.{Fits-le, Fits-lit}
 use borrow.Author.Count.{below_more}
+use Rattle.std.specs.Int.{from_bool}
 use Rattle.plane.specs.Plane.{apart, on, bit, table, rows_upto, plane_of}
 use Rattle.plane.specs.steps.Sides.{longest_side}
 use Rattle.plane.proofs.Search.{which}
@@ -58,6 +59,12 @@ pub on_bit : (t : Bool) → on (bit t) ≡ t
 unfolding on bit
 on_bit true = refl
 on_bit false = refl
+
+-- what `u8::from` writes for a truth
+pub from_bool-bit : (t : Bool) → from_bool t ≡ bit t
+unfolding bit
+from_bool-bit true = refl
+from_bool-bit false = refl
 
 -- ---- tables
 

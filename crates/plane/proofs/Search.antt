@@ -1,6 +1,6 @@
 -- Laws of searching and counting below n.
 -- Assumes nothing.
-use mathlib.Core.Path.{◌≡◌, refl, sym, ap}
+use mathlib.Core.Path.{◌≡◌, refl, sym, ap, ◌∙◌}
 use mathlib.Core.Bool.{Bool, true, false, cond, not, ◌&&◌, ◌||◌}
 use mathlib.Core.Logic.{◌⊎◌, inl, inr, ⊎_elim}
 use Prim.Native.Nat.{ℕ, zero, suc, ◌+◌, ◌≤◌, ◌<◌}
@@ -8,6 +8,11 @@ use native.Mathlib.Nat.{not-suc-le-zero}
 use native.Mathlib.Numerals.{add-one}
 use native.Mathlib.Omega.{arith}
 use lib.Dec.{ltb}
+use lib.ListN.{length, get_or, take}
+use mathlib.Core.List.{List}
+use Rattle.std.specs.List.{fold}
+use Rattle.std.proofs.lemmas.List.{take_more, take_all}
+use Rattle.std.proofs.lemmas.List.Sums.{fold_push}
 use borrow.Author.Tests.{ltb-true, ltb-false}
 use Rattle.plane.specs.Search.{some_below, count_below}
 
@@ -135,3 +140,21 @@ count_same p q (suc n) h = rw (count_same p q n (λ i l. h i (omega arith)), h n
 pub some_more : (p : ℕ → Bool) (i : ℕ) (found t : Bool) → found ≡ some_below i p → t ≡ p i → (found || t) ≡ some_below (i + 1) p
 unfolding some_below
 some_more p i found t e d = rw (add-one i, e, d)
+
+-- a fold along a list searches it
+module _ (p : ℕ → Bool) (xs : List ℕ) where
+  some_fold-upto : (i : ℕ) → i ≤ length xs
+      → fold (λ (found : Bool) (x : ℕ). found || p x) false (take i xs) ≡ some_below i (λ (k : ℕ). p (get_or xs k 0))
+  unfolding some_below
+  some_fold-upto zero l = refl
+  some_fold-upto (suc i) l =
+      let h : i < length xs = omega arith in
+      let e = take_more xs i 0 h in
+      let ih = some_fold-upto i (omega arith) in
+      let f : Bool → ℕ → Bool = λ found x. found || p x in
+      ap (fold f false) (rw add-one at e)
+      ∙ fold_push f false (take i xs) (get_or xs i 0)
+      ∙ ap (λ (b : Bool). b || p (get_or xs i 0)) ih
+
+  pub some_fold : fold (λ (found : Bool) (x : ℕ). found || p x) false xs ≡ some_below (length xs) (λ (k : ℕ). p (get_or xs k 0))
+  some_fold = sym (ap (fold (λ (found : Bool) (x : ℕ). found || p x) false) (take_all (length xs) xs (omega arith))) ∙ some_fold-upto (length xs) (omega arith)

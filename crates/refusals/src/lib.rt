@@ -5,12 +5,13 @@
 #![tactic(auto)]
 
 ghost use Rattle.std.specs.Prelude.{◌≡◌, length};
-ghost use Rattle.plane.specs.Refusal.{refusal_of};
+ghost use Rattle.plane.specs.Refusal.{refusal_of, done_for};
+ghost use Rattle.card.specs.Card.{Border};
 ghost use Rattle.colour.specs.Colour.{rgb_ok};
 ghost use Rattle.outline.specs.Refusal.{work_tests, ground_lengths, growth_lengths, cut_lengths, picture_tests, cut_contents, growth_refusal};
 
-use card::Card;
 use colour::{Rgb, Settings};
+use plane::answer::Refusal;
 
 // Whether the three channels of a colour are from 0 to 1.
 fn rgb_ok(c: Rgb) -> bool
@@ -20,20 +21,26 @@ fn rgb_ok(c: Rgb) -> bool
 }
 
 // Ground: the lengths of the colours, the output and the work buffer.
-pub fn ground_lengths(h: usize, w: usize, colours: usize, out: usize, work: usize) -> u32
-    ensures { result ≡ refusal_of (ground_lengths h w colours out work) }
+pub fn ground_lengths(
+    h: usize,
+    w: usize,
+    colours: usize,
+    out: usize,
+    work: usize,
+) -> Result<(), Refusal>
+    ensures { result ≡ done_for (refusal_of (ground_lengths h w colours out work)) }
 {
     if !plane::sides_ok(h, w) {
-        return 1;
+        return Err(Refusal::Sides);
     }
     let n = h * w;
     if colours != 3 * n {
-        return 2;
+        return Err(Refusal::Inputs);
     }
     if (out == n) & (plane::room(h, w) <= work) {
-        return 0;
+        return Ok(());
     }
-    3
+    Err(Refusal::Outputs)
 }
 
 // Growth: the lengths of the colours, the background, the output and four work buffers.
@@ -47,20 +54,20 @@ fn growth_lengths(
     shallow: usize,
     deep: usize,
     marks: usize,
-) -> u32
-    ensures { result ≡ refusal_of (growth_lengths h w colours back out nearest shallow deep marks) }
+) -> Result<(), Refusal>
+    ensures { result ≡ done_for (refusal_of (growth_lengths h w colours back out nearest shallow deep marks)) }
 {
     if !plane::sides_ok(h, w) {
-        return 1;
+        return Err(Refusal::Sides);
     }
     let n = h * w;
     if (colours == 3 * n) & (back == n) {
         if out != n {
-            return 3;
+            return Err(Refusal::Outputs);
         }
         return work_lengths(plane::room(h, w), nearest, shallow, deep, marks);
     }
-    2
+    Err(Refusal::Inputs)
 }
 
 // Cut: the lengths of the colours, the alpha, two outputs and four work buffers.
@@ -75,63 +82,63 @@ pub fn cut_lengths(
     shallow: usize,
     deep: usize,
     marks: usize,
-) -> u32
-    ensures { result ≡ refusal_of (cut_lengths h w colours alpha mask weights nearest shallow deep marks) }
+) -> Result<(), Refusal>
+    ensures { result ≡ done_for (refusal_of (cut_lengths h w colours alpha mask weights nearest shallow deep marks)) }
 {
     if !plane::sides_ok(h, w) {
-        return 1;
+        return Err(Refusal::Sides);
     }
     let n = h * w;
     if (colours == 3 * n) & (alpha == n) {
         if (mask == n) & (weights == n) {
             return work_lengths(plane::room(h, w), nearest, shallow, deep, marks);
         }
-        return 3;
+        return Err(Refusal::Outputs);
     }
-    2
+    Err(Refusal::Inputs)
 }
 
 // Four work buffers that hold at least `least` numbers.
-fn work_lengths(least: usize, nearest: usize, shallow: usize, deep: usize, marks: usize) -> u32
-    ensures { result ≡ refusal_of (work_tests least nearest shallow deep marks) }
+fn work_lengths(
+    least: usize,
+    nearest: usize,
+    shallow: usize,
+    deep: usize,
+    marks: usize,
+) -> Result<(), Refusal>
+    ensures { result ≡ done_for (refusal_of (work_tests least nearest shallow deep marks)) }
 {
     if (least <= nearest) & (least <= shallow) & (least <= deep) & (least <= marks) {
-        return 0;
+        return Ok(());
     }
-    3
+    Err(Refusal::Outputs)
 }
 
-// What a picture is declined for: a text that names no card's colour, its colours, then the tolerance.
-pub fn picture_refusal(card: Card, colours: &[f64], tolerance: f64) -> u32
-    ensures { result ≡ refusal_of (picture_tests card colours.now tolerance) }
+// What a picture is declined for whose card is readable: its colours, then the tolerance.
+pub fn picture_refusal(colours: &[f64], tolerance: f64) -> Result<(), Refusal>
+    ensures { result ≡ done_for (refusal_of (picture_tests Border colours.now tolerance)) }
 {
-    if !card::readable(card) {
-        return 11;
-    }
     if !colour::colours_ok(colours) {
-        return 4;
+        return Err(Refusal::Colours);
     }
     if !colour::is_finite(tolerance) {
-        return 5;
+        return Err(Refusal::Tolerance);
     }
-    0
+    Ok(())
 }
 
 // What a cut is declined for once its lengths are accepted: the picture, then an alpha that nowhere reaches the threshold.
-pub fn cut_contents(card: Card, colours: &[f64], alpha: &[u8], s: Settings) -> u32
-    ensures { result ≡ refusal_of (cut_contents card colours.now alpha.now (length alpha.now) s) }
+pub fn cut_contents(colours: &[f64], alpha: &[u8], s: Settings) -> Result<(), Refusal>
+    ensures { result ≡ done_for (refusal_of (cut_contents Border colours.now alpha.now (length alpha.now) s)) }
 {
-    let picture = picture_refusal(card, colours, s.key_bg_tolerance);
-    if picture != 0 {
-        return picture;
-    }
+    picture_refusal(colours, s.key_bg_tolerance)?;
     if !weights::some_reach(alpha, s.alpha_threshold) {
-        return 6;
+        return Err(Refusal::Alpha);
     }
-    0
+    Ok(())
 }
 
-// The refusal of growth, or 0.
+// What growth is declined for.
 pub fn growth_refusal(
     colours: &[f64],
     back: usize,
@@ -143,10 +150,10 @@ pub fn growth_refusal(
     shallow: usize,
     deep: usize,
     marks: usize,
-) -> u32
-    ensures { result ≡ growth_refusal colours.now back h w reference out nearest shallow deep marks }
+) -> Result<(), Refusal>
+    ensures { result ≡ done_for (growth_refusal colours.now back h w reference out nearest shallow deep marks) }
 {
-    let lengths = growth_lengths(
+    growth_lengths(
         h,
         w,
         colours.len(),
@@ -156,12 +163,9 @@ pub fn growth_refusal(
         shallow,
         deep,
         marks,
-    );
-    if lengths != 0 {
-        return lengths;
-    }
+    )?;
     if colour::colours_ok(colours) & rgb_ok(reference) {
-        return 0;
+        return Ok(());
     }
-    4
+    Err(Refusal::Colours)
 }

@@ -4,13 +4,14 @@
 
 ghost use Rattle.std.specs.Prelude.{◌≡◌, ◌+◌, ◌*◌, ◌≤◌, ◌++◌, length, drop};
 ghost use Rattle.plane.specs.Search.{count_below};
-ghost use Rattle.plane.specs.Plane.{table};
 ghost use Rattle.plane.specs.Mask.{is_on};
 ghost use Rattle.plane.specs.steps.Sides.{longest_side};
 ghost use Rattle.counts.specs.Running.{running};
 ghost use Rattle.counts.specs.steps.Parts.{full_byte, rest_of};
 ghost use Rattle.row_counts.specs.steps.Rows.{change_line, tally, ran_line, counted_part, dilated_row, dilated_rows};
 ghost use Rattle.row_counts.specs.steps.Rows.{Changing, Steppable, Stepped, Runnable, Block, Rows, RowPlanes};
+
+use counts::Change;
 
 // How many columns of a row are stepped at a time, and how many of them a byte runs through.
 const BLOCK: usize = 256;
@@ -22,24 +23,11 @@ fn count(line: &[u8]) -> u32
     requires { length line.now ≤ longest_side }
     ensures { result ≡ count_below (length line.now) (is_on line.now) }
 {
-    let mut n = 0u32;
-    let mut x = 0usize;
-    while x < line.len() {
-        n += plane::byte(line[x] != 0) as u32;
-        x += 1;
+    let mut n = 0;
+    for m in line {
+        n += u32::from(*m != 0);
     }
     n
-}
-
-// Each pixel of a line set to b.
-fn fill(b: u8, out: &mut [u8])
-    ensures { out.new ≡ table (λ _. b) 0 (length out.old) }
-{
-    let mut x = 0usize;
-    while x < out.len() {
-        out[x] = b;
-        x += 1;
-    }
 }
 
 // By how much a count changes, modulo 256, at each of a line of steps: by 1 where a pixel enters, and by 255, which is one less, where one
@@ -48,12 +36,8 @@ fn change_line(enter: &[u8], leave: &[u8], steps: &mut [u8])
     requires { Changing enter.now leave.now steps.old }
     ensures { steps.new ≡ change_line enter.now leave.now }
 {
-    let mut x = 0usize;
-    while x < enter.len() {
-        let e = plane::byte(enter[x] != 0);
-        let l = if leave[x] != 0 { 255u8 } else { 0 };
-        steps[x] = std::num::wrapping_add_u8(e, l);
-        x += 1;
+    for x in 0..enter.len() {
+        steps[x] = u8::from(enter[x] != 0).wrapping_sub(u8::from(leave[x] != 0));
     }
 }
 
@@ -65,14 +49,12 @@ fn end_steps(row: &[u8], k: usize, c: usize, steps: &mut [u8])
 {
     let w = row.len();
     let m = steps.len();
-    let a = counts::lesser(c + k, w);
-    let b = counts::lesser(c + m + k, w);
-    let e = b - a;
-    counts::move_line(&row[a..b], 1, &mut steps[0..e]);
-    let a = counts::behind(c, k);
-    let b = counts::behind(c + m, k);
-    let s = m - (b - a);
-    counts::move_line(&row[a..b], 255, &mut steps[s..m]);
+    let a = w.min(c + k);
+    let b = w.min(c + m + k);
+    counts::move_line(&row[a..b], Change::Enters.step(), &mut steps[..b - a]);
+    let a = c.saturating_sub(k + 1);
+    let b = (c + m).saturating_sub(k + 1);
+    counts::move_line(&row[a..b], Change::Leaves.step(), &mut steps[m - (b - a)..]);
 }
 
 // The same; away from the ends a pixel enters and one leaves at every column.
@@ -81,11 +63,7 @@ fn row_steps(row: &[u8], k: usize, c: usize, steps: &mut [u8])
     ensures { Stepped row.now k c steps.new }
 {
     let m = steps.len();
-    if c <= k {
-        end_steps(row, k, c, steps);
-        return;
-    }
-    if row.len() < c + m + k {
+    if c <= k || row.len() < c + m + k {
         end_steps(row, k, c, steps);
         return;
     }
@@ -101,15 +79,13 @@ fn run(steps: &[u8], n: u32, out: &mut [u8]) -> u32
     ensures value { result ≡ rest_of n + tally steps.now (full_byte n) (length steps.now) }
     ensures out_after { out.new ≡ ran_line steps.now (full_byte n) }
 {
-    let b = if n < 128 { n } else { 128 };
+    let b = n.min(128);
     let mut v = b as u8;
-    let mut x = 0usize;
-    while x < steps.len() {
-        v = std::num::wrapping_add_u8(v, steps[x]);
-        out[x] = plane::byte(v != 0);
-        x += 1;
+    for x in 0..steps.len() {
+        v = v.wrapping_add(steps[x]);
+        out[x] = u8::from(v != 0);
     }
-    n - b + v as u32
+    n - b + u32::from(v)
 }
 
 // The columns from column c on of a row, as many as out has: a pixel is 1 where its window has an on-pixel. n is the running count
@@ -120,18 +96,17 @@ fn dilate_block(row: &[u8], k: usize, c: usize, n: u32, out: &mut [u8]) -> u32
     ensures out_after { out.new ≡ counted_part row.now k c (length out.old) }
 {
     let m = out.len();
-    let mut steps = [0u8; BLOCK];
-    row_steps(row, k, c, &mut steps[0..m]);
-    if !plane::any(&steps[0..m]) {
-        fill(plane::byte(0 < n), out);
+    let mut zeros = [0u8; BLOCK];
+    let steps = &mut zeros[..m];
+    row_steps(row, k, c, steps);
+    if !plane::any(steps) {
+        out.fill(u8::from(0 < n));
         return n;
     }
     let mut v = n;
-    let mut x = 0usize;
-    while x < m {
-        let e = x + counts::lesser(RUN, m - x);
+    for x in (0..m).step_by(RUN) {
+        let e = m.min(x + RUN);
         v = run(&steps[x..e], v, &mut out[x..e]);
-        x = e;
     }
     v
 }
@@ -142,13 +117,10 @@ fn dilate_line(row: &[u8], k: usize, out: &mut [u8])
     ensures { out.new ≡ dilated_row row.now k }
 {
     let w = row.len();
-    let first = counts::lesser(k, w);
-    let mut n = count(&row[0..first]);
-    let mut c = 0usize;
-    while c < w {
-        let e = c + counts::lesser(BLOCK, w - c);
+    let mut n = count(&row[..w.min(k)]);
+    for c in (0..w).step_by(BLOCK) {
+        let e = w.min(c + BLOCK);
         n = dilate_block(row, k, c, n, &mut out[c..e]);
-        c = e;
     }
 }
 
@@ -157,11 +129,9 @@ pub fn dilate_rows(mask: &[u8], h: usize, w: usize, k: usize, out: &mut [u8])
     requires { RowPlanes mask.now h w k out.old }
     ensures { out.new ≡ dilated_rows mask.now h w k ++ drop (h * w) out.old }
 {
-    let mut y = 0usize;
-    while y < h {
+    for y in 0..h {
         let s = y * w;
         let e = s + w;
         dilate_line(&mask[s..e], k, &mut out[s..e]);
-        y += 1;
     }
 }

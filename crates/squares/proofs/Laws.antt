@@ -1,10 +1,10 @@
 -- Laws of squares, over the definitions alone.
 -- Assumes nothing.
-use mathlib.Core.Path.{◌≡◌, refl, sym}
+use mathlib.Core.Path.{◌≡◌, refl, sym, ◌∙◌}
 use mathlib.Core.Bool.{Bool, true, false, ◌&&◌}
 use mathlib.Core.List.{List}
 use mathlib.Core.Logic.{⊎_elim}
-use Prim.Native.Nat.{ℕ, ◌+◌, ◌*◌, ◌≤◌, ◌<◌}
+use Prim.Native.Nat.{ℕ, min, max, ◌+◌, ◌*◌, ◌≤◌, ◌<◌}
 use native.Mathlib.Omega.{arith}
 use lib.Dec.{leb}
 use lib.ListN.{length}
@@ -63,6 +63,24 @@ radius-most h w n =
     ⊎_elim {C = radius_of h w n ≤ larger h w}
     (λ (a : larger h w < reach h w n). omega (arith, radius-far h w n a))
     (λ (a : reach h w n ≤ larger h w). omega (arith, radius-near h w n a))
+    (which (larger h w) (reach h w n))
+
+-- they are a maximum and a minimum
+pub larger-max : (h w : ℕ) → larger h w ≡ max h w
+larger-max h w =
+    ⊎_elim {C = larger h w ≡ max h w}
+    (λ (a : w < h). omega (arith, larger-tall h w a))
+    (λ (a : h ≤ w). omega (arith, larger-wide h w a))
+    (which w h)
+
+pub radius-none : (h w : ℕ) → radius_of h w 0 ≡ larger h w
+radius-none h w = radius-near h w 0 (omega (arith, reach-none h w)) ∙ reach-none h w
+
+pub radius-min : (h w n : ℕ) → 0 < n → radius_of h w n ≡ min (larger h w) n
+radius-min h w n some =
+    ⊎_elim {C = radius_of h w n ≡ min (larger h w) n}
+    (λ (a : larger h w < reach h w n). omega (arith, radius-far h w n a, reach-some h w n some))
+    (λ (a : reach h w n ≤ larger h w). omega (arith, radius-near h w n a, reach-some h w n some))
     (which (larger h w) (reach h w n))
 
 -- ---- an on-pixel within k

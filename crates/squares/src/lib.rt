@@ -10,14 +10,11 @@ ghost use Rattle.squares.specs.steps.Radius.{radius_of, Lent};
 fn radius(h: usize, w: usize, iterations: u64) -> usize
     ensures { result ≡ radius_of h w iterations }
 {
-    let side = if h <= w { w } else { h };
+    let side = h.max(w);
     if iterations == 0 {
         return side;
     }
-    if iterations <= side as u64 {
-        return iterations as usize;
-    }
-    side
+    side.min(iterations as usize)
 }
 
 // The dilation of a mask by a square: a pixel of out is 1 where an on-pixel of the mask is within k, else 0. What the rows' pass gives

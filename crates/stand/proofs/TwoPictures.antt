@@ -5,10 +5,11 @@ use mathlib.Core.Path.{◌≡◌, refl, sym, ap, ◌∙◌}
 use mathlib.Core.List.{List}
 use lib.Ieee.{Float}
 use Rattle.colour.specs.declared.Settings.{Settings}
-use Rattle.card.specs.declared.Card.{Card}
+use Rattle.card.specs.Card.{Card}
 use Rattle.outline.specs.declared.Outcome.{Outcome}
-use Rattle.outline.specs.declared.Outcome.TheVariants.{Done, Refused}
-use Rattle.outline.specs.Answer.{refusal_of_outcome}
+use Rattle.std.specs.Prelude.{Result, Ok, Err}
+use Rattle.plane.specs.declared.answer.Refusal.{Refusal}
+use Rattle.plane.specs.Refusal.{refusal_of_answer}
 use Rattle.outline.specs.Calls.{Buffers}
 use Rattle.outline.specs.Premises.{TwoCalls}
 use Rattle.keying.proofs.TwoPictures.{one-outline}
@@ -16,9 +17,9 @@ use Rattle.stand.specs.declared.StandCut.{StandCut}
 use Rattle.stand.specs.Exports.{CutReturns, cut_values, SameCut}
 
 -- the number that is handed back is that of the answer
-refusal-handed : (a : Outcome) → (cut_values a).refusal ≡ refusal_of_outcome a
-refusal-handed (Done keyed box) = refl
-refusal-handed (Refused n) = refl
+refusal-handed : (a : Result Outcome Refusal) → (cut_values a).refusal ≡ refusal_of_answer a
+refusal-handed (Ok cut) = refl
+refusal-handed (Err refusal) = refl
 
 -- Demand 3 (R66, R84) for hosts: whatever the buffers held before, two such calls hand back the same number, keyed flag and crop box; and
 -- where they are accepted, both leave the same mask and the same weights, bit for bit. Two calls of stand_cut are on cards without a
@@ -29,7 +30,7 @@ pub exported-alike : (one two : List Float) (alpha : List ℕ) (h w : ℕ) (card
 exported-alike one two alpha h w card card' s t b c b' c' r q calls first second =
     let o = one-outline one two alpha h w card card' s t b c b' c' first.answer second.answer calls first.called second.called in
     let answer = first.answer in
-    let n : r.refusal ≡ refusal_of_outcome answer = ap (λ (z : StandCut). z.refusal) first.returned ∙ refusal-handed answer in
+    let n : r.refusal ≡ refusal_of_answer answer = ap (λ (z : StandCut). z.refusal) first.returned ∙ refusal-handed answer in
     record {
       answers = first.returned ∙ ap cut_values o.answers ∙ sym second.returned;
       masks = λ e. o.masks (sym n ∙ e);

@@ -2,22 +2,18 @@
 // crosses as a pointer and then its length. Each call answers a number, 0 where it is accepted, and is what the call that it names is.
 #![tactic(auto)]
 
-ghost use Rattle.std.specs.Prelude.{◌≡◌};
-ghost use Rattle.geometry.specs.declared.Answer.{Answer};
-ghost use Rattle.geometry.specs.declared.Labelled.{Labelled};
-ghost use Rattle.geometry.specs.Answer.{refusal_of_answer};
+ghost use Rattle.std.specs.Prelude.{◌≡◌, ℕ, Option, Result};
+ghost use Rattle.plane.specs.declared.answer.Refusal.{Refusal};
+ghost use Rattle.plane.specs.Refusal.{refusal_of_answer};
 ghost use Rattle.geometry.specs.Calls.{NearestCalled, LabelsCalled, SquaresCalled, DistanceCalled, FillCalled};
-ghost use Rattle.card.specs.declared.Card.TheVariants.{Border};
-ghost use Rattle.card.specs.Card.{card_of};
-ghost use Rattle.outline.specs.declared.Ground.{Ground};
+ghost use Rattle.card.specs.Card.{Border, card_of};
 ghost use Rattle.keying.specs.Calls.{GroundCalled, GrowthCalled, NextPassCalled};
-ghost use Rattle.next_pass.specs.declared.NextPass.{NextPass};
+ghost use Rattle.colour.specs.declared.Rgb.{Rgb};
 ghost use Rattle.stand.specs.Exports.{Returns, CutReturns, labels_values, ground_values, cut_values, next_pass_values};
 
 use colour::{Rgb, Settings};
-use geometry::Labelled;
-use next_pass::NextPass;
-use outline::{Ground, Outcome};
+use outline::Outcome;
+use plane::answer::{self, Refusal};
 
 // The number of an answer of labels, and the number of parts, 0 where it was declined.
 #[repr(C)]
@@ -57,16 +53,19 @@ pub struct StandNextPass {
 }
 
 // The values of an answer, as they cross.
-fn labels_values(answer: Labelled) -> StandLabels
+fn labels_values(answer: Result<u32, Refusal>) -> StandLabels
     ensures { result ≡ labels_values answer }
 {
     match answer {
-        Labelled::Parts(parts) => StandLabels { refusal: 0, parts },
-        Labelled::Refused(refusal) => StandLabels { refusal, parts: 0 },
+        Ok(parts) => StandLabels { refusal: 0, parts },
+        Err(refusal) => StandLabels {
+            refusal: refusal.into(),
+            parts: 0,
+        },
     }
 }
 
-fn ground_values(answer: Ground) -> StandGround
+fn ground_values(answer: Result<Option<Rgb>, Refusal>) -> StandGround
     ensures { result ≡ ground_values answer }
 {
     let none = Rgb {
@@ -75,38 +74,38 @@ fn ground_values(answer: Ground) -> StandGround
         b: 0.0,
     };
     match answer {
-        Ground::Found(reference) => StandGround {
+        Ok(Some(reference)) => StandGround {
             refusal: 0,
             found: true,
             reference,
         },
-        Ground::Absent => StandGround {
+        Ok(None) => StandGround {
             refusal: 0,
             found: false,
             reference: none,
         },
-        Ground::Refused(refusal) => StandGround {
-            refusal,
+        Err(refusal) => StandGround {
+            refusal: refusal.into(),
             found: false,
             reference: none,
         },
     }
 }
 
-fn cut_values(answer: Outcome) -> StandCut
+fn cut_values(answer: Result<Outcome, Refusal>) -> StandCut
     ensures { result ≡ cut_values answer }
 {
     match answer {
-        Outcome::Done(keyed, crop) => StandCut {
+        Ok(cut) => StandCut {
             refusal: 0,
-            keyed,
-            y0: crop.y0,
-            y1: crop.y1,
-            x0: crop.x0,
-            x1: crop.x1,
+            keyed: cut.keyed,
+            y0: cut.crop.y0,
+            y1: cut.crop.y1,
+            x0: cut.crop.x0,
+            x1: cut.crop.x1,
         },
-        Outcome::Refused(refusal) => StandCut {
-            refusal,
+        Err(refusal) => StandCut {
+            refusal: refusal.into(),
             keyed: false,
             y0: 0,
             y1: 0,
@@ -116,12 +115,15 @@ fn cut_values(answer: Outcome) -> StandCut
     }
 }
 
-fn next_pass_values(answer: NextPass) -> StandNextPass
+fn next_pass_values(answer: Result<u64, Refusal>) -> StandNextPass
     ensures { result ≡ next_pass_values answer }
 {
     match answer {
-        NextPass::Joins(joins) => StandNextPass { refusal: 0, joins },
-        NextPass::Refused(refusal) => StandNextPass { refusal, joins: 0 },
+        Ok(joins) => StandNextPass { refusal: 0, joins },
+        Err(refusal) => StandNextPass {
+            refusal: refusal.into(),
+            joins: 0,
+        },
     }
 }
 
@@ -135,11 +137,11 @@ pub extern "C" fn stand_nearest(
     rows: &mut [i32],
     cols: &mut [i32],
 ) -> u32
-    ensures { Returns refusal_of_answer (λ (a : Answer). NearestCalled mask.now h w
+    ensures { Returns refusal_of_answer (λ (a : Result Unit Refusal). NearestCalled mask.now h w
         work.old rows.old cols.old a
         work.new rows.new cols.new) result }
 {
-    geometry::refusal_of(geometry::feature_transform(mask, h, w, work, rows, cols))
+    answer::refusal_of(geometry::feature_transform(mask, h, w, work, rows, cols))
 }
 
 // geometry::label4
@@ -151,7 +153,7 @@ pub extern "C" fn stand_labels(
     parents: &mut [u32],
     labels: &mut [u32],
 ) -> StandLabels
-    ensures { Returns labels_values (λ (a : Labelled). LabelsCalled mask.now h w
+    ensures { Returns labels_values (λ (a : Result ℕ Refusal). LabelsCalled mask.now h w
         parents.old labels.old a
         parents.new labels.new) result }
 {
@@ -168,11 +170,11 @@ pub extern "C" fn stand_squares(
     work: &mut [u8],
     out: &mut [u8],
 ) -> u32
-    ensures { Returns refusal_of_answer (λ (a : Answer). SquaresCalled mask.now h w iterations
+    ensures { Returns refusal_of_answer (λ (a : Result Unit Refusal). SquaresCalled mask.now h w iterations
         work.old out.old a
         work.new out.new) result }
 {
-    geometry::refusal_of(geometry::binary_dilation8(mask, h, w, iterations, work, out))
+    answer::refusal_of(geometry::binary_dilation8(mask, h, w, iterations, work, out))
 }
 
 // geometry::square_distance
@@ -184,11 +186,11 @@ pub extern "C" fn stand_distance(
     work: &mut [u32],
     out: &mut [u32],
 ) -> u32
-    ensures { Returns refusal_of_answer (λ (a : Answer). DistanceCalled mask.now h w
+    ensures { Returns refusal_of_answer (λ (a : Result Unit Refusal). DistanceCalled mask.now h w
         work.old out.old a
         work.new out.new) result }
 {
-    geometry::refusal_of(geometry::square_distance(mask, h, w, work, out))
+    answer::refusal_of(geometry::square_distance(mask, h, w, work, out))
 }
 
 // geometry::fill_transparent
@@ -201,11 +203,11 @@ pub extern "C" fn stand_fill(
     work: &mut [u32],
     out: &mut [u64],
 ) -> u32
-    ensures { Returns refusal_of_answer (λ (a : Answer). FillCalled colours.now mask.now h w
+    ensures { Returns refusal_of_answer (λ (a : Result Unit Refusal). FillCalled colours.now mask.now h w
         work.old out.old a
         work.new out.new) result }
 {
-    geometry::refusal_of(geometry::fill_transparent(colours, mask, h, w, work, out))
+    answer::refusal_of(geometry::fill_transparent(colours, mask, h, w, work, out))
 }
 
 // keying::subject
@@ -295,7 +297,7 @@ pub extern "C" fn stand_ground(
     work: &mut [u32],
     out: &mut [u8],
 ) -> StandGround
-    ensures { Returns ground_values (λ (a : Ground). GroundCalled colours.now h w Border tolerance
+    ensures { Returns ground_values (λ (a : Result (Option Rgb) Refusal). GroundCalled colours.now h w Border tolerance
         work.old out.old a
         work.new out.new) result }
 {
@@ -313,7 +315,7 @@ pub extern "C" fn stand_ground_with_colour(
     work: &mut [u32],
     out: &mut [u8],
 ) -> StandGround
-    ensures { Returns ground_values (λ (a : Ground). GroundCalled colours.now h w (card_of text.now) tolerance
+    ensures { Returns ground_values (λ (a : Result (Option Rgb) Refusal). GroundCalled colours.now h w (card_of text.now) tolerance
         work.old out.old a
         work.new out.new) result }
 {
@@ -335,7 +337,7 @@ pub extern "C" fn stand_growth(
     marks: &mut [u8],
     out: &mut [u8],
 ) -> u32
-    ensures { Returns refusal_of_answer (λ (a : Answer).
+    ensures { Returns refusal_of_answer (λ (a : Result Unit Refusal).
         GrowthCalled colours.now background.now h w reference passes
         (record {
           out = out.entry.now;
@@ -352,7 +354,7 @@ pub extern "C" fn stand_growth(
           marks = marks.new;
         })) result }
 {
-    geometry::refusal_of(keying::unmix_fringe(
+    answer::refusal_of(keying::unmix_fringe(
         colours, background, h, w, reference, passes, nearest, shallow, deep, marks, out,
     ))
 }
@@ -371,7 +373,7 @@ pub extern "C" fn stand_next_pass(
     marks: &mut [u8],
     out: &mut [u8],
 ) -> StandNextPass
-    ensures { Returns next_pass_values (λ (a : NextPass).
+    ensures { Returns next_pass_values (λ (a : Result ℕ Refusal).
         NextPassCalled colours.now background.now h w reference
         (record {
           out = out.entry.now;

@@ -1,17 +1,21 @@
 -- Reading and writing of decimal numbers: reading what was written gives the number back.
 -- Assumes nothing.
-use mathlib.Core.Path.{◌≡◌, refl, ap, ◌∙◌}
+use mathlib.Core.Path.{◌≡◌, refl, sym, ap, ◌∙◌}
 use mathlib.Core.Bool.{Bool, true, false, cond}
 use mathlib.Core.List.{List, [], ◌∷◌, ◌++◌}
 use mathlib.Core.Logic.{⊎_elim}
-use Prim.Native.Nat.{ℕ, zero, suc, ◌+◌, ◌-◌, ◌*◌, ◌/◌, ◌%◌, ◌^◌, ◌≤◌, ◌<◌}
+use Prim.Native.Nat.{ℕ, zero, suc, ◌+◌, ◌-◌, ◌*◌, ◌/◌, ◌%◌, ◌^◌, ◌≤◌, ◌<◌, min}
 use native.Mathlib.Nat.{add-zero, div-add-mod', pow-succ'}
 use native.Mathlib.Numerals.{add-one}
 use native.Mathlib.Omega.{arith}
 use lib.Dec.{leb}
-use lib.ListN.{length, get_or, take, drop, length-append, get_or-eq_default}
-use lib.Seq.{take-suc, drop-cons}
+use lib.ListN.{length, get_or, take, drop, length-append, drop_of_length-le, get_or-eq_default}
+use lib.Seq.{take-suc, drop-cons, take-take}
 use borrow.Author.Tests.{le-leb, lt-leb, leb-true}
+use Rattle.std.specs.Char.{is_ascii_digit}
+use Rattle.std.specs.List.{prefix_len, take_while}
+use Rattle.std.proofs.lemmas.List.{take_min}
+use Rattle.std.proofs.lemmas.List.Folds.{length-prefix_len}
 use Rattle.plane.proofs.Search.{which, either, and_is}
 use Rattle.plane.proofs.Refusal.{and-true}
 use Rattle.text.specs.Decimal.{is_digit, all_digits, value_from, value_of, digits_upto, decimal_upto, decimal}
@@ -27,10 +31,6 @@ unfolding is_digit
 digit-is b e =
     let a = and-true (leb 48 b) (leb b 57) e in
     record { least = leb-true 48 b a.0; most = leb-true b 57 a.1 }
-
-is_digit_lem : (d : ℕ) → d < 10 → is_digit (48 + d) ≡ true
-unfolding is_digit
-is_digit_lem d l = and_is _ _ (le-leb 48 (48 + d) (omega arith)) (le-leb (48 + d) 57 (omega arith))
 
 module _ (text : List ℕ) where
   -- a digit stands inside the text
@@ -53,13 +53,6 @@ module _ (text : List ℕ) where
       at-most true a b l = omega arith
       at-most false a b l = omega arith
 
-  pub digits_more : (k m at i : ℕ) → k ≡ suc m → is_digit (get_or text (at + i) 0) ≡ true
-      → i + digits_upto k text (at + i) ≡ (i + 1) + digits_upto m text (at + (i + 1))
-  unfolding digits_upto
-  digits_more k m at i e d =
-      let s : suc (at + i) ≡ at + (i + 1) = omega arith in
-      rw (e, d, s) (omega arith)
-
   pub digits-end : (k at : ℕ) → is_digit (get_or text at 0) ≡ false → digits_upto k text at ≡ 0
   unfolding digits_upto
   digits-end zero at d = refl
@@ -68,9 +61,6 @@ module _ (text : List ℕ) where
   pub digits-past : (k at : ℕ) → length text ≤ at → digits_upto k text at ≡ 0
   unfolding is_digit
   digits-past k at l = digits-end k at (ap is_digit (get_or-eq_default text 0 l))
-
-  pub digits-start : (k at : ℕ) → digits_upto k text at ≡ 0 + digits_upto (k - 0) text (at + 0)
-  digits-start k at = let e : k - 0 ≡ k = omega arith in rw (e, add-zero at) (omega arith)
 
   -- what stands there: so many digits, all inside the text
   pub record Stand (k at : ℕ) : Type 0 where
@@ -98,6 +88,33 @@ module _ (text : List ℕ) where
       })
       (λ (d : is_digit (get_or text at 0) ≡ false). record { inside = λ g. absurd (let z : 1 ≤ 0 = rw d at g in omega arith); all = rw d })
       (either (is_digit (get_or text at 0)))
+
+-- they are counted up to the first byte that is none
+digits-front : (most : ℕ) (text : List ℕ) (at : ℕ) → digits_upto most text at ≡ prefix_len is_ascii_digit (take most (drop at text))
+unfolding digits_upto is_digit
+digits-front zero text at = refl
+digits-front (suc most) text at =
+    ⊎_elim {C = digits_upto (suc most) text at ≡ prefix_len is_ascii_digit (take (suc most) (drop at text))}
+    (λ (l : at < length text).
+    let b = get_or text at 0 in
+    let rest = take most (drop (suc at) text) in
+    rw (drop-cons text at 0 l, digits-front most text (suc at))
+    (⊎_elim {C = cond (is_digit b) (suc (prefix_len is_ascii_digit rest)) 0 ≡ prefix_len is_ascii_digit (b ∷ rest)}
+    (λ (d : is_digit b ≡ true). rw d (omega arith))
+    (λ (d : is_digit b ≡ false). rw d)
+    (either (is_digit b))))
+    (λ (l : length text ≤ at). rw (digits-past text (suc most) at l, drop_of_length-le text l))
+    (which at (length text))
+
+pub digits-counted : (most : ℕ) (text : List ℕ) (at n k : ℕ) → n ≡ min most (length (drop at text))
+    → k ≡ length (take_while is_ascii_digit (take n (drop at text))) → k ≡ digits_upto most text at
+digits-counted most text at n k e f =
+    let rest = drop at text in
+    let front : take n rest ≡ take most rest = ap (λ (m : ℕ). take m rest) e ∙ take_min most rest in
+    f
+    ∙ length-prefix_len is_ascii_digit (take n rest)
+    ∙ ap (prefix_len is_ascii_digit) front
+    ∙ sym (digits-front most text at)
 
 -- ---- values
 

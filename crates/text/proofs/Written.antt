@@ -1,14 +1,15 @@
 -- Pieces of text written one after the other.
 -- Assumes nothing.
 use mathlib.Core.Path.{◌≡◌, refl, sym, ap, ◌∙◌}
-use mathlib.Core.List.{List, [], ◌∷◌, ◌++◌}
-use Prim.Native.Nat.{ℕ, suc, ◌+◌, ◌≤◌, ◌<◌}
+use mathlib.Core.List.{List, [], ◌∷◌, ◌++◌, append_assoc}
+use Prim.Native.Nat.{ℕ, suc, ◌+◌, ◌≤◌}
 use native.Mathlib.Nat.{add-zero}
-use native.Mathlib.Numerals.{add-one}
 use native.Mathlib.Omega.{arith}
-use lib.ListN.{length, take, get_or, set, length-append}
-use lib.Seq.{sets, take-suc, length-take-le}
-use Rattle.text.specs.steps.Writing.{Wrote}
+use lib.ListN.{length, take, drop, set, length-append}
+use lib.Seq.{sets, sets-eq, length-sets, drop-drop}
+use borrow.Rule.Slice.PartMut.{put_mid}
+use Rattle.text.specs.declared.Page.{Page}
+use Rattle.text.specs.steps.Writing.{Wrote, Writes}
 
 sets-append : (l : List ℕ) (i : ℕ) (p q : List ℕ) → sets l i (p ++ q) ≡ sets (sets l i p) (i + length p) q
 sets-append l i [] q = ap (λ (k : ℕ). sets l k q) (sym (add-zero i))
@@ -33,13 +34,31 @@ wrote-more {p} {q} {a} {b} {c} {i} {j} {k} x y =
 pub wrote_as : {p q a b : List ℕ} {i j : ℕ} → p ≡ q → Wrote p a b i j → Wrote q a b i j
 wrote_as e x = rw e at x
 
--- a copied text, byte by byte
-pub copy_more : (old text : List ℕ) (at i : ℕ) → i < length text
-    → set (sets old at (take i text)) (at + i) (get_or text i 0) ≡ sets old at (take (i + 1) text)
-copy_more old text at i l =
-    let h : i ≤ length text = omega arith in
-    sym
-    (ap (λ (k : ℕ). sets old at (take k text)) (add-one i)
-    ∙ ap (sets old at) (take-suc text i 0 l)
-    ∙ sets-append old at (take i text) (get_or text i 0 ∷ [])
-    ∙ ap (λ (k : ℕ). set (sets old at (take i text)) (at + k) (get_or text i 0)) (length-take-le i text h))
+wrote-long : {p a b : List ℕ} {i j : ℕ} → Wrote p a b i j → length b ≡ length a
+wrote-long {p} {a} {b} {i} {j} x = ap length x.bytes_are ∙ length-sets a i p
+
+-- pieces on a page
+pub writes : {p : List ℕ} {a b : Page} → b.out.ghost_name ≡ a.out.ghost_name → Wrote p a.out.now b.out.now a.at b.at → Writes p a b
+writes e x = record { same_buffer = e; same_length = wrote-long x; wrote = x }
+
+pub writes_none : {page : Page} → Writes [] page page
+writes_none = record { same_buffer = refl; same_length = refl; wrote = wrote_none }
+
+pub writes-more : {p q : List ℕ} {a b c : Page} → Writes p a b → Writes q b c → Writes (p ++ q) a c
+writes-more x y =
+    record {
+      same_buffer = y.same_buffer ∙ x.same_buffer;
+      same_length = y.same_length ∙ x.same_length;
+      wrote = wrote-more x.wrote y.wrote;
+    }
+
+pub writes_as : {p q : List ℕ} {a b : Page} → p ≡ q → Writes p a b → Writes q a b
+writes_as e x = rw e at x
+
+-- a text copied over a part of the buffer
+pub part-sets : (old text : List ℕ) (at k : ℕ) → k ≡ length text → at + k ≤ length old → put_mid at k old text ≡ sets old at text
+part-sets old text at k e l =
+    let h : at + length text ≤ length old = omega arith in
+    ap (λ (q : List ℕ). take at old ++ (text ++ q)) (drop-drop k at old ∙ ap (λ (m : ℕ). drop (at + m) old) e)
+    ∙ sym (append_assoc (take at old) text (drop (at + length text) old))
+    ∙ sym (sets-eq text old at h)

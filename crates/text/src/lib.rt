@@ -1,10 +1,10 @@
-// Text in a buffer of bytes: decimal numbers read and written, bytes put at a place, and a buffer filled from a reader. A function
-// that writes does so from a place on and answers the place after what it wrote.
+// Text in a buffer of bytes: decimal numbers read and written, a page that texts are written to, and a buffer filled from a reader.
 #![tactic(auto)]
 
-ghost use Rattle.std.specs.Prelude.{◌≡◌, true, [], ◌∷◌, ◌+◌, ◌<◌, ◌≤◌, length, get_or};
-ghost use Rattle.text.specs.Decimal.{is_digit, all_digits, digits_upto, value_of, number_upto, decimal};
-ghost use Rattle.text.specs.steps.Writing.{Wrote};
+ghost use Rattle.std.specs.Prelude.{◌≡◌, true, [], ◌∷◌, ◌+◌, ◌<◌, ◌≤◌, length, get_or, take};
+ghost use Rattle.std.specs.Char.{is_ascii_digit};
+ghost use Rattle.std.specs.List.{take_while};
+ghost use Rattle.text.specs.Decimal.{all_digits, digits_upto, value_of, number_upto, decimal};
 
 use std::io::{ErrorKind, Read};
 
@@ -12,13 +12,14 @@ use std::io::{ErrorKind, Read};
 pub fn byte_at(text: &[u8], at: usize) -> u8
     ensures { result ≡ get_or text.now at 0 }
 {
-    if at < text.len() { text[at] } else { 0 }
+    text.get(at).copied().unwrap_or(0)
 }
 
-fn is_digit(b: u8) -> bool
-    ensures { result ≡ is_digit b }
+// How many digits a text begins with.
+fn leading_digits(text: &[u8]) -> usize
+    ensures { result ≡ length (take_while is_ascii_digit text.now) }
 {
-    (b'0' <= b) & (b <= b'9')
+    text.iter().take_while(|b| b.is_ascii_digit()).count()
 }
 
 // How many digits stand from a place on, at most so many.
@@ -28,22 +29,8 @@ pub fn digits(text: &[u8], at: usize, most: usize) -> usize
     if text.len() < at {
         return 0;
     }
-    let mut i = 0usize;
-    while i < most {
-        if !is_digit(byte_at(text, at + i)) {
-            return i;
-        }
-        i += 1;
-    }
-    i
-}
-
-// A digit's value.
-fn digit(b: u8) -> u64
-    requires { is_digit b ≡ true }
-    ensures { 48 + result ≡ b }
-{
-    (b - b'0') as u64
+    let rest = &text[at..];
+    leading_digits(&rest[..most.min(rest.len())])
 }
 
 // The value of digits.
@@ -52,10 +39,8 @@ fn value(digits: &[u8]) -> u64
     ensures { result ≡ value_of digits.now }
 {
     let mut v = 0u64;
-    let mut i = 0usize;
-    while i < digits.len() {
-        v = 10 * v + digit(digits[i]);
-        i += 1;
+    for b in digits {
+        v = 10 * v + u64::from(*b - b'0');
     }
     v
 }
@@ -72,38 +57,45 @@ pub fn read_number(text: &[u8], at: usize, most: usize) -> u64
     value(&text[at..at + n])
 }
 
-// A byte.
-pub fn put(out: &mut [u8], at: usize, b: u8) -> usize
-    requires { at < length out.old }
-    ensures { Wrote (b ∷ []) out.old out.new at result }
-{
-    out[at] = b;
-    at + 1
+// A page of text: a buffer, and the place in it where the next byte is written.
+#[derive(Drop)]
+pub struct Page<'a> {
+    pub out: &'a mut [u8],
+    pub at: usize,
 }
 
-// A text as it is.
-pub fn copy(out: &mut [u8], at: usize, text: &[u8]) -> usize
-    requires { at + length text.now ≤ length out.old }
-    ensures { Wrote text.now out.old out.new at result }
-{
-    let mut i = 0usize;
-    while i < text.len() {
-        out[at + i] = text[i];
-        i += 1;
-    }
-    at + i
-}
+impl<'a> Page<'a> {
+    ghost use Rattle.text.specs.steps.Writing.{HasRoom, Writes};
 
-// A number in decimal.
-pub fn write_number(out: &mut [u8], at: usize, n: u64) -> usize
-    requires { at + length (decimal n) ≤ length out.old }
-    ensures { Wrote (decimal n) out.old out.new at result }
-{
-    if n < 10 {
-        return put(out, at, b'0' + n as u8);
+    // A byte.
+    pub fn put(&mut self, b: u8)
+        requires { HasRoom self.old 1 }
+        ensures { Writes (b ∷ []) self.old self.new }
+    {
+        self.out[self.at] = b;
+        self.at += 1;
     }
-    let last = write_number(out, at, n / 10);
-    put(out, last, b'0' + (n % 10) as u8)
+
+    // A text as it is.
+    pub fn copy(&mut self, text: &[u8])
+        requires { HasRoom self.old (length text.now) }
+        ensures { Writes text.now self.old self.new }
+    {
+        let end = self.at + text.len();
+        self.out[self.at..end].copy_from_slice(text);
+        self.at = end;
+    }
+
+    // A number in decimal.
+    pub fn number(&mut self, n: u64)
+        requires { HasRoom self.old (length (decimal n)) }
+        ensures { Writes (decimal n) self.old self.new }
+    {
+        if 10 <= n {
+            self.number(n / 10);
+        }
+        self.put(b'0' + (n % 10) as u8);
+    }
 }
 
 // Bytes from a reader, until it ends, a read fails or buf is full; how many. A read that a signal cuts short is made again.
@@ -111,6 +103,7 @@ pub fn read_full<R: Read>(reader: &mut R, buf: &mut [u8]) -> usize
     ensures { result ≤ length buf.new }
 {
     let mut done = 0usize;
+    // A read that a signal cuts short reads nothing, so the number of rounds ends the loop.
     for _ in 0..u64::MAX {
         if buf.len() <= done {
             break;

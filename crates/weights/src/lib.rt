@@ -13,13 +13,9 @@ ghost use Rattle.weights.specs.steps.Weight.{on_weight, weight_for};
 pub fn some_reach(alpha: &[u8], threshold: i64) -> bool
     ensures { result ≡ some_below (length alpha.now) (λ (i : ℕ). on_of (get_or alpha.now i 0) threshold) }
 {
-    let mut found = false;
-    let mut i = 0usize;
-    while i < alpha.len() {
-        found = found | colour::reaches(alpha[i], threshold);
-        i += 1;
-    }
-    found
+    alpha
+        .iter()
+        .fold(false, |found, a| found | colour::reaches(*a, threshold))
 }
 
 // The mask of the alpha that reaches the threshold.
@@ -28,10 +24,8 @@ pub fn reach(alpha: &[u8], threshold: i64, mask: &mut [u8])
     ensures { mask.new ≡ mask_of (length alpha.now)
         (λ (i : ℕ). on_of (get_or alpha.now i 0) threshold) }
 {
-    let mut i = 0usize;
-    while i < mask.len() {
-        mask[i] = plane::byte(colour::reaches(alpha[i], threshold));
-        i += 1;
+    for i in 0..mask.len() {
+        mask[i] = u8::from(colour::reaches(alpha[i], threshold));
     }
 }
 
@@ -39,45 +33,40 @@ pub fn reach(alpha: &[u8], threshold: i64, mask: &mut [u8])
 fn on_weight(alpha: u8) -> f64
     ensures { result ≡ on_weight alpha }
 {
-    if alpha == 0 {
-        return colour::weights::weight(1);
-    }
-    colour::weights::weight(alpha)
+    colour::weights::weight(alpha.max(1))
 }
 
 // The weights of all on-pixels, by alpha.
-fn on_weights(out: &mut [f64])
-    requires { length out.old ≡ 256 }
-    ensures { out.new ≡ table on_weight 0 256 }
+fn on_weights() -> [f64; 256]
+    ensures { result ≡ table on_weight 0 256 }
 {
-    let mut v = 0usize;
-    while v < 256 {
+    let mut out = [0.0; 256];
+    for v in 0..256 {
         out[v] = on_weight(v as u8);
-        v += 1;
     }
+    out
 }
 
 // The weight of a pixel.
-fn weigh(entries: &[f64], m: u8, alpha: u8) -> f64
+fn weigh(entries: &[f64; 256], m: u8, alpha: u8) -> f64
     requires { entries.now ≡ table on_weight 0 256 }
     ensures { result ≡ weight_for m alpha }
 {
     if m == 0 {
-        return 0.0;
+        0.0
+    } else {
+        entries[usize::from(alpha)]
     }
-    entries[alpha as usize]
 }
 
 // The weights of the plane, from the table.
-fn weigh_all(entries: &[f64], mask: &[u8], alpha: &[u8], out: &mut [f64])
+fn weigh_all(entries: &[f64; 256], mask: &[u8], alpha: &[u8], out: &mut [f64])
     requires mask_len { (length mask.now ≡ length out.old) × (length alpha.now ≡ length out.old) }
     requires entries_value { entries.now ≡ table on_weight 0 256 }
     ensures { out.new ≡ weights_of mask.now alpha.now (length out.old) }
 {
-    let mut i = 0usize;
-    while i < out.len() {
+    for i in 0..out.len() {
         out[i] = weigh(entries, mask[i], alpha[i]);
-        i += 1;
     }
 }
 
@@ -86,7 +75,5 @@ pub fn weights(mask: &[u8], alpha: &[u8], out: &mut [f64])
     requires { (length mask.now ≡ length out.old) × (length alpha.now ≡ length out.old) }
     ensures { out.new ≡ weights_of mask.now alpha.now (length out.old) }
 {
-    let mut entries = [0.0f64; 256];
-    on_weights(&mut entries);
-    weigh_all(&entries, mask, alpha, out);
+    weigh_all(&on_weights(), mask, alpha, out);
 }

@@ -1,16 +1,21 @@
 -- Laws of the plane of the nearest pixels' indices.
 -- Assumes nothing.
 use mathlib.Core.Path.{◌≡◌, refl}
+use mathlib.Core.Bool.{Bool, true, false}
 use mathlib.Core.List.{List}
 use mathlib.Core.Option.{Option, none, some}
 use Prim.Native.Nat.{ℕ, ◌*◌, ◌<◌, ◌/◌, ◌%◌}
 use native.Mathlib.Omega.{arith}
 use lib.ListN.{length, get_or}
+use Rattle.std.specs.Bool.{then_some}
+use Rattle.std.specs.Prelude.{Some}
 use Rattle.plane.specs.Plane.{index_of}
 use Rattle.plane.proofs.Plane.{pixel-in, plane-length, plane-index}
 use Rattle.nearest.specs.Nearest.{nearest}
 use Rattle.nearest.specs.steps.Indices.{indices_plane}
 use Rattle.nearest.proofs.Laws.{nearest-some}
+use Rattle.outline.specs.Growth.{is_reach}
+use Rattle.window.specs.steps.Window.{near_pixel}
 
 -- the index of an answer lies in the plane
 pub index-inside : (mask : List ℕ) (h w y x : ℕ) (r : Option (ℕ × ℕ)) → 0 < h * w → nearest mask h w y x ≡ r → index_of w r < h * w
@@ -19,6 +24,17 @@ index-inside mask h w y x none p e = p
 index-inside mask h w y x (some q) p e =
     let n = nearest-some mask h w y x q.0 q.1 e in
     pixel-in q.1 q.0 h w n.row_inside n.column_inside
+
+-- so does a pixel that is near enough
+pub near-inside : (deep : List ℕ) (h w y x b : ℕ) → 0 < h * w → near_pixel deep h w y x ≡ Some b → b < h * w
+unfolding near_pixel
+near-inside deep h w y x b p e =
+    let n = nearest deep h w y x in
+    rw (← chosen (is_reach y x n) (index_of w n) b e) (index-inside deep h w y x n p refl)
+  where
+    chosen : (t : Bool) (a b : ℕ) → then_some t a ≡ Some b → a ≡ b
+    chosen true a b e = cc
+    chosen false a b e = cc
 
 module _ (mask : List ℕ) (h w : ℕ) (wide : 0 < w) where
   pub indices-length : length (indices_plane mask h w) ≡ h * w

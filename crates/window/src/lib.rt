@@ -1,138 +1,142 @@
 // The search of a window: the deep pixel nearest to a pixel, where it is near enough to give its body colour.
 #![tactic(auto)]
 
-ghost use Rattle.std.specs.Prelude.{◌≡◌, cond, ◌+◌, ◌*◌, ◌<◌, ◌≤◌, ◌/◌, ◌%◌, leb, length};
-ghost use Rattle.plane.specs.steps.Sides.{Sides};
+ghost use Rattle.std.specs.Prelude.{◌≡◌, ◌+◌, ◌*◌, ◌<◌, ◌≤◌, ◌/◌, ◌%◌, leb, length, IfNone, IfSome};
+ghost use Rattle.std.specs.Option.{ForSome};
+ghost use Rattle.plane.specs.Plane.{on_at};
+ghost use Rattle.plane.specs.steps.Sides.{longest_side, Sides};
 ghost use Rattle.nearest.specs.Nearest.{away};
 ghost use Rattle.outline.specs.Growth.{body_reach};
-ghost use Rattle.window.specs.steps.Window.{near_pixel, up_on, down_on, Inside, Gap, Searched, Made};
+ghost use Rattle.window.specs.steps.Window.{near_pixel, Cleared, RowFound, Searched, Made};
 
 // One more than the squared distance up to which a deep pixel gives the body colour (body_reach).
 const TOO_FAR: usize = 37;
 
-// Whether the pixel of column i that is e rows above row y is there, and on;
-fn up(deep: &[u8], h: usize, w: usize, y: usize, i: usize, e: usize) -> bool
-    requires { Inside deep.now h w y i }
-    ensures { result ≡ up_on deep.now w y i e }
-{
-    if y < e {
-        return false;
-    }
-    let j = y - e;
-    deep[j * w + i] != 0
+// The deep plane, and its sides.
+#[derive(Clone, Copy)]
+struct Deep<'a> {
+    plane: &'a [u8],
+    h: usize,
+    w: usize,
+    ghost sides: { Sides h w },
+    ghost long: { length plane.now ≡ h * w },
 }
 
-// the same for the pixel e rows below.
-fn down(deep: &[u8], h: usize, w: usize, y: usize, i: usize, e: usize) -> bool
-    requires inside { Inside deep.now h w y i }
-    requires e_bound { e ≤ 7 }
-    ensures { result ≡ down_on deep.now h w y i e }
-{
-    let j = y + e;
-    if h <= j {
-        return false;
+impl<'a> Deep<'a> {
+    // Whether the pixel of row j and column i is on.
+    fn is_on(self, j: usize, i: usize) -> bool
+        requires row { j < self.h }
+        requires column { i < self.w }
+        ensures { result ≡ on_at self.entry.plane.now self.entry.w j i }
+    {
+        self.plane[j * self.w + i] != 0
     }
-    deep[j * w + i] != 0
 }
 
-// How many rows above or below row y column i has its nearest on-pixel; the search ends where the squared distance is no longer
-// less than far.
-fn gap(deep: &[u8], h: usize, w: usize, y: usize, i: usize, across: usize, far: usize) -> usize
-    requires inside { Inside deep.now h w y i }
+// The row of the on-pixel of column i that is nearest to row y, the upper one of two; none where the squared distance, with that of
+// the column, is not less than far. As far is at most 37, the row is at most 6 away.
+fn nearest_row(deep: Deep, y: usize, i: usize, across: usize, far: usize) -> Option<usize>
+    requires row { y < deep.h }
+    requires column { i < deep.w }
     requires across_bound { across ≤ 36 }
     requires far_bound { far ≤ 37 }
-    ensures { Gap deep.now h w y i across far result }
+    ensures none { let d = deep.entry in IfNone result (Cleared d.plane.now d.h d.w y i across far) }
+    ensures found { let d = deep.entry in IfSome result (λ j. RowFound d.plane.now d.h d.w y i across far j) }
 {
-    let mut e = 0usize;
-    while across + e * e < far {
-        if up(deep, h, w, y, i, e) | down(deep, h, w, y, i, e) {
-            return e;
+    for e in 0..7usize {
+        if far <= across + e * e {
+            return None;
         }
-        e += 1;
+        // Both rows are read before one test of the two: that takes less time than a test of each.
+        let above = e <= y && deep.is_on(y - e, i);
+        let below = y + e < deep.h && deep.is_on(y + e, i);
+        if above | below {
+            return Some(if above { y - e } else { y + e });
+        }
     }
-    e
+    None
 }
 
-// The least squared distance found, and where.
-#[derive(Drop)]
+// The squared distance that a pixel has to be nearer than, and the nearest pixel found so far.
+#[derive(Clone, Copy)]
 struct Best {
     far: usize,
-    at: usize,
+    at: Option<usize>,
 }
 
 // Column i is searched.
-fn column(deep: &[u8], h: usize, w: usize, y: usize, x: usize, i: usize, best: Best) -> Best
-    requires inside { Inside deep.now h w y i }
+fn column(deep: Deep, y: usize, x: usize, i: usize, best: Best) -> Best
+    requires row { y < deep.h }
+    requires column { i < deep.w }
     requires i_bound { i ≤ x + 6 }
     requires x_bound { x ≤ i + 6 }
-    requires searched { Searched deep.now h w y x i best.far best.at }
-    ensures { Searched deep.now h w y x (i + 1) result.far result.at }
+    requires searched { Searched deep.plane.now deep.h deep.w y x i best.far best.at }
+    ensures { let d = deep.entry in Searched d.plane.now d.h d.w y x (i + 1) result.far result.at }
 {
-    let d = plane::apart(x, i);
-    let across = d * d;
-    let e = gap(deep, h, w, y, i, across, best.far);
-    let far = across + e * e;
-    if best.far <= far {
-        return best;
-    }
-    if up(deep, h, w, y, i, e) {
-        return Best {
-            far: far,
-            at: (y - e) * w + i,
-        };
-    }
-    Best {
-        far: far,
-        at: (y + e) * w + i,
+    let dx = x.abs_diff(i);
+    match nearest_row(deep, y, i, dx * dx, best.far) {
+        None => best,
+        Some(j) => {
+            let dy = y.abs_diff(j);
+            Best {
+                far: dx * dx + dy * dy,
+                at: Some(j * deep.w + i),
+            }
+        }
     }
 }
 
-// The deep pixel nearest to (y, x) where it is near enough, else h * w: the columns at most 6 away, from the left.
-fn window(deep: &[u8], h: usize, w: usize, y: usize, x: usize) -> usize
-    requires { Inside deep.now h w y x }
-    ensures { result ≡ near_pixel deep.now h w y x }
+// The deep pixel nearest to (y, x) where it is near enough: the columns at most 6 away, from the left.
+fn window(deep: Deep, y: usize, x: usize) -> Option<usize>
+    requires row { y < deep.h }
+    requires column { x < deep.w }
+    ensures { let d = deep.entry in result ≡ near_pixel d.plane.now d.h d.w y x }
 {
-    let from = if x < 6 { 0 } else { x - 6 };
-    let to = if x + 7 < w { x + 7 } else { w };
     let mut best = Best {
         far: TOO_FAR,
-        at: h * w,
+        at: None,
     };
-    let mut i = from;
-    while i < to {
-        best = column(deep, h, w, y, x, i, best);
-        i += 1;
+    for i in x.saturating_sub(6)..deep.w.min(x + 7) {
+        best = column(deep, y, x, i, best);
     }
     best.at
 }
 
-// Pixel b where it is near enough to (y, x), else h * w.
-fn reached(h: usize, w: usize, y: usize, x: usize, b: usize) -> usize
-    requires sides { Sides h w }
-    requires inside { (y < h) × (x < w) × (b < h * w) }
-    ensures { result ≡ cond (leb (away y x (b / w) (b % w)) body_reach) b (h * w) }
+// Whether the pixel of row j and column i is near enough to (y, x).
+fn is_near(y: usize, x: usize, j: usize, i: usize) -> bool
+    requires y_bound { y ≤ longest_side }
+    requires x_bound { x ≤ longest_side }
+    requires j_bound { j ≤ longest_side }
+    requires i_bound { i ≤ longest_side }
+    ensures { result ≡ leb (away y x j i) body_reach }
 {
-    let dy = plane::apart(y, b / w);
-    let dx = plane::apart(x, b % w);
-    if dy * dy + dx * dx < TOO_FAR {
-        return b;
-    }
-    h * w
+    let dy = y.abs_diff(j);
+    let dx = x.abs_diff(i);
+    dy * dy + dx * dx < TOO_FAR
 }
 
-// The deep pixel nearest to pixel i where it is near enough, else h * w: from the plane of the nearest deep pixels where that
-// is made, else by the search of the window.
-pub fn near_pixel(deep: &[u8], nearest: &[u32], made: bool, h: usize, w: usize, i: usize) -> usize
+// The deep pixel nearest to pixel i where it is near enough: from the plane of the nearest deep pixels where that is made, else by
+// the search of the window.
+pub fn near_pixel(
+    deep: &[u8],
+    nearest: Option<&[u32]>,
+    h: usize,
+    w: usize,
+    i: usize,
+) -> Option<usize>
     requires sides { Sides h w }
     requires deep_len { length deep.now ≡ h * w }
-    requires made { Made deep.now nearest.now made h w }
+    requires made { ForSome nearest (λ plane. Made deep.now plane.now h w) }
     requires i_bound { i < h * w }
     ensures { result ≡ near_pixel deep.now h w (i / w) (i % w) }
 {
     let y = i / w;
     let x = i % w;
-    if made {
-        return reached(h, w, y, x, plane::wide(nearest[i]));
+    match nearest {
+        Some(plane) => {
+            let b = plane[i] as usize;
+            is_near(y, x, b / w, b % w).then_some(b)
+        }
+        None => window(Deep { plane: deep, h, w }, y, x),
     }
-    window(deep, h, w, y, x)
 }

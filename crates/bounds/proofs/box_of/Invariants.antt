@@ -1,11 +1,7 @@
 -- `bounds::box_of` meets its contract. The loop's invariant: y0, x0 and x1 are the edges of the rows before y.
 -- Assumes nothing.
-use Prim.Native.Nat.{◌-◌, ◌≤◌}
 use Rattle.bounds.proofs.Rows.{Edges}
 use Rattle.bounds.proofs.box_of.Given as goal
 
 abbrev pub invariant-loop-y : goal.invariant-loop-y
-invariant-loop-y l = (l.y ≤ l.h) × Edges l.mask l.w l.y l.y0 l.x0 l.x1
-
-abbrev pub decreases-loop-y : goal.decreases-loop-y
-decreases-loop-y l = l.h - l.y
+invariant-loop-y l = Edges l.mask l.w l.y l.y0 l.x0 l.x1

@@ -1,39 +1,22 @@
--- `bounds::first` meets its contract. The loop's invariant: no pixel before i is on.
+-- `bounds::first` meets its contract.
 -- Assumes nothing.
-use mathlib.Core.Path.{◌≡◌, sym, ◌∙◌}
-use native.Mathlib.Omega.{arith}
-use lib.ListN.{length}
-use borrow.Author.Rules.{rules}
-use borrow.Author.Count.{below_none, below_more}
+use Rattle.std.proofs.Common.{not, eqb, length, sym, ap, ◌∙◌, rules, tests, unwrap_or}
+use Rattle.std.proofs.lemmas.Iterator.{YieldsList-from_slice}
+use Rattle.std.proofs.lemmas.Iterator.Search.{position_from_yields_List}
+use Rattle.plane.specs.Plane.{on}
+use Rattle.plane.specs.Mask.{is_on}
 use Rattle.plane.proofs.Search.{none_found}
-use Rattle.plane.proofs.Bounds.{first_is, first-none}
-use Rattle.bounds.proofs.Rows.{byte-on, byte-off}
+use Rattle.plane.proofs.Bounds.{first-none}
+use Rattle.bounds.proofs.Rows.{first_position}
 use Rattle.bounds.proofs.first.Goals as goal
 
 pub returns-then-not-any : goal.returns-then-not-any
 returns-then-not-any c = sym (first-none _ _ (none_found _ _ (sym c.any.ensures ∙ c.if-not-any.true)))
 
-pub returns-then-line-i-ne0 : goal.returns-then-line-i-ne0
-returns-then-line-i-ne0 c =
-    let l = c.loop-i in
-    sym (first_is _ _ _ (record { inside = omega arith; holds = byte-on _ _ c.if-line-i-ne0.true; before = l.invariant.1 }))
-
-pub loop-i-preserved : goal.loop-i-preserved
-loop-i-preserved c =
-    let l = c.loop-i in
-    (omega arith, below_more _ _ l.invariant.1 (byte-off _ _ c.if-line-i-ne0.false))
-
 pub returns : goal.returns
+unfolding is_on on
 returns c =
-    let l = c.loop-i in
     let line = c.args.line.now in
-    let e : l.i ≡ length line = omega arith in
-    e ∙ sym (first-none _ _ (λ k g. l.invariant.1 k (omega arith)))
-
-pub any-requires : goal.any-requires
-any-requires c =
-    (search rules)
-
-pub loop-i-init : goal.loop-i-init
-loop-i-init c =
-    (omega arith, below_none _)
+    let found = position_from_yields_List (λ b. not (eqb b 0)) _ _ c.position.result c.position.ensures.ran (YieldsList-from_slice line cc)
+    (λ x b q k. search (rules, tests)) in
+    c.unwrap_or.ensures ∙ ap (λ o. unwrap_or o (length line)) found ∙ first_position _ line

@@ -1,13 +1,9 @@
 -- `bounds::last_row` meets its contract. The loop's invariant: the last row is that of the first y rows.
 -- Assumes nothing.
-use mathlib.Core.Path.{◌≡◌}
-use Prim.Native.Nat.{◌≤◌}
+use Rattle.std.proofs.Common.{◌≡◌}
 use Rattle.plane.specs.Search.{last_below}
 use Rattle.plane.specs.Box.{row_has}
 use Rattle.bounds.proofs.last_row.Given as goal
 
 abbrev pub invariant-loop-y : goal.invariant-loop-y
-invariant-loop-y l = (l.y ≤ l.h) × (last_below l.h (row_has l.mask l.w) ≡ last_below l.y (row_has l.mask l.w))
-
-abbrev pub decreases-loop-y : goal.decreases-loop-y
-decreases-loop-y l = l.y
+invariant-loop-y l = last_below l.h (row_has l.mask l.w) ≡ last_below l.y (row_has l.mask l.w)

@@ -1,46 +1,26 @@
--- `card::all_hex` meets its contract. The invariant is of what is left: all are digits where the rest is.
+-- `card::all_hex` meets its contract.
 -- Assumes nothing.
-use mathlib.Core.Path.{◌≡◌, refl, ap, sym, ◌∙◌}
-use mathlib.Core.Bool.{true, false, ◌&&◌}
-use mathlib.Core.List.{List}
-use Prim.Native.Nat.{ℕ, ◌+◌, ◌<◌}
-use native.Mathlib.Numerals.{add-one}
-use native.Mathlib.Omega.{arith}
-use lib.Dec.{leb}
-use lib.ListN.{length, get_or, drop, drop_of_length-le}
-use lib.Seq.{drop-cons}
-use borrow.Author.Tests.{le-leb, lt-leb}
+use Rattle.std.proofs.Common.{◌≡◌, ℕ, Bool, true, false, leb, List, [], ◌∷◌, refl, ◌∙◌, rules, tests}
+use Rattle.std.specs.Bool.{then_some}
+use Rattle.std.specs.List.{list_all}
+use Rattle.std.specs.Prelude.{is_some}
+use Rattle.std.proofs.lemmas.Iterator.{YieldsList-from_slice}
+use Rattle.std.proofs.lemmas.Iterator.Search.{all_from_yields_List}
 use Rattle.card.specs.Hex.{hex_of, all_hex}
 use Rattle.card.proofs.all_hex.Goals as goal
 
--- the rest begins with the byte at i
-rest : (l : List ℕ) (i : ℕ) → i < length l → all_hex (drop i l) ≡ leb (hex_of (get_or l i 0)) 15 && all_hex (drop (i + 1) l)
+all_is : (text : List ℕ) → list_all (λ b. leb (hex_of b) 15) text ≡ all_hex text
 unfolding all_hex
-rest l i h = rw (add-one i, drop-cons l i 0 h)
+all_is [] = refl
+all_is (b ∷ text) = rw (all_is text)
 
-pub returns-then-hex-gt15 : goal.returns-then-hex-gt15
-returns-then-hex-gt15 c =
-    let l = c.loop-i in
-    let v = c.args.text.now in
-    let known : c.hex.result ≡ hex_of (get_or v l.i 0) = c.hex.ensures in
-    let bad : leb (hex_of (get_or v l.i 0)) 15 ≡ false = lt-leb (hex_of (get_or v l.i 0)) 15 (omega (arith, known, c.if-hex-gt15.true)) in
-    sym (l.invariant.1 ∙ rest v l.i (omega arith) ∙ rw bad)
-
-pub loop-i-preserved : goal.loop-i-preserved
-loop-i-preserved c =
-    let l = c.loop-i in
-    let v = c.args.text.now in
-    let known : c.hex.result ≡ hex_of (get_or v l.i 0) = c.hex.ensures in
-    let good : leb (hex_of (get_or v l.i 0)) 15 ≡ true = le-leb (hex_of (get_or v l.i 0)) 15 (omega (arith, known, c.if-hex-gt15.false)) in
-    (omega arith, l.invariant.1 ∙ rest v l.i (omega arith) ∙ rw good)
+-- a value is there where the test holds
+told : (t : Bool) (v : ℕ) → is_some (then_some t v) ≡ t
+told true v = refl
+told false v = refl
 
 pub returns : goal.returns
-unfolding all_hex
 returns c =
-    let l = c.loop-i in
-    let v = c.args.text.now in
-    sym (l.invariant.1 ∙ ap all_hex (drop_of_length-le v {i = l.i} (omega arith)))
-
-pub loop-i-init : goal.loop-i-init
-loop-i-init c =
-    (omega arith, refl)
+    let t = c.args.text.now in
+    all_from_yields_List (λ b. leb (hex_of b) 15) _ _ c.all.result c.all.ensures.ran (YieldsList-from_slice t cc) (λ x b q k. search (rules, tests, told))
+    ∙ all_is t

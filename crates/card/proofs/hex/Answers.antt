@@ -1,49 +1,31 @@
 -- `card::hex` meets its contract.
 -- Assumes nothing.
-use mathlib.Core.Path.{◌≡◌}
-use mathlib.Core.Bool.{true}
-use Prim.Native.Nat.{ℕ, ◌≤◌}
-use native.Mathlib.Omega.{arith}
-use lib.Dec.{leb}
-use borrow.Author.Tests.{leb-true}
-use Rattle.plane.proofs.Refusal.{and-true}
-use Rattle.card.specs.Hex.{is_from, hex_of}
-use Rattle.card.proofs.hex.Reads as reads
-use Rattle.card.proofs.hex.Lts as lts
+use Rattle.std.proofs.Common.{◌≡◌, ℕ, ◌<◌, ◌≤◌, leb, Option, Some, None, ⊎_elim, arith}
+use Rattle.std.specs.Bool.{then_some}
+use Rattle.std.specs.Option.{SomeIff}
+use Rattle.std.specs.Char.{digit_value}
+use Rattle.std.proofs.lemmas.Bool.Decides.{nat_tests}
+use borrow.Author.Tests.{le-leb}
+use Rattle.plane.proofs.Search.{which}
+use Rattle.card.specs.Hex.{hex_of}
 use Rattle.card.proofs.hex.Goals as goal
 
-abbrev At-Then2 : Type 0
-At-Then2 = lts.Then2 reads.Pre reads.Post
-
-abbrev At-Then3 : Type 0
-At-Then3 = lts.Then3 reads.Pre reads.Post
-
--- a byte from one to another is not below the first
-from : (first last b : ℕ) → is_from first last b ≡ true → first ≤ b
-from first last b e = leb-true first b (and-true (leb first b) (leb b last) e).0
-
-capital : (c : At-Then2) → 65 ≤ c.args.b
-capital c = from 65 70 c.args.b c.if-b-2.true
-
-small : (c : At-Then3) → 97 ≤ c.args.b
-small c = from 97 102 c.args.b c.if-b-3.true
-
-pub returns-then-b : goal.returns-then-b
+-- a digit's value is the library's, and where the library has none it is 16
+same : (b : ℕ) → digit_value b < 16 → hex_of b ≡ digit_value b
 unfolding hex_of
-returns-then-b c = rw c.if-b.true
+same b l = grind (arith, nat_tests)
 
-pub returns-then-b-2 : goal.returns-then-b-2
+beyond : (b : ℕ) → 16 ≤ digit_value b → hex_of b ≡ 16
 unfolding hex_of
-returns-then-b-2 c = rw (c.if-b.false, c.if-b-2.true) (omega (arith, capital c))
+beyond b l = grind (arith, nat_tests)
 
-pub returns-then-b-3 : goal.returns-then-b-3
-unfolding hex_of
-returns-then-b-3 c = rw (c.if-b.false, c.if-b-2.false, c.if-b-3.true) (omega (arith, small c))
+tells : (r : Option ℕ) (v n : ℕ) → SomeIff r (v < 16) v → (v < 16 → n ≡ v) → (16 ≤ v → n ≡ 16) → r ≡ then_some (leb n 15) n
+tells None v n small s o =
+    ⊎_elim {C = None ≡ then_some (leb n 15) n}
+    (λ (l : v < 16). absurd (small l))
+    (λ (l : 16 ≤ v). rw (o l))
+    (which v 16)
+tells (Some x) v n small s o = rw (s small.0, small.1, le-leb v 15 (omega (arith, small.0)))
 
 pub returns : goal.returns
-unfolding hex_of
-returns c = rw (c.if-b.false, c.if-b-2.false, c.if-b-3.false)
-
-pub overflow_sub-result : goal.overflow_sub-result
-overflow_sub-result c =
-    from 48 57 c.args.b c.if-b.true
+returns c = let b = c.args.b in tells c.to_digit.result (digit_value b) (hex_of b) c.to_digit.ensures.value (same b) (beyond b)

@@ -1,9 +1,16 @@
 -- `colour::is_finite` meets its contract.
 -- Assumes nothing.
-use lib.Ieee.{of_bits}
-use Rattle.colour.proofs.Zero.{finite-test}
+use Rattle.std.proofs.Common.{◌≡◌, refl, ◌∙◌}
+use Rattle.std.specs.Float.{nan, inf, fin, float_is_finite}
+use Rattle.std.specs.Float.Ieee.{Float}
+use Rattle.std.specs.Float.Ieee.Scale.{finite}
 use Rattle.colour.proofs.is_finite.Goals as goal
 
+same : (x : Float) → float_is_finite x ≡ finite x
+unfolding float_is_finite
+same nan = refl
+same (inf s) = refl
+same (fin s m e) = refl
+
 pub returns : goal.returns
-unfolding of_bits
-returns c = finite-test c.args.x
+returns c = c.is_finite.ensures.value ∙ same c.args.x

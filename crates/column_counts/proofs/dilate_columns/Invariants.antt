@@ -1,11 +1,7 @@
 -- `column_counts::dilate_columns` meets its contract. The loop's invariant: the columns before column c are written.
 -- Assumes nothing.
-use Rattle.std.proofs.Common.{◌-◌, ◌≤◌}
-use Rattle.column_counts.specs.steps.Columns.{Swept}
+use Rattle.column_counts.specs.steps.Strip.{Swept}
 use Rattle.column_counts.proofs.dilate_columns.Given as goal
 
 abbrev pub invariant-loop-c : goal.invariant-loop-c
-invariant-loop-c l = (l.c ≤ l.w) × Swept l.plane l.h l.w l.k l.c l.c 0 l.out
-
-abbrev pub decreases-loop-c : goal.decreases-loop-c
-decreases-loop-c l = l.w - l.c
+invariant-loop-c l = Swept l.plane l.h l.w l.k l.c l.c 0 l.out

@@ -3,6 +3,8 @@
 use Rattle.std.specs.Prelude.{◌≡◌, ℕ, ◌+◌, ◌-◌, ◌%◌, ◌<◌, ◌≤◌, Bool, cond, List, length, slice_index}
 use Rattle.plane.specs.Plane.{table}
 use Rattle.plane.specs.Mask.{is_on}
+use Rattle.counts.specs.declared.Change.{Change}
+use Rattle.counts.specs.declared.Change.TheVariants.{Enters, Leaves}
 
 -- the byte and the rest of a count n where they are balanced: as much of it as is at most 128, and what is above that
 abbrev pub full_byte : ℕ → ℕ
@@ -20,6 +22,11 @@ pub record Split (value t low rest : ℕ) : Type 0 where
 -- a byte changed, modulo 256: 255 is one less
 unfoldable pub changed : ℕ → Bool → ℕ → ℕ
 changed low moves change = (low + cond moves change 0) % 256
+
+-- by how much a pixel that is on changes a byte
+abbrev pub step_by : Change → ℕ
+step_by Enters = 1
+step_by Leaves = 255
 
 -- what changes a byte where pixels enter and leave at once
 abbrev pub step_of : Bool → Bool → ℕ

@@ -1,45 +1,48 @@
 -- `cutfile::cutcard` meets its contract.
 -- Assumes nothing.
-use mathlib.Core.Path.{sym, ap, ◌∙◌}
+use mathlib.Core.Path.{◌≡◌, sym, ap, ◌∙◌}
 use borrow.Author.Tests.{lt-leb}
+use native.Mathlib.Omega.{arith}
+use Rattle.std.proofs.Common.{Option}
+use Rattle.plane.specs.Refusal.{number_of}
+use Rattle.plane.proofs.Refusal.{number-some}
 use Rattle.pam_header.specs.declared.Header.{Header}
+use Rattle.pam_header.specs.Header.{header_of}
+use Rattle.pam.specs.steps.File.{file_refusal}
+use Rattle.pbm.proofs.Lengths.{refusal-short}
 use Rattle.cutfile.specs.Cutcard.{most_text, text_under}
 use Rattle.cutfile.proofs.Texts.{card-declined, card-picture, file-small, whole}
-use native.Mathlib.Omega.{arith}
-use Rattle.pbm.proofs.Lengths.{refusal-short}
 use Rattle.cutfile.proofs.cutcard.Goals as goal
 
 pub returns-then-out-lt-MOST_TEXT : goal.returns-then-out-lt-MOST_TEXT
 returns-then-out-lt-MOST_TEXT c =
     record { answer = rw (lt-leb most_text _ c.if-out-lt-MOST_TEXT.true); out_is = rw (lt-leb most_text _ c.if-out-lt-MOST_TEXT.true) }
 
-pub write_refusal-requires : goal.write_refusal-requires
-write_refusal-requires c =
-    let n = c.file_refusal-refusal in
-    let input = c.args.input.now in
-    let short = refusal-short n.result (omega (arith, n.ensures, file-small c.read_header-header.result input)) in
-    omega (arith, short, c.if-out-lt-MOST_TEXT.false)
-
--- the header that was read is that of the input
-pub returns-then-refusal-ne0 : goal.returns-then-refusal-ne0
-returns-then-refusal-ne0 c =
-    let input = c.args.input.now in
-    let card =
-    card-declined c.read_header-header.result input c.file_refusal-refusal.result c.file_refusal-refusal.ensures c.if-refusal-ne0.true in
-    whole _ _ _ _ _ (omega (arith, c.if-out-lt-MOST_TEXT.false)) (card ∙ ap (λ (h : Header). text_under h input) c.read_header-header.ensures)
-    c.write_refusal.ensures
-
 pub write_picture-requires : goal.write_picture-requires
 write_picture-requires c =
-    (c.read_header-header.ensures, sym c.file_refusal-refusal.ensures ∙ c.if-refusal-ne0.false, omega (arith, c.if-out-lt-MOST_TEXT.false))
+    let e = c.in-Ok.ensures in
+    let passed = ap (λ (h : Option Header). file_refusal h c.args.input.now) e.header ∙ sym e.number in
+    (e.header, passed, c.if-out-lt-MOST_TEXT.false)
 
-pub returns : goal.returns
-returns c =
+pub write_refusal-requires : goal.write_refusal-requires
+write_refusal-requires c =
     let input = c.args.input.now in
-    let card = card-picture c.read_header-header.result input (sym c.file_refusal-refusal.ensures ∙ c.if-refusal-ne0.false) in
-    whole _ _ _ _ _ (omega (arith, c.if-out-lt-MOST_TEXT.false)) (card ∙ ap (λ (h : Header). text_under h input) c.read_header-header.ensures)
+    let short = refusal-short (number_of c.in-Err.refusal) (omega (arith, c.in-Err.ensures.number, file-small input (header_of input))) in
+    rw c.into.ensures (omega (arith, short, c.if-out-lt-MOST_TEXT.false))
+
+pub returns-in-Ok : goal.returns-in-Ok
+returns-in-Ok c =
+    let input = c.args.input.now in
+    let e = c.in-Ok.ensures in
+    let passed = ap (λ (h : Option Header). file_refusal h input) e.header ∙ sym e.number in
+    let card = card-picture c.in-Ok.header input passed in
+    whole _ _ _ _ _ (omega (arith, c.if-out-lt-MOST_TEXT.false)) (card ∙ ap (λ (h : Option Header). text_under h input) e.header)
     c.write_picture.ensures
 
-pub file_refusal-refusal-requires : goal.file_refusal-refusal-requires
-file_refusal-refusal-requires c =
-    c.read_header-header.ensures
+pub returns-in-Err : goal.returns-in-Err
+returns-in-Err c =
+    let input = c.args.input.now in
+    let n = number_of c.in-Err.refusal in
+    let some : n ≡ 0 → ⊥ = λ e. (let s = number-some c.in-Err.refusal in omega arith) in
+    whole _ _ _ _ _ (omega (arith, c.if-out-lt-MOST_TEXT.false)) (card-declined input (header_of input) n c.in-Err.ensures.number some)
+    (rw c.into.ensures at c.write_refusal.ensures)

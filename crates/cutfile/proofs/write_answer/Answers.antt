@@ -9,19 +9,19 @@ pub write_mask-requires : goal.write_mask-requires
 write_mask-requires c =
     record {
       mask_len = c.requires.mask_len;
-      out_len = rw c.in-Done.is at c.requires.out_len;
+      out_len = rw c.in-Ok.is at c.requires.out_len;
     }
 
 pub write_refusal-requires : goal.write_refusal-requires
 write_refusal-requires c =
-    rw c.in-Refused.is at c.requires.out_len
+    rw c.into.ensures (rw c.in-Err.is at c.requires.out_len)
 
-pub returns-in-Done : goal.returns-in-Done
-returns-in-Done c =
+pub returns-in-Ok : goal.returns-in-Ok
+returns-in-Ok c =
     let a = c.args in
-    wrote_as (sym (ap (answer_text a.mask.now a.h a.w) c.in-Done.is)) c.write_mask.ensures
+    wrote_as (sym (ap (answer_text a.mask.now a.h a.w) c.in-Ok.is)) c.write_mask.ensures
 
-pub returns-in-Refused : goal.returns-in-Refused
-returns-in-Refused c =
+pub returns-in-Err : goal.returns-in-Err
+returns-in-Err c =
     let a = c.args in
-    wrote_as (sym (ap (answer_text a.mask.now a.h a.w) c.in-Refused.is)) c.write_refusal.ensures
+    wrote_as (sym (ap (answer_text a.mask.now a.h a.w) c.in-Err.is)) (rw c.into.ensures at c.write_refusal.ensures)

@@ -1,5 +1,6 @@
 -- `cutfile::write_picture` meets its contract.
 -- Assumes nothing.
+use mathlib.Core.Path.{sym}
 use Prim.Native.Nat.{◌*◌, ◌≤◌}
 use native.Mathlib.Omega.{arith}
 use mir.Facts.{Fits-le, Fits-lit}
@@ -26,7 +27,7 @@ module _ (c : At-Start) where
   header = c.args.header
 
   known : Small header
-  known = rw c.requires.0 (header-small c.args.input.now)
+  known = header-small c.args.input.now header (sym c.requires.0)
 
   passed : FileOk header c.args.input.now
   passed = file-ok header c.args.input.now c.requires.1
@@ -35,7 +36,7 @@ module _ (c : At-Start) where
   few = passed.few
 
   sides : SidesOk header.height header.width
-  sides = sides-of header known passed.header_ok passed.few
+  sides = sides-of header known passed.few
 
 -- where the call began, from where the parts of the buffers are taken
 begun : At-After-alpha → At-Start

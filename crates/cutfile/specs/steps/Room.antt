@@ -1,10 +1,10 @@
 -- What the inner functions need and ensure.
 -- Assumes nothing.
-use Rattle.std.specs.Prelude.{ℕ, ◌+◌, ◌*◌, ◌≤◌, ◌≡◌, cond, List, [], ◌∷◌, eqb, length, Float}
-use Rattle.plane.specs.Refusal.{refusal_of, room_for}
+use Rattle.std.specs.Prelude.{ℕ, ◌+◌, ◌*◌, ◌≤◌, ◌≡◌, cond, List, [], ◌∷◌, eqb, length, Float, Result, Ok, Err}
+use Rattle.plane.specs.declared.answer.Refusal.{Refusal}
+use Rattle.plane.specs.Refusal.{refusal_of, room_for, number_of}
 use Rattle.pam.specs.Picture.{most_pixels}
 use Rattle.outline.specs.declared.Outcome.{Outcome}
-use Rattle.outline.specs.declared.Outcome.TheVariants as outcome
 use Rattle.pbm.specs.Text.{crop_lines, size_line, mask_text, refusal_text}
 use Rattle.cutfile.specs.Cutcard.{alpha_test, cut_text, most_text}
 
@@ -18,13 +18,13 @@ picture_text colours alpha h w =
     cond (eqb (alpha_refusal alpha) 0) (cut_text colours alpha h w) (refusal_text (alpha_refusal alpha))
 
 -- the text of an answer of the cut, with the mask that it left, and how long it may be
-abbrev pub answer_text : List ℕ → ℕ → ℕ → Outcome → List ℕ
-answer_text mask h w (outcome.Done keyed box) = mask_text mask h w box keyed
-answer_text mask h w (outcome.Refused n) = refusal_text n
+abbrev pub answer_text : List ℕ → ℕ → ℕ → Result Outcome Refusal → List ℕ
+answer_text mask h w (Ok cut) = mask_text mask h w cut.crop cut.keyed
+answer_text mask h w (Err refusal) = refusal_text (number_of refusal)
 
-abbrev pub answer_length : ℕ → ℕ → Outcome → ℕ
-answer_length h w (outcome.Done keyed box) = length (crop_lines box keyed) + length (size_line h w) + 2 * (h * w)
-answer_length h w (outcome.Refused n) = length (refusal_text n)
+abbrev pub answer_length : ℕ → ℕ → Result Outcome Refusal → ℕ
+answer_length h w (Ok cut) = length (crop_lines cut.crop cut.keyed) + length (size_line h w) + 2 * (h * w)
+answer_length h w (Err refusal) = length (refusal_text (number_of refusal))
 
 -- a picture that is small enough, and buffers for it, by their lengths
 pub record Room (h w colours alpha nearest shallow deep marks mask weights out : ℕ) : Type 0 where

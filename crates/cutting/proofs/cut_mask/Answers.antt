@@ -41,7 +41,7 @@ reference_on-reference-requires c =
     let k = c.requires.key_room in
     record {
       picture = record { sides = k.sides; input = k.colours_long; range = k.range; room = k.nearest_long };
-      card_in_range = search rules;
+      given_in_range = search rules;
     }
 
 pub key-requires : goal.key-requires

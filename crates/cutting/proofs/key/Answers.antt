@@ -30,7 +30,7 @@ pub returns-in_default : goal.returns-in_default
 unfolding keyed_plane
 returns-in_default c =
     let call = c.ground_from-answer in
-    let no = not_found _ _ _ _ _ call.result call.ensures.value c.in_default.not-Found in
+    let no = not_found _ _ _ _ _ call.result call.ensures.value c.in_default.not-Some in
     let zeros = call.ensures.out_after ∙ absent-plane _ _ _ _ _ no in
     rw no record {
       value = refl;
@@ -55,7 +55,7 @@ unfolding keyed_plane complement_of
 returns c =
     let a = c.args in
     let call = c.ground_from-answer in
-    let yes = was-found _ _ _ _ _ _ (sym call.ensures.value ∙ c.in-Found.is) in
+    let yes = was-found _ _ _ _ _ _ (sym call.ensures.value ∙ c.in-Some.is) in
     let ground = ground_of a.colours.now a.h a.w a.given a.tolerance in
     let plane : call.new.out ≡ ground = call.ensures.out_after ∙ found-plane _ _ _ _ _ yes.0 in
     let g = growth_of a.colours.now a.given a.h a.w a.passes ground in

@@ -1,7 +1,8 @@
 -- The flood from the border, which the contracts of its functions cite.
 -- The plane holds 0 where a pixel is not close, 1 where it is and no step came yet, 2 where it is ground.
 -- Assumes nothing.
-use Rattle.std.specs.Prelude.{◌≡◌, ℕ, ◌+◌, ◌-◌, ◌*◌, ◌%◌, ◌<◌, ◌≤◌, Bool, cond, List, [], ◌∷◌, length, ◌==◌, nat_eq, nat_le, nat_lt, slice_index, slice_set}
+use Rattle.std.specs.Prelude.{◌≡◌, ℕ, ◌+◌, ◌-◌, ◌*◌, ◌%◌, ◌<◌, ◌≤◌, Option, Some, None, cond, List, [], ◌∷◌, length, ◌==◌, nat_eq, nat_le, nat_lt, slice_index, slice_set}
+use Rattle.std.specs.Bool.{then_some}
 use Rattle.plane.specs.Plane.{bit, table}
 use Rattle.plane.specs.steps.Sides.{longest_side, Sides}
 use Rattle.plane.specs.Search.{count_below}
@@ -23,9 +24,10 @@ pushed q s = state (s.top + 1) (slice_set s.stack s.top q) (slice_set s.plane q 
 unfoldable pub visited : ℕ → State → State
 visited q s = cond (slice_index s.plane q == 1) (pushed q s) s
 
--- the same, if the plane has such a pixel
-unfoldable pub visit_if : Bool → ℕ → State → State
-visit_if has q s = cond has (visited q s) s
+-- the same, if there is such a pixel
+unfoldable pub visit_if : Option ℕ → State → State
+visit_if None s = s
+visit_if (Some q) s = visited q s
 
 -- the pixels of a list are visited, one after the other
 unfoldable pub seeded : List ℕ → State → State
@@ -35,8 +37,10 @@ seeded (q ∷ l) s = seeded l (visited q s)
 -- the pixels above, below, to the left and to the right of p are visited, in a plane of `area` pixels with w columns
 unfoldable pub spread_from : ℕ → ℕ → ℕ → State → State
 spread_from w area p s =
-    visit_if (nat_lt (p % w) (w - 1)) (p + 1)
-    (visit_if (nat_lt 0 (p % w)) (p - 1) (visit_if (nat_lt (p + w) area) (p + w) (visit_if (nat_le w p) (p - w) s)))
+    visit_if (then_some (nat_lt (p % w) (w - 1)) (p + 1))
+    (visit_if (then_some (nat_lt 0 (p % w)) (p - 1))
+    (visit_if (then_some (nat_lt (p + w) area) (p + w))
+    (visit_if (then_some (nat_le w p) (p - w)) s)))
 
 -- the pixel on top of the stack, and the state without it
 abbrev pub on_top : State → ℕ

@@ -1,31 +1,26 @@
 -- `geometry::feature_transform` meets its contract.
 -- Assumes nothing.
-use mathlib.Core.Path.{refl, sym, ap, ◌∙◌}
-use Rattle.plane.proofs.Refusal.{written, kept}
-use Rattle.geometry.specs.declared.Answer.TheVariants as answer
-use Rattle.geometry.proofs.Accepted.{done, declined, nearest-ok}
+use mathlib.Core.Path.{refl, sym, ◌∙◌}
+use Rattle.std.proofs.lemmas.Result.{err_from_is_err_and}
+use Rattle.plane.proofs.Refusal.{accepted, is-accepted, is-declined, written, kept}
+use Rattle.geometry.proofs.Accepted.{nearest-ok}
 use Rattle.geometry.proofs.feature_transform.Goals as goal
 
-pub returns-then-refusal-ne0 : goal.returns-then-refusal-ne0
-returns-then-refusal-ne0 c =
-    let e = c.nearest_refusal-refusal.ensures in
-    let t = c.if-refusal-ne0.true in
-    record {
-      answer = ap answer.Refused e ∙ declined _ (λ q. t (e ∙ q));
-      rows_are = sym (kept _ _ _ (λ q. t (e ∙ q)));
-      cols_are = sym (kept _ _ _ (λ q. t (e ∙ q)));
-      kept = λ _. refl;
-    }
+pub returns-in_err-nearest_refusal : goal.returns-in_err-nearest_refusal
+returns-in_err-nearest_refusal c =
+    let p = err_from_is_err_and c.from_residual.result c.from_residual.ensures.1 in
+    let e = c.in_err-nearest_refusal.ensures in
+    let d = is-declined _ _ _ e in
+    rw (p.1, p.2) (record { answer = e; rows_are = sym (kept _ _ _ d); cols_are = sym (kept _ _ _ d); kept = λ _. refl })
 
 pub nearest_planes-requires : goal.nearest_planes-requires
-nearest_planes-requires c =
-    nearest-ok _ _ _ _ _ _ (sym c.nearest_refusal-refusal.ensures ∙ c.if-refusal-ne0.false)
+nearest_planes-requires c = nearest-ok _ _ _ _ _ _ (is-accepted _ _ _ c.in_ok-nearest_refusal.ensures)
 
 pub returns : goal.returns
 returns c =
-    let z = sym c.nearest_refusal-refusal.ensures ∙ c.if-refusal-ne0.false in
+    let z = is-accepted _ _ _ c.in_ok-nearest_refusal.ensures in
     record {
-      answer = done _ z;
+      answer = sym (accepted _ _ z);
       rows_are = c.nearest_planes.ensures.rows_after ∙ sym (written _ _ _ z);
       cols_are = c.nearest_planes.ensures.cols_after ∙ sym (written _ _ _ z);
       kept = λ bad. absurd (bad z);

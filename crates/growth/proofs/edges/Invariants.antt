@@ -1,14 +1,10 @@
 -- `growth::edges` meets its contract.
 -- Assumes nothing.
-use Prim.Native.Nat.{ℕ, ◌-◌, ◌≤◌}
-use lib.ListN.{length}
+use Rattle.std.proofs.Common.{ℕ}
 use Rattle.plane.specs.Plane.{bit}
 use Rattle.plane.proofs.InPlace.{Changed}
 use Rattle.growth.specs.steps.Marks.{edge_test}
 use Rattle.growth.proofs.edges.Given as goal
 
 abbrev pub invariant-loop-i : goal.invariant-loop-i
-invariant-loop-i l = (l.i ≤ length l.back) × Changed 0 (λ (k : ℕ). bit (edge_test l.some l.back l.shallow k)) l.initial.marks l.marks l.i
-
-abbrev pub decreases-loop-i : goal.decreases-loop-i
-decreases-loop-i l = length l.back - l.i
+invariant-loop-i l = Changed 0 (λ (k : ℕ). bit (edge_test l.some l.back l.shallow k)) l.initial.marks l.marks l.i

@@ -1,12 +1,10 @@
 -- `growth::last_mark` meets its contract.
 -- Assumes nothing.
-use borrow.Author.Tests.{eq-eqb, ne_eqb}
+use Rattle.std.proofs.Common.{ap, ◌∙◌}
+use borrow.Author.Tests.{eq-eqb}
+use Rattle.plane.specs.Plane.{bit}
+use Rattle.growth.proofs.Marks.{from_bool-bit}
 use Rattle.growth.proofs.last_mark.Goals as goal
 
-pub returns-then-mark-ne-WAITS : goal.returns-then-mark-ne-WAITS
-returns-then-mark-ne-WAITS c =
-    rw (ne_eqb _ _ c.if-mark-ne-WAITS.true)
-
 pub returns : goal.returns
-returns c =
-    rw (eq-eqb _ _ c.if-mark-ne-WAITS.false) cc
+returns c = rw (eq-eqb _ _ c.if-mark-ne-WAITS.false) (c.from.ensures ∙ from_bool-bit _ ∙ ap bit c.joins_with.ensures)

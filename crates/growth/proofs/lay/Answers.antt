@@ -3,19 +3,11 @@
 use mathlib.Core.Path.{◌≡◌, ap, ◌∙◌}
 use mathlib.Core.List.{List}
 use Prim.Native.Nat.{ℕ, ◌*◌}
-use native.Mathlib.Omega.{arith}
 use Rattle.plane.specs.Mask.{mask_of}
 use Rattle.plane.specs.steps.Complement.{complement_of}
 use Rattle.outline.specs.Growth.{is_shallow}
 use Rattle.growth.proofs.Laying.{deep-laid, shallow-laid, edge-laid}
 use Rattle.growth.proofs.lay.Goals as goal
-
-pub edges-requires : goal.edges-requires
-edges-requires c =
-    let p = c.requires in record {
-      shallow_len = omega (arith, c.complement-2.auto.mask, c.dilate-2.auto.out, p.back_len, p.shallow_len);
-      marks_len = omega (arith, c.dilate-2.auto.work, c.dilate.auto.work, p.back_len, p.marks_len);
-    }
 
 pub returns : goal.returns
 returns c =

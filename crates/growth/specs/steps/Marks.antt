@@ -1,7 +1,8 @@
 -- The steps of a pass, which the contracts of its parts cite. A pass writes a byte for each pixel, its mark: first 1 where the pixel
 -- may join; then 0 or 1 where that is decided and 2 where it waits for its nearest shallow pixel; in the end 1 where it joins.
 -- Assumes nothing.
-use Rattle.std.specs.Prelude.{ℕ, ◌+◌, ◌*◌, ◌≤◌, ◌<◌, ◌/◌, ◌%◌, ◌≡◌, Bool, cond, not, ◌&&◌, List, eqb, ltb, Float, length, get_or}
+use Rattle.std.specs.Prelude.{ℕ, ◌+◌, ◌*◌, ◌≤◌, ◌/◌, ◌%◌, ◌≡◌, Bool, cond, not, ◌&&◌, List, eqb, Float, length, get_or}
+use Rattle.std.specs.Option.{option_map_or}
 use Rattle.plane.specs.Plane.{bit, table}
 use Rattle.plane.specs.steps.Sides.{Sides}
 use Rattle.plane.specs.Search.{some_below}
@@ -11,7 +12,7 @@ use Rattle.colour.specs.Colour.{difference_of}
 use Rattle.colour.specs.Join.{joins_of}
 use Rattle.outline.specs.Border.{colour_at}
 use Rattle.outline.specs.Growth.{is_edge, is_shallow, is_deep, body_from}
-use Rattle.window.specs.steps.Window.{near_pixel, Made}
+use Rattle.window.specs.steps.Window.{near_pixel}
 
 -- whether pixel i joins if its body colour is that of pixel b
 unfoldable pub joins_with : List Float → Rgb → ℕ → ℕ → Bool
@@ -32,7 +33,7 @@ edge_mark back h w i = bit (some_below (h * w) (is_shallow back h w) && is_edge 
 -- the mark after the search of the window: decided where a deep pixel is near enough
 unfoldable pub near_mark : List Float → Rgb → List ℕ → ℕ → ℕ → ℕ → ℕ
 near_mark colours reference deep h w i =
-    cond (ltb (near_pixel deep h w (i / w) (i % w)) (h * w)) (bit (joins_with colours reference (near_pixel deep h w (i / w) (i % w)) i)) waits
+    option_map_or (λ (b : ℕ). bit (joins_with colours reference b i)) (near_pixel deep h w (i / w) (i % w)) waits
 
 -- the same where only the marked pixels are searched
 unfoldable pub search_mark : List Float → Rgb → List ℕ → ℕ → ℕ → List ℕ → ℕ → ℕ
@@ -43,36 +44,10 @@ unfoldable pub last_mark : List Float → Rgb → List ℕ → List ℕ → ℕ 
 last_mark colours reference nearest marks i =
     cond (eqb (get_or marks i 0) waits) (bit (joins_with colours reference (get_or nearest i 0) i)) (get_or marks i 0)
 
--- a picture with its sides
-pub record Picture (colours : List Float) (h w : ℕ) : Type 0 where
-  pub sides : Sides h w
-  pub colours_long : length colours ≡ 3 * (h * w)
-
--- a picture, its deep plane, the plane of the nearest deep pixels where it is made, and whether there is a deep pixel
-pub record Searches (colours : List Float) (h w : ℕ) (deep nearest : List ℕ) (made some : Bool) : Type 0 where
-  pub picture : Picture colours h w
-  pub deep_long : length deep ≡ h * w
-  pub nearest_made : Made deep nearest made h w
-  pub known : some ≡ some_below (h * w) (is_on deep)
-
--- for each pixel the index of a pixel
-pub record Indexed (colours : List Float) (nearest marks : List ℕ) : Type 0 where
-  pub colours_long : length colours ≡ 3 * length marks
-  pub nearest_long : length nearest ≡ length marks
-  pub inside : (i : ℕ) → i < length marks → get_or nearest i 0 < length marks
-
 -- the mark after both: the marked pixels that join
 unfoldable pub decided_mark : List Float → Rgb → List ℕ → List ℕ → ℕ → ℕ → List ℕ → ℕ → ℕ
 decided_mark colours reference deep shallow h w marks i =
     cond (is_on marks i) (bit (joins_with colours reference (body_from deep shallow h w i) i)) 0
-
--- what the decision is given: a picture, its shallow plane and its deep plane, and room to work in
-pub record Decides (colours : List Float) (h w : ℕ) (shallow deep nearest marks : List ℕ) : Type 0 where
-  pub picture : Picture colours h w
-  pub shallow_long : length shallow ≡ h * w
-  pub deep_long : length deep ≡ h * w
-  pub nearest_long : h * w + 3 * w ≤ length nearest
-  pub marks_long : length marks ≡ h * w
 
 -- planes of the picture's size to work in, and room for the nearest pixels
 pub record Planes (h w : ℕ) (nearest shallow deep marks back : List ℕ) : Type 0 where
@@ -87,6 +62,11 @@ pub record Laid (back : List ℕ) (h w : ℕ) (shallow deep marks : List ℕ) : 
   pub shallow_is : shallow ≡ mask_of (h * w) (is_shallow back h w)
   pub deep_is : deep ≡ mask_of (h * w) (is_deep back h w)
   pub marks_are : marks ≡ table (edge_mark back h w) 0 (h * w)
+
+-- a picture with its sides
+pub record Picture (colours : List Float) (h w : ℕ) : Type 0 where
+  pub sides : Sides h w
+  pub colours_long : length colours ≡ 3 * (h * w)
 
 -- what growth is given
 pub record Room (colours : List Float) (h w : ℕ) (nearest shallow deep marks back : List ℕ) : Type 0 where

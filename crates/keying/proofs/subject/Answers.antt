@@ -1,13 +1,18 @@
 -- `keying::subject` meets its contract.
 -- Assumes nothing.
+use Rattle.std.proofs.lemmas.Result.{err_from_is_err_and}
+use Rattle.plane.proofs.Refusal.{is-accepted}
 use Rattle.colour.proofs.Range.{is}
+use mathlib.Core.Path.{refl}
 use Rattle.keying.proofs.Accepted.{cut-wrong-lengths}
 use Rattle.keying.proofs.subject.Goals as goal
 
-pub returns-then-refusal-ne0 : goal.returns-then-refusal-ne0
-returns-then-refusal-ne0 c =
+pub returns-in_err-cut_lengths : goal.returns-in_err-cut_lengths
+returns-in_err-cut_lengths c =
     let a = c.args in
-    cut-wrong-lengths a.colours.now a.alpha.now a.h a.w _ a.s
+    let p = err_from_is_err_and c.from_residual.result c.from_residual.ensures.1 in
+    rw (p.1, p.2)
+    (cut-wrong-lengths a.colours.now a.alpha.now a.h a.w _ a.s
     (record {
       mask = a.mask.now;
       weights = a.weights.now;
@@ -15,5 +20,8 @@ returns-then-refusal-ne0 c =
       shallow = a.shallow.now;
       deep = a.deep.now;
       marks = a.marks.now;
-    }) _ c.cut_lengths-refusal.ensures c.if-refusal-ne0.true
-    (record { picture = λ i l. c.shared_slice_known-1.given i; tolerance = is _ c.well_formed.1.1.1.1.0.1.1.1.1.1.0.1 })
+    }) c.in_err-cut_lengths.ensures
+    (record { picture = λ i l. c.shared_slice_known-1.given i; tolerance = is _ c.well_formed.1.1.1.1.0.1.1.1.1.1.0.1 }))
+
+pub cut_on-requires : goal.cut_on-requires
+cut_on-requires c = record { lengths = is-accepted _ _ _ c.in_ok-cut_lengths.ensures; given_in_range = refl }

@@ -1,13 +1,10 @@
--- `labels::rename` meets its contract. The loop's invariant: the labels before i are renamed.
+-- `labels::rename` meets its contract. The loop's invariant: the labels before the index are renamed, and the others are as they were.
 -- Assumes nothing.
-use Prim.Native.Nat.{ℕ, ◌-◌, ◌≤◌}
-use lib.ListN.{length, get_or}
-use Rattle.plane.proofs.InPlace.{Changed}
+use Rattle.std.proofs.Common.{◌≡◌, ℕ, ◌<◌, ◌≤◌, slice_index}
 use Rattle.labels.proofs.rename.Given as goal
 
-abbrev pub invariant-loop-i : goal.invariant-loop-i
-invariant-loop-i l =
-    (l.i ≤ length l.initial.labels) × Changed 0 (λ (k : ℕ). get_or l.numbers (get_or l.initial.labels k 0) 0) l.initial.labels l.labels l.i
-
-abbrev pub decreases-loop-i : goal.decreases-loop-i
-decreases-loop-i l = length l.initial.labels - l.i
+abbrev pub invariant-loop-l : goal.invariant-loop-l
+invariant-loop-l l = record {
+  renamed : (k : ℕ) → k < l.l-index → slice_index l.labels k ≡ slice_index l.numbers (slice_index l.initial.labels k);
+  kept : (k : ℕ) → l.l-index ≤ k → slice_index l.labels k ≡ slice_index l.initial.labels k;
+}

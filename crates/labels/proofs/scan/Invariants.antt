@@ -1,14 +1,11 @@
--- `labels::scan` meets its contract.
+-- `labels::scan` meets its contract. The loop's invariant: the rows above row y are scanned.
 -- Assumes nothing.
-use mathlib.Core.Path.{◌≡◌}
-use Prim.Native.Nat.{◌*◌, ◌-◌, ◌≤◌}
-use lib.ListN.{length}
-use Rattle.labels.specs.steps.Trees.{Scanned, Given}
+use Rattle.std.proofs.Common.{◌*◌}
+use Rattle.labels.specs.steps.Trees.{SameBuffer, Scanned}
 use Rattle.labels.proofs.scan.Given as goal
 
 abbrev pub invariant-loop-y : goal.invariant-loop-y
-invariant-loop-y l =
-    (l.y ≤ l.h) × Given l.mask l.parents l.labels l.h l.w × Scanned l.mask l.labels l.parents l.h l.w (l.y * l.w) l.m × (length l.parents ≡ length l.initial.parents)
-
-abbrev pub decreases-loop-y : goal.decreases-loop-y
-decreases-loop-y l = l.h - l.y
+invariant-loop-y l = record {
+  so_far : Scanned l.mask l.labels l.trees.parents.now l.h l.w (l.y * l.w) l.trees.count;
+  same_buffer : SameBuffer l.initial.trees.parents l.trees.parents;
+}

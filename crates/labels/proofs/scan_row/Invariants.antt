@@ -1,20 +1,13 @@
--- `labels::scan_row` meets its contract.
+-- `labels::scan_row` meets its contract. The loop's invariant: the pixels before x have labels, and `left` and `diag` are those beside x.
 -- Assumes nothing.
-use mathlib.Core.Path.{◌≡◌}
-use Prim.Native.Nat.{◌+◌, ◌*◌, ◌-◌, ◌≤◌}
-use lib.ListN.{length}
-use Rattle.labels.specs.steps.Trees.{left_at, diag_at, Scanned, Given}
+use Rattle.std.proofs.Common.{◌≡◌, ◌+◌, ◌*◌}
+use Rattle.labels.specs.steps.Trees.{left_at, diag_at, SameBuffer, Scanned}
 use Rattle.labels.proofs.scan_row.Given as goal
 
 abbrev pub invariant-loop-x : goal.invariant-loop-x
-invariant-loop-x l =
-    (l.x ≤ l.w)
-    × (l.start ≡ l.y * l.w)
-    × Given l.mask l.parents l.labels l.h l.w
-    × Scanned l.mask l.labels l.parents l.h l.w (l.start + l.x) l.m
-    × (l.left ≡ left_at l.labels (l.start + l.x) l.x)
-    × (l.diag ≡ diag_at l.labels l.w (l.start + l.x) l.x)
-    × (length l.parents ≡ length l.initial.parents)
-
-abbrev pub decreases-loop-x : goal.decreases-loop-x
-decreases-loop-x l = l.w - l.x
+invariant-loop-x l = record {
+  so_far : Scanned l.mask l.labels l.trees.parents.now l.h l.w (l.y * l.w + l.x) l.trees.count;
+  to_left : l.left ≡ left_at l.labels (l.y * l.w + l.x) l.x;
+  above_left : l.diag ≡ diag_at l.labels l.w (l.y * l.w + l.x) l.x;
+  same_buffer : SameBuffer l.initial.trees.parents l.trees.parents;
+}

@@ -1,6 +1,7 @@
 -- Provisional labels and the trees that join them, which the contracts of the functions of `label` cite.
 -- Assumes nothing.
 use Rattle.std.specs.Prelude.{◌≡◌, Bool, true, false, cond, ◌&&◌, ◌⊎◌, List, ℕ, ◌+◌, ◌*◌, ◌-◌, ◌≤◌, ◌<◌, eqb, ltb, length, get_or, set}
+use Rattle.std.specs.Borrow.{MutBor}
 use Rattle.plane.specs.steps.Sides.{Sides}
 use Rattle.plane.specs.Search.{count_below}
 use Rattle.plane.specs.Mask.{is_on}
@@ -32,6 +33,11 @@ pub record Forest (parents : List ℕ) (m : ℕ) (rep : ℕ → ℕ) : Type 0 wh
 pub record Trees (parents : List ℕ) (m : ℕ) : Type 0 where
   pub rep : ℕ → ℕ
   pub forest : Forest parents m rep
+
+-- a reference before and after a call: it still leads to the same buffer
+pub record SameBuffer (old new : MutBor (List ℕ)) : Type 0 where
+  pub reference : new.ghost_name ≡ old.ghost_name
+  pub size : length new.now ≡ length old.now
 
 -- r is the root of l, and every label keeps its root
 pub record Found (old new : List ℕ) (m l r : ℕ) : Type 0 where
@@ -81,10 +87,6 @@ left_at labels i x = cond (eqb x 0) 0 (get_or labels (i - 1) 0)
 -- of the pixel above that one
 unfoldable pub diag_at : List ℕ → ℕ → ℕ → ℕ → ℕ
 diag_at labels w i x = cond (eqb x 0) 0 (up_at labels w (i - 1))
-
--- the greater of two labels
-unfoldable pub larger : ℕ → ℕ → ℕ
-larger a b = cond (ltb a b) b a
 
 -- the first t pixels have provisional labels from 1 to m, and two of them that are on and beside each other have one root;
 -- label l was new at pixel seed l, which is joined to every pixel whose root it is

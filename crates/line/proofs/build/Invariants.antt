@@ -1,14 +1,11 @@
 -- `line::build` meets its contract.
 -- Assumes nothing.
-use mathlib.Core.Path.{◌≡◌}
-use Prim.Native.Nat.{◌-◌, ◌≤◌}
-use lib.ListN.{length}
-use Rattle.line.specs.steps.Envelope.{Stacked}
+use Rattle.std.proofs.Common.{◌≤◌, ◌-◌, length, slice_index}
+use Rattle.line.specs.steps.Envelope.{Stack}
 use Rattle.line.proofs.build.Given as goal
 
 abbrev pub invariant-loop-u : goal.invariant-loop-u
-invariant-loop-u l =
-    (l.u ≤ l.n) × (length l.work ≡ length l.initial.work) × Stacked l.initial.work l.work l.out l.costs l.stack l.n l.u l.count
+invariant-loop-u l = (l.u ≤ length l.costs) × Stack l.costs (slice_index l.stack) (slice_index l.out) l.u l.count
 
 abbrev pub decreases-loop-u : goal.decreases-loop-u
-decreases-loop-u l = l.n - l.u
+decreases-loop-u l = length l.costs - l.u

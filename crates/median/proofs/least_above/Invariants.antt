@@ -1,14 +1,9 @@
 -- `median::least_above` meets its contract. The values from i on are read.
 -- Assumes nothing.
-use mathlib.Core.Path.{◌≡◌}
-use Prim.Native.Nat.{◌/◌, ◌≤◌}
-use lib.ListN.{length, drop}
+use Rattle.std.proofs.Common.{◌≡◌, drop}
 use Rattle.median.specs.steps.Values.{floats_of}
 use Rattle.median.specs.steps.Select.{least_above}
 use Rattle.median.proofs.least_above.Given as goal
 
 abbrev pub invariant-loop-i : goal.invariant-loop-i
-invariant-loop-i l = (l.i ≤ length l.values / 2) × (l.least ≡ least_above l.t (drop l.i (floats_of l.values)))
-
-abbrev pub decreases-loop-i : goal.decreases-loop-i
-decreases-loop-i l = l.i
+invariant-loop-i l = l.least ≡ least_above l.t (drop l.i (floats_of l.values))

@@ -1,10 +1,6 @@
 -- `median::median` meets its contract.
 -- Assumes nothing.
-use mathlib.Core.Path.{◌≡◌, ap, ◌∙◌}
-use mathlib.Core.List.{List}
-use Prim.Native.Nat.{ℕ, ◌+◌, ◌-◌, ◌/◌, ◌≤◌}
-use native.Mathlib.Omega.{arith}
-use lib.ListN.{length}
+use Rattle.std.proofs.Common.{◌≡◌, ℕ, ◌+◌, ◌-◌, ◌/◌, ◌≤◌, List, length, ap, ◌∙◌, arith}
 use Rattle.colour.specs.Number.{plus_zero, half_of}
 use Rattle.median.specs.Median.{placed, lower_middle, upper_middle, median_of}
 use Rattle.median.specs.steps.Values.{floats_of}
@@ -20,17 +16,6 @@ lower-place v = omega (arith, floats-length v)
 upper-place : (v : List ℕ) → 2 ≤ length (floats_of v) → length v / 4 - 1 + 1 ≡ length (floats_of v) / 2
 upper-place v h = omega (arith, floats-length v)
 
-pub overflow_sub-k : goal.overflow_sub-k
-overflow_sub-k c = omega (arith, c.requires.some, floats-length c.args.values.now)
-
-pub select-lo-requires : goal.select-lo-requires
-select-lo-requires c =
-    record { inside = omega (arith, c.requires.some, floats-length c.args.values.now); ok = c.requires.ok }
-
-pub next_place-hi-requires : goal.next_place-hi-requires
-next_place-hi-requires c =
-    record { inside = omega (arith, c.requires.some, floats-length c.args.values.now); ok = c.requires.ok; first = c.select-lo.ensures }
-
 pub returns : goal.returns
 unfolding median_of lower_middle upper_middle
 returns c =
@@ -44,9 +29,7 @@ returns c =
     c.select-lo.ensures ∙ ap (λ (k : ℕ). plus_zero (placed l k)) (lower-place v) in
     let upper : c.next_place-hi.result ≡ plus_zero y =
     c.next_place-hi.ensures ∙ ap (λ (k : ℕ). plus_zero (placed l k)) (upper-place v some) in
-    let lo = c.select-lo.result in
-    let hi = c.next_place-hi.result in
-    let halved : c.half.result ≡ half_of lo hi = c.half.ensures in
+    let halved : c.half.result ≡ half_of c.select-lo.result c.next_place-hi.result = c.half.ensures in
     c.plus_zero.ensures
     ∙ ap plus_zero (halved ∙ rw (lower, upper))
     ∙ signs-gone x y (good (length l / 2 - 1) (omega arith)).held (good (length l / 2) (omega arith)).held

@@ -1,111 +1,49 @@
 -- `nearest::below` meets its contract.
 -- Assumes nothing.
-use mathlib.Core.Path.{◌≡◌, refl, ap, ◌∙◌, subst}
-use Prim.Native.Nat.{ℕ, ◌+◌, ◌*◌, ◌-◌, ◌≤◌, ◌<◌}
-use native.Mathlib.Nat.{add-mul, one-mul}
-use lib.ListN.{length}
-use native.Mathlib.Omega.{arith}
-use Rattle.plane.proofs.Plane.{row_in, area-most}
-use Rattle.nearest.specs.steps.Room.{IndexRoom}
-use Rattle.nearest.proofs.Stages.{BelowFrom, below-start, below_next, swept-start}
-use Rattle.nearest.proofs.below.Tie as tie
-use Rattle.nearest.proofs.below.Reads as reads
-use Rattle.nearest.proofs.below.Lts as lts
+use Rattle.std.proofs.Common.{◌≡◌, ℕ, ◌+◌, ◌-◌, ◌*◌, ◌<◌, length, get_or, ◌≤◌, refl, sym, ap, ◌∙◌, subst, arith, rules}
+use Rattle.std.proofs.lemmas.List.{places}
+use Rattle.std.proofs.Math.Nat.{add-mul, one-mul}
+use Rattle.plane.proofs.Plane.{row_in}
+use Rattle.line.proofs.Part.{put_part}
+use Rattle.nearest.specs.steps.Stages.{no_row, BelowFrom}
+use Rattle.nearest.proofs.Stages.{below-start, below_next}
+use Rattle.nearest.proofs.below.Goals.{After-saturating_sub-at}
 use Rattle.nearest.proofs.below.Goals as goal
-
-abbrev At-After-row_before : Type 0
-At-After-row_before = lts.After-row_before tie.the-claims reads.Pre reads.Post goal.the-invariant-loop-y goal.the-decreases-loop-y
-
-abbrev At-At-loop : Type 0
-At-At-loop = lts.At-loop tie.the-claims reads.Pre reads.Post goal.the-invariant-loop-y goal.the-decreases-loop-y
-
--- the buffer has its length all the time
-long : (c : At-At-loop) → length c.loop-y.work ≡ length c.args.work.now
-long c = c.loop-y.invariant.2 ∙ c.fill.auto.work
-
--- row y - 1 lies in the plane
-module _ (c : At-After-row_before) where
-  abbrev h : ℕ
-  h = c.args.h
-
-  abbrev w : ℕ
-  w = c.args.w
-
-  abbrev j : ℕ
-  j = c.loop-y.y - 1
-
-  pub record Row : Type 0 where
-    pub is : c.loop-y.y ≡ j + 1
-    pub above : j < h
-    pub at : c.row_before-row.result ≡ j * w
-    pub inside : j * w + w ≤ h * w
-    pub most : h * w ≤ 4294967296
-    pub size : length c.loop-y.work ≡ length c.args.work.now
-    pub room : IndexRoom h w c.args.mask.now c.args.work.now
-
-  row : Row
-  row =
-      let p = c.requires in
-      let low = c.loop-y.invariant.0 in
-      let t = c.loop-y-test.true in
-      let is : c.loop-y.y ≡ j + 1 = omega arith in
-      let above : j < h = omega arith in
-      let m : (j + 1) * w ≡ j * w + w = add-mul j 1 w ∙ ap (λ (i : ℕ). j * w + i) (one-mul w) in
-      let e : c.loop-y.row ≡ (j + 1) * w = c.loop-y.invariant.1 ∙ ap (λ (i : ℕ). i * w) is in
-      let b = c.row_before-row.ensures in
-      record {
-        is = is;
-        above = above;
-        at = omega arith;
-        inside = row_in j h w above;
-        most = area-most p.sides.tall p.sides.wide;
-        size = long c.before.before;
-        room = p;
-      }
-
-pub loop-y-preserved : goal.loop-y-preserved
-loop-y-preserved c =
-    let l = c.loop-y in
-    let a = c.args in
-    let r = row c.before.before.before.before.before in
-    let before = subst (λ (m : ℕ). BelowFrom a.mask.now a.h a.w m l.work) r.is l.invariant.3 in (
-      omega (arith, r.above),
-      r.at,
-      c.below_line.auto.work ∙ l.invariant.2,
-      below_next a.mask.now a.h a.w r.above before (rw r.at at c.below_line.ensures),
-    )
-
-pub returns : goal.returns
-returns c =
-    let l = c.loop-y in
-    let a = c.args in
-    let e : l.y ≡ 0 = omega arith in
-    swept-start a.mask.now a.h a.w (subst (λ (m : ℕ). BelowFrom a.mask.now a.h a.w m l.work) e l.invariant.3)
-
-pub overflow_mul-n : goal.overflow_mul-n
-overflow_mul-n c =
-    let p = c.requires in omega (arith, area-most p.sides.tall p.sides.wide)
-
-pub fill-requires : goal.fill-requires
-fill-requires c =
-    omega (arith, c.requires)
 
 pub loop-y-init : goal.loop-y-init
 loop-y-init c =
-    (omega arith, refl, refl, below-start _ _ _ c.fill.ensures)
+    let a = c.args in
+    let n = a.h * a.w in
+    let room = c.requires.room in
+    let filled : (x : ℕ) → x < a.w → get_or c.fill.new.self x 0 ≡ no_row = λ x l. search rules in
+    let long : length c.fill.new.self ≡ a.w = omega arith in (
+      refl,
+      below-start a.mask.now a.h a.w _
+          (λ x l. rw (put_part 0 n (n + a.w) a.work.now c.fill.new.self (omega arith) (omega arith) x (omega arith)) (filled x l)),
+    )
 
-pub overflow_cast-j : goal.overflow_cast-j
-overflow_cast-j c =
-    omega (arith, row c.before)
+-- row y of h starts where the row below does, less w
+row-before : (y h w : ℕ) → 0 < y → y ≤ h → (y * w - w ≡ (y - 1) * w) × ((y - 1) * w + w ≤ h * w)
+row-before y h w p l =
+    let is : y ≡ y - 1 + 1 = omega arith in
+    let m : y * w ≡ (y - 1) * w + w = ap (λ (k : ℕ). k * w) is ∙ add-mul (y - 1) 1 w ∙ ap (λ (k : ℕ). (y - 1) * w + k) (one-mul w) in
+    (omega arith, row_in (y - 1) h w (omega arith))
 
-pub below_line-requires : goal.below_line-requires
-below_line-requires c =
-    omega (arith, row c.before.before)
+-- where row y starts
+start : (c : After-saturating_sub-at) → (c.saturating_sub-at.result ≡ (c.loop-y.y - 1) * c.args.w)
+    × ((c.loop-y.y - 1) * c.args.w + c.args.w ≤ c.args.h * c.args.w)
+start c =
+    let r = row-before c.loop-y.y c.args.h c.args.w (omega arith) (omega arith) in
+    (c.saturating_sub-at.ensures ∙ ap (λ (k : ℕ). k - c.args.w) c.loop-y.invariant.0 ∙ r.0, r.1)
 
-pub loop-y-smaller : goal.loop-y-smaller
-loop-y-smaller c =
-    omega (arith, row c.before.before.before.before.before)
-
-pub shape_of-work : goal.shape_of-work
-shape_of-work c =
-    long c.before.before
+pub loop-y-preserved : goal.loop-y-preserved
+loop-y-preserved c =
+    let a = c.args in
+    let is : c.loop-y.y ≡ c.loop-y.y - 1 + 1 = omega arith in
+    let s = start (goal.at.loop-y-preserved c).After-saturating_sub-at in (
+      s.0,
+      below_next a.mask.now a.h a.w c.loop-y.work _ (omega arith)
+          (subst (λ (m : ℕ). BelowFrom a.mask.now a.h a.w m c.loop-y.work) is c.loop-y.invariant.1)
+          (λ x l. rw (sym s.0) (grind (arith, places)))
+          (λ i l. grind (arith, places)),
+    )

@@ -1,12 +1,8 @@
 -- `nearest::below_line` meets its contract.
 -- Assumes nothing.
-use Prim.Native.Nat.{◌-◌}
-use Rattle.line.proofs.Part.{Filling}
-use Rattle.nearest.specs.steps.Stages.{below_in}
+use Rattle.std.proofs.Common.{◌≡◌, ℕ, ◌<◌, get_or, cond}
+use Rattle.plane.specs.Plane.{on}
 use Rattle.nearest.proofs.below_line.Given as goal
 
 abbrev pub invariant-loop-x : goal.invariant-loop-x
-invariant-loop-x l = Filling 0 (below_in l.mask l.y l.initial.work l.row l.w) l.row l.w l.initial.work l.work l.x
-
-abbrev pub decreases-loop-x : goal.decreases-loop-x
-decreases-loop-x l = l.w - l.x
+invariant-loop-x l = (k : ℕ) → k < l.x → get_or l.row k 0 ≡ cond (on (get_or l.mask k 0)) l.y (get_or l.next k 0)

@@ -1,12 +1,8 @@
 -- `nearest::costs_line` meets its contract.
 -- Assumes nothing.
-use Prim.Native.Nat.{◌-◌}
-use Rattle.line.proofs.Part.{Filling}
-use Rattle.nearest.specs.steps.Stages.{cost_in}
+use Rattle.std.proofs.Common.{◌≡◌, ℕ, ◌<◌, get_or}
+use Rattle.nearest.specs.steps.Stages.{square_cost}
 use Rattle.nearest.proofs.costs_line.Given as goal
 
 abbrev pub invariant-loop-x : goal.invariant-loop-x
-invariant-loop-x l = Filling 0 (cost_in l.y l.initial.work l.near) l.costs l.w l.initial.work l.work l.x
-
-abbrev pub decreases-loop-x : goal.decreases-loop-x
-decreases-loop-x l = l.w - l.x
+invariant-loop-x l = (k : ℕ) → k < l.x → get_or l.costs k 0 ≡ square_cost l.y (get_or l.near k 0)

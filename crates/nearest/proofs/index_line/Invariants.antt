@@ -1,13 +1,11 @@
 -- `nearest::index_line` meets its contract.
 -- Assumes nothing.
-use Prim.Native.Nat.{ℕ, ◌-◌}
+use Rattle.std.proofs.Common.{◌≡◌, ℕ, ◌≤◌, ◌<◌, length, get_or}
 use Rattle.plane.specs.Plane.{index_of}
-use Rattle.line.proofs.Part.{Filling}
 use Rattle.nearest.specs.steps.Stages.{pixel_in}
 use Rattle.nearest.proofs.index_line.Given as goal
 
 abbrev pub invariant-loop-x : goal.invariant-loop-x
-invariant-loop-x l = Filling 0 (λ (k : ℕ). index_of l.w (pixel_in l.initial.work l.row l.near l.w k)) l.row l.w l.initial.work l.work l.x
-
-abbrev pub decreases-loop-x : goal.decreases-loop-x
-decreases-loop-x l = l.w - l.x
+invariant-loop-x l =
+    ((k : ℕ) → k < l.x → get_or l.row k 0 ≡ index_of (length l.near) (pixel_in l.near (get_or l.initial.row k 0)))
+    × ((k : ℕ) → l.x ≤ k → get_or l.row k 0 ≡ get_or l.initial.row k 0)

@@ -1,12 +1,10 @@
 -- `nearest::nearer_line` meets its contract.
 -- Assumes nothing.
-use Prim.Native.Nat.{◌-◌}
-use Rattle.line.proofs.Part.{Filling}
-use Rattle.nearest.specs.steps.Stages.{nearer_in}
+use Rattle.std.proofs.Common.{◌≡◌, ℕ, ◌≤◌, ◌<◌, get_or}
+use Rattle.nearest.specs.steps.Stages.{nearer}
 use Rattle.nearest.proofs.nearer_line.Given as goal
 
 abbrev pub invariant-loop-x : goal.invariant-loop-x
-invariant-loop-x l = Filling 0 (nearer_in l.y l.initial.work l.row l.near) l.near l.w l.initial.work l.work l.x
-
-abbrev pub decreases-loop-x : goal.decreases-loop-x
-decreases-loop-x l = l.w - l.x
+invariant-loop-x l =
+    ((k : ℕ) → k < l.x → get_or l.near k 0 ≡ nearer l.y (get_or l.row k 0) (get_or l.initial.near k 0))
+    × ((k : ℕ) → l.x ≤ k → get_or l.near k 0 ≡ get_or l.initial.near k 0)

@@ -1,81 +1,56 @@
 -- `nearest::nearest_distances` meets its contract.
 -- Assumes nothing.
-use mathlib.Core.Path.{refl, ◌∙◌}
-use native.Mathlib.Omega.{arith}
+use Rattle.std.proofs.Common.{◌<◌, ◌∙◌, arith, length-append, length-drop}
+use Rattle.std.proofs.lemmas.List.{places}
 use Rattle.nearest.specs.Nearest.{distance_plane}
-use Rattle.nearest.proofs.Rows.{rows_none, rows_next, rows_end}
-use Rattle.nearest.proofs.Rows.{passing-none, Row, row_at, row_room, passing-next, distances, distance-room}
-use Rattle.nearest.proofs.nearest_distances.Tie as tie
-use Rattle.nearest.proofs.nearest_distances.Reads as reads
-use Rattle.nearest.proofs.nearest_distances.Lts as lts
+use Rattle.nearest.proofs.Laws.{distance_most}
+use Rattle.nearest.proofs.Stages.{swept-start}
+use Rattle.nearest.proofs.Rows.{rows_next, rows_end, Row, row_at, row_no-higher, near_no-higher, Passed, row_passed}
+use Rattle.nearest.proofs.nearest_distances.Goals.{In-loop-y, After-line}
 use Rattle.nearest.proofs.nearest_distances.Goals as goal
 
-abbrev At-In-loop : Type 0
-At-In-loop = lts.In-loop tie.the-claims reads.Pre reads.Post goal.the-invariant-loop-y goal.the-decreases-loop-y
+row : (c : In-loop-y) → Row c.args.mask.now c.args.h c.args.w c.loop-y.y c.loop-y.plane c.loop-y.near
+row c = row_at c.requires.sides c.loop-y-test.true (omega arith) c.loop-y.invariant.1
 
-row : (c : At-In-loop)
-    → (let a = c.args in
-    Row a.mask.now a.h a.w c.below.new.work c.loop-y.work c.loop-y.y)
-row c =
-    let p = c.requires in
-    row_at p.sides (omega (arith, p.room, c.below.auto.work)) c.loop-y-test.true c.loop-y.invariant.0
+passed : (c : After-line)
+    → Passed c.args.mask.now c.args.h c.args.w c.loop-y.y c.loop-y.plane c.nearer_line.new.near c.costs_line.new.costs c.line.new.out
+passed c =
+    row_passed (row (goal.at-After-line c).In-loop-y) c.nearer_line.new.near c.costs_line.new.costs c.line.new.out (omega arith)
+    (omega arith) c.nearer_line.ensures c.costs_line.ensures c.line.ensures
 
-pub distances_line-requires : goal.distances_line-requires
-distances_line-requires c =
-    let p = c.requires in
-    distance-room (row c.before.before.before.before.before.before) (omega arith) c.row_pass.auto.work c.row_pass.ensures _
-    (omega (arith, p.out_long, c.loop-y.invariant.1.size)) p.low
+pub loop-y-init : goal.loop-y-init
+loop-y-init c =
+    let p = c.split_at_mut-plane.ensures in
+    let q = c.split_at_mut-near.ensures in (
+      omega arith,
+      rw (p.front, q.front, p.back) (swept-start c.args.mask.now c.args.h c.args.w c.below.new.work c.below.ensures),
+      (λ j x l. absurd (omega arith)),
+    )
+
+pub nearer_line-requires-clause-row_low : goal.nearer_line-requires-clause-row_low
+nearer_line-requires-clause-row_low c = row_no-higher (row (goal.at.nearer_line-requires-clause-row_low c).In-loop-y)
+
+pub nearer_line-requires-clause-near_low : goal.nearer_line-requires-clause-near_low
+nearer_line-requires-clause-near_low c = near_no-higher (row (goal.at.nearer_line-requires-clause-near_low c).In-loop-y)
+
+pub distances_line-requires-clause-low : goal.distances_line-requires-clause-low
+distances_line-requires-clause-low c = λ x l.
+    (let p = passed (goal.at.distances_line-requires-clause-low c).After-line in
+    let g : x < c.args.w = omega arith in
+    let e = p.distances x g in
+    omega (arith, distance_most c.args.mask.now c.args.h c.args.w c.loop-y.y x c.loop-y-test.true g, c.requires.low))
 
 pub loop-y-preserved : goal.loop-y-preserved
 loop-y-preserved c =
-    let size = c.row_pass.auto.work in
-    let d = c.row_pass.ensures in
-    let v = c.distances_line in (
-      passing-next (row c.before.before.before.before.before.before.before.before.before) (omega arith) size d refl (λ k g. refl),
-      rows_next c.loop-y.invariant.1 v.auto.out v.ensures (distances (row c.before.before.before.before.before.before.before.before.before) (omega arith) size d),
+    let p = passed (goal.at.loop-y-preserved c).After-line in
+    let r = row (goal.at.loop-y-preserved c).In-loop-y in
+    let fits = r.fits in (
+      simp (length-append, length-drop) (omega arith),
+      p.next _ (λ i l. grind (arith, places)),
+      rows_next 0 _ c.args.w c.loop-y.out c.distances_line.new.out c.loop-y.y c.loop-y.invariant.2 (omega arith) (omega arith)
+          (λ x g. c.distances_line.ensures x (omega arith) ∙ p.distances x g),
     )
 
 pub returns : goal.returns
 unfolding distance_plane
-returns c =
-    rows_end c.args.h c.loop-y.invariant.1 c.loop-y-test.false c.requires.out_long
-
-pub loop-y-init : goal.loop-y-init
-loop-y-init c =
-    (passing-none c.below.ensures, rows_none)
-
-pub overflow_mul-h : goal.overflow_mul-h
-overflow_mul-h c =
-    omega (arith, row c.before)
-
-pub row_pass-requires : goal.row_pass-requires
-row_pass-requires c =
-    row_room (row c.before.before) 0 (omega arith)
-
-pub overflow_mul-h-in-loop-y : goal.overflow_mul-h-in-loop-y
-overflow_mul-h-in-loop-y c =
-    omega (arith, row c.before.before.before.before.before)
-
-pub overflow_add-h : goal.overflow_add-h
-overflow_add-h c =
-    omega (arith, row c.before.before.before.before.before)
-
-pub overflow_mul-y : goal.overflow_mul-y
-overflow_mul-y c =
-    omega (arith, row c.before.before.before.before.before)
-
-pub overflow_add-y : goal.overflow_add-y
-overflow_add-y c =
-    omega (arith, row c.before.before.before.before.before.before.before.before.before)
-
-pub loop-y-smaller : goal.loop-y-smaller
-loop-y-smaller c =
-    omega (arith, row c.before.before.before.before.before.before.before.before.before)
-
-pub shape_of-work : goal.shape_of-work
-shape_of-work c =
-    c.loop-y.invariant.0.size ∙ c.below.auto.work
-
-pub shape_of-out : goal.shape_of-out
-shape_of-out c =
-    c.loop-y.invariant.1.size
+returns c = rows_end 0 _ c.args.w c.args.h c.loop-y.out c.loop-y.y c.loop-y.invariant.2 c.loop-y-test.false (omega arith)

@@ -1,106 +1,62 @@
 -- `nearest::nearest_planes` meets its contract.
 -- Assumes nothing.
-use mathlib.Core.Path.{refl, ap, ◌∙◌}
-use Prim.Native.Nat.{◌*◌}
-use native.Mathlib.Omega.{arith}
+use Rattle.std.proofs.Common.{ap, ◌∙◌, pos, arith, length-append, length-drop}
+use Rattle.std.proofs.lemmas.List.{places}
 use Rattle.nearest.specs.Nearest.{row_of, column_of, rows_plane, columns_plane}
-use Rattle.nearest.specs.steps.Stages.{from}
-use Rattle.nearest.proofs.Rows.{rows_none, rows_next, rows_end}
-use Rattle.nearest.proofs.Rows.{passing-none, Row, row_at, row_room, passing-next, pixels, pixel-room}
-use Rattle.nearest.proofs.nearest_planes.Tie as tie
-use Rattle.nearest.proofs.nearest_planes.Reads as reads
-use Rattle.nearest.proofs.nearest_planes.Lts as lts
+use Rattle.nearest.proofs.Stages.{swept-start}
+use Rattle.nearest.proofs.Rows.{rows_next, rows_end, Row, row_at, row_no-higher, near_no-higher, Passed, row_passed}
+use Rattle.nearest.proofs.nearest_planes.Goals.{In-loop-y, After-line}
 use Rattle.nearest.proofs.nearest_planes.Goals as goal
 
-abbrev At-In-loop : Type 0
-At-In-loop = lts.In-loop tie.the-claims reads.Pre reads.Post goal.the-invariant-loop-y goal.the-decreases-loop-y tie.handed_clauses
+row : (c : In-loop-y) → Row c.args.mask.now c.args.h c.args.w c.loop-y.y c.loop-y.plane c.loop-y.near
+row c = row_at c.requires.sides c.loop-y-test.true (omega arith) c.loop-y.invariant.1
 
-row : (c : At-In-loop)
-    → (let a = c.args in
-    Row a.mask.now a.h a.w c.below.new.work c.loop-y.work c.loop-y.y)
-row c =
-    let p = c.requires in
-    row_at p.sides (omega (arith, p.room, c.below.auto.work)) c.loop-y-test.true c.loop-y.invariant.0
-
--- the places of the loop's body: inside, row y passed, its rows written
-pub rows_line-requires : goal.rows_line-requires
-rows_line-requires c =
-    let r = row c.before.before.before.before.before.before in (
-      pixel-room r (omega arith) c.row_pass.auto.work c.row_pass.ensures,
-      omega (arith, r.row, c.requires.rows_long, c.loop-y.invariant.1.size),
-    )
-
-pub columns_line-requires : goal.columns_line-requires
-columns_line-requires c =
-    let r = row c.before.before.before.before.before.before.before.before.before in (
-      r.sides.wide,
-      omega (arith, r.row, r.room, c.row_pass.auto.work),
-      omega (arith, r.row, c.requires.cols_long, c.loop-y.invariant.2.size),
-    )
-
-pub loop-y-preserved : goal.loop-y-preserved
-loop-y-preserved c =
-    let l = c.loop-y in
-    let size = c.row_pass.auto.work in
-    let d = c.row_pass.ensures in
-    let v = c.rows_line in
-    let u = c.columns_line in
-    let near = from c.row_pass.new.work (c.args.h * c.args.w) in (
-      passing-next (row c.before.before.before.before.before.before.before.before.before.before.before) (omega arith) size d refl (λ k q. refl),
-      rows_next l.invariant.1 v.auto.rows v.ensures (λ x q. ap row_of (pixels (row c.before.before.before.before.before.before.before.before.before.before.before) (omega arith) size d x q)),
-      rows_next l.invariant.2 u.auto.cols (u.ensures near) (λ x q. ap column_of (pixels (row c.before.before.before.before.before.before.before.before.before.before.before) (omega arith) size d x q)),
-    )
-
-pub returns : goal.returns
-unfolding rows_plane columns_plane
-returns c =
-    let h = c.args.h in
-    let left = c.loop-y-test.false in
-    record {
-      rows_after = rows_end h c.loop-y.invariant.1 left c.requires.rows_long;
-      cols_after = rows_end h c.loop-y.invariant.2 left c.requires.cols_long;
-    }
+passed : (c : After-line)
+    → Passed c.args.mask.now c.args.h c.args.w c.loop-y.y c.loop-y.plane c.nearer_line.new.near c.costs_line.new.costs c.line.new.out
+passed c =
+    row_passed (row (goal.at-After-line c).In-loop-y) c.nearer_line.new.near c.costs_line.new.costs c.line.new.out (omega arith)
+    (omega arith) c.nearer_line.ensures c.costs_line.ensures c.line.ensures
 
 pub loop-y-init : goal.loop-y-init
 loop-y-init c =
-    (passing-none c.below.ensures, rows_none, rows_none)
+    let p = c.split_at_mut-plane.ensures in
+    let q = c.split_at_mut-near.ensures in (
+      omega arith,
+      rw (p.front, q.front, p.back) (swept-start c.args.mask.now c.args.h c.args.w c.below.new.work c.below.ensures),
+      (λ j x l. absurd (omega arith)),
+      (λ j x l. absurd (omega arith)),
+    )
 
-pub overflow_mul-h : goal.overflow_mul-h
-overflow_mul-h c =
-    omega (arith, row c.before)
+pub nearer_line-requires-clause-row_low : goal.nearer_line-requires-clause-row_low
+nearer_line-requires-clause-row_low c = row_no-higher (row (goal.at.nearer_line-requires-clause-row_low c).In-loop-y)
 
-pub row_pass-requires : goal.row_pass-requires
-row_pass-requires c =
-    row_room (row c.before.before) 0 (omega arith)
+pub nearer_line-requires-clause-near_low : goal.nearer_line-requires-clause-near_low
+nearer_line-requires-clause-near_low c = near_no-higher (row (goal.at.nearer_line-requires-clause-near_low c).In-loop-y)
 
-pub overflow_mul-h-in-loop-y : goal.overflow_mul-h-in-loop-y
-overflow_mul-h-in-loop-y c =
-    omega (arith, row c.before.before.before.before.before)
+pub rows_line-requires-clause-chosen : goal.rows_line-requires-clause-chosen
+rows_line-requires-clause-chosen c = λ x l.
+    (let p = passed (goal.at.rows_line-requires-clause-chosen c).After-line in p.chosen x (omega arith))
 
-pub overflow_mul-y : goal.overflow_mul-y
-overflow_mul-y c =
-    omega (arith, row c.before.before.before.before.before)
+pub loop-y-preserved : goal.loop-y-preserved
+loop-y-preserved c =
+    let p = passed (goal.at.loop-y-preserved c).After-line in
+    let r = row (goal.at.loop-y-preserved c).In-loop-y in
+    let fits = r.fits in
+    let near = c.nearer_line.new.near in (
+      simp (length-append, length-drop) (omega arith),
+      p.next _ (λ i l. grind (arith, places)),
+      rows_next (pos 0) _ c.args.w c.loop-y.rows c.rows_line.new.rows c.loop-y.y c.loop-y.invariant.2 (omega arith) (omega arith)
+          (λ x g. c.rows_line.ensures x (omega arith) ∙ ap row_of (p.pixels x g)),
+      rows_next (pos 0) _ c.args.w c.loop-y.cols c.columns_line.new.cols c.loop-y.y c.loop-y.invariant.3 (omega arith) (omega arith)
+          (λ x g. c.columns_line.ensures near (omega arith) x (omega arith) ∙ ap column_of (p.pixels x g)),
+    )
 
-pub overflow_mul-y-in-loop-y : goal.overflow_mul-y-in-loop-y
-overflow_mul-y-in-loop-y c =
-    omega (arith, row c.before.before.before.before.before.before.before.before)
+pub returns-clause-rows_after : goal.returns-clause-rows_after
+unfolding rows_plane
+returns-clause-rows_after c =
+    rows_end (pos 0) _ c.args.w c.args.h c.loop-y.rows c.loop-y.y c.loop-y.invariant.2 c.loop-y-test.false (omega arith)
 
-pub overflow_add-y : goal.overflow_add-y
-overflow_add-y c =
-    omega (arith, row c.before.before.before.before.before.before.before.before.before.before.before)
-
-pub loop-y-smaller : goal.loop-y-smaller
-loop-y-smaller c =
-    omega (arith, row c.before.before.before.before.before.before.before.before.before.before.before)
-
-pub shape_of-work : goal.shape_of-work
-shape_of-work c =
-    c.loop-y.invariant.0.size ∙ c.below.auto.work
-
-pub shape_of-rows : goal.shape_of-rows
-shape_of-rows c =
-    c.loop-y.invariant.1.size
-
-pub shape_of-cols : goal.shape_of-cols
-shape_of-cols c =
-    c.loop-y.invariant.2.size
+pub returns-clause-cols_after : goal.returns-clause-cols_after
+unfolding columns_plane
+returns-clause-cols_after c =
+    rows_end (pos 0) _ c.args.w c.args.h c.loop-y.cols c.loop-y.y c.loop-y.invariant.3 c.loop-y-test.false (omega arith)

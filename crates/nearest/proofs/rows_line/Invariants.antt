@@ -1,15 +1,9 @@
 -- `nearest::rows_line` meets its contract.
 -- Assumes nothing.
-use Prim.Native.Nat.{ℕ, ◌-◌}
-use lib.IntN.{pos}
-use Rattle.line.proofs.Part.{Filling}
+use Rattle.std.proofs.Common.{◌≡◌, ℕ, ◌<◌, get_or, pos}
 use Rattle.nearest.specs.Nearest.{row_of}
 use Rattle.nearest.specs.steps.Stages.{pixel_in}
 use Rattle.nearest.proofs.rows_line.Given as goal
 
 abbrev pub invariant-loop-x : goal.invariant-loop-x
-invariant-loop-x l =
-    Filling (pos 0) (λ (k : ℕ). row_of (pixel_in l.work l.places l.near l.w k)) l.row l.w l.initial.rows l.rows l.x
-
-abbrev pub decreases-loop-x : goal.decreases-loop-x
-decreases-loop-x l = l.w - l.x
+invariant-loop-x l = (k : ℕ) → k < l.x → get_or l.rows k (pos 0) ≡ row_of (pixel_in l.near (get_or l.places k 0))

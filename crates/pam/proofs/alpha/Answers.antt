@@ -4,7 +4,7 @@ use mathlib.Core.Path.{ap, ◌∙◌}
 use Prim.Native.Nat.{ℕ, ◌+◌, ◌*◌}
 use native.Mathlib.Omega.{arith}
 use Rattle.plane.specs.Plane.{table}
-use Rattle.plane.proofs.InPlace.{changed-none, changed-more, changed-end}
+use Rattle.plane.proofs.InPlace.{changed-more, changed-end}
 use Rattle.pam.specs.Picture.{sample_at, alpha_from}
 use Rattle.pam.proofs.alpha.Goals as goal
 
@@ -12,24 +12,12 @@ pub loop-i-preserved : goal.loop-i-preserved
 unfolding sample_at
 loop-i-preserved c =
     let l = c.loop-i in
-    let done = l.invariant.1 in
-    (omega arith, changed-more 0 _ _ l.out l.i c.byte_at.result done (omega (arith, done.size)) c.byte_at.ensures)
+    let done = l.invariant in
+    changed-more 0 _ _ l.out l.i c.byte_at.result done (omega (arith, done.size)) c.byte_at.ensures
 
 pub returns : goal.returns
 unfolding alpha_from
 returns c =
     let l = c.loop-i in
-    changed-end 0 _ _ l.out l.i l.invariant.1 (omega (arith, l.invariant.1.size))
+    changed-end 0 _ _ l.out l.i l.invariant (omega (arith, l.invariant.size))
     ∙ ap (table (λ (k : ℕ). sample_at c.args.input.now c.args.body (4 * k + 3)) 0) c.requires.2
-
-pub loop-i-init : goal.loop-i-init
-loop-i-init c =
-    (omega arith, changed-none 0 _ _)
-
-pub bounds-out-i : goal.bounds-out-i
-bounds-out-i c =
-    omega (arith, c.loop-i.invariant.1.size)
-
-pub shape_of-out : goal.shape_of-out
-shape_of-out c =
-    c.loop-i.invariant.1.size

@@ -6,7 +6,7 @@ use native.Mathlib.Omega.{arith}
 use lib.ListN.{get_or}
 use lib.Ieee.{nan}
 use Rattle.plane.specs.Plane.{table}
-use Rattle.plane.proofs.InPlace.{changed-none, changed-more, changed-end}
+use Rattle.plane.proofs.InPlace.{changed-more, changed-end}
 use Rattle.colour.specs.Colour.{colour_ok}
 use Rattle.colour.specs.Weight.{weight_of}
 use Rattle.colour.proofs.Range.{colours-all}
@@ -19,16 +19,16 @@ pub loop-k-preserved : goal.loop-k-preserved
 unfolding sample_at
 loop-k-preserved c =
     let l = c.loop-k in
-    let done = l.invariant.1 in
+    let done = l.invariant in
     let right = c.weight.ensures ∙ ap weight_of c.byte_at-v.ensures in
-    (omega arith, changed-more nan _ _ l.out l.k c.weight.result done (omega (arith, done.size)) right)
+    changed-more nan _ _ l.out l.k c.weight.result done (omega (arith, done.size)) right
 
 pub returns : goal.returns
 unfolding colours_from sample_at
 returns c =
     let l = c.loop-k in
     let a = c.args in
-    let done = l.invariant.1 in
+    let done = l.invariant in
     let whole = changed-end nan _ _ l.out l.k done (omega (arith, done.size)) in
     let place : ℕ → ℕ = λ (k : ℕ). a.body + (4 * (k / 3) + k % 3) in
     let byte = c.shared_slice_known-1.given in record {
@@ -38,15 +38,3 @@ returns c =
           ap colour_ok (done.front k (omega (arith, done.size)))
           ∙ byte-ok (get_or a.input.now (place k) 0) (omega (arith, byte (place k))));
     }
-
-pub loop-k-init : goal.loop-k-init
-loop-k-init c =
-    (omega arith, changed-none nan _ _)
-
-pub bounds-out-k : goal.bounds-out-k
-bounds-out-k c =
-    omega (arith, c.loop-k.invariant.1.size)
-
-pub shape_of-out : goal.shape_of-out
-shape_of-out c =
-    c.loop-k.invariant.1.size

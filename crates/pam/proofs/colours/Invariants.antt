@@ -1,8 +1,7 @@
 -- `pam::colours` meets its contract.
 -- Assumes nothing.
 use mathlib.Core.List.{List}
-use Prim.Native.Nat.{ℕ, ◌+◌, ◌*◌, ◌/◌, ◌%◌, ◌-◌, ◌≤◌}
-use lib.ListN.{length}
+use Prim.Native.Nat.{ℕ, ◌+◌, ◌*◌, ◌/◌, ◌%◌}
 use lib.Ieee.{Float, nan}
 use Rattle.plane.proofs.InPlace.{Changed}
 use Rattle.colour.specs.Weight.{weight_of}
@@ -14,7 +13,4 @@ abbrev pub channel : List ℕ → ℕ → ℕ → Float
 channel input body k = weight_of (sample_at input body (4 * (k / 3) + k % 3))
 
 abbrev pub invariant-loop-k : goal.invariant-loop-k
-invariant-loop-k l = (l.k ≤ length l.initial.out) × Changed nan (channel l.input l.body) l.initial.out l.out l.k
-
-abbrev pub decreases-loop-k : goal.decreases-loop-k
-decreases-loop-k l = length l.initial.out - l.k
+invariant-loop-k l = Changed nan (channel l.input l.body) l.initial.out l.out l.k

@@ -1,8 +1,7 @@
 -- `pam_header::is_text` meets its contract.
 -- Assumes nothing.
-use Rattle.pam_header.specs.Header.{is_text}
+use Rattle.pam_header.proofs.Comparing.{text_same}
 use Rattle.pam_header.proofs.is_text.Goals as goal
 
 pub returns : goal.returns
-unfolding is_text
-returns c = rw c.starts.ensures
+returns c = text_same c.args.text.now c.args.line.now c.eq.result c.eq.ensures

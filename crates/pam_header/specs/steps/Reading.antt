@@ -1,70 +1,52 @@
 -- The header read line by line.
 -- Assumes nothing.
-use Rattle.std.specs.Prelude.{ℕ, suc, ◌+◌, ◌*◌, ◌≤◌, Bool, true, cond, ◌&&◌, List, [], ◌∷◌, eqb, length}
+use Rattle.std.specs.Prelude.{ℕ, Bool, true, false, cond, ◌&&◌, List, eqb, length, drop, Option, Some, None, is_some}
+use Rattle.text.specs.Decimal.{value_of}
 use Rattle.pam_header.specs.declared.Header.{Header}
 use Rattle.pam_header.specs.declared.Fields.{Fields}
-use Rattle.pam_header.specs.Header.{is_text, is_side, side_from, is_other, declined}
-use Rattle.pam_header.specs.Header.{width_name, height_name, depth_text, maxval_text, tupltype_text, end_text}
+use Rattle.pam_header.specs.declared.Line.{Line}
+use Rattle.pam_header.specs.declared.Line.TheVariants.{Skipped, Width, Height, Depth, Maxval, Tupltype}
+use Rattle.pam_header.specs.Header.{is_text, is_side, is_skipped}
+use Rattle.pam_header.specs.Header.{width_name, height_name, depth_text, maxval_text, tupltype_text}
 
--- how many bytes stand before the first newline, or before the end
-unfoldable pub line_long : List ℕ → ℕ
-line_long [] = 0
-line_long (b ∷ text) = cond (eqb b 10) 0 (suc (line_long text))
+-- what ends a line
+abbrev pub is_newline : ℕ → Bool
+is_newline b = eqb b 10
 
--- before the first line
-abbrev pub no_fields : Fields
-no_fields =
-    record {
-      widths = 0;
-      heights = 0;
-      depths = 0;
-      maxvals = 0;
-      tupltypes = 0;
-      others = 0;
-      width = 0;
-      height = 0;
-    }
+-- the side that a line gives after a name
+abbrev pub side_on : List ℕ → List ℕ → Option ℕ
+side_on name line = cond (is_side name line) (Some (value_of (drop (length name) line))) None
 
--- a count that takes in one more line
-abbrev pub more : ℕ → Bool → ℕ
-more n t = n + cond t 1 0
+-- what a line is; None where it has no place between P7 and ENDHDR
+abbrev pub line_of : List ℕ → Option Line
+line_of line =
+    cond (is_skipped line) (Some Skipped)
+    (cond (is_side width_name line) (Some (Width (value_of (drop (length width_name) line))))
+    (cond (is_side height_name line) (Some (Height (value_of (drop (length height_name) line))))
+    (cond (is_text depth_text line) (Some Depth)
+    (cond (is_text maxval_text line) (Some Maxval)
+    (cond (is_text tupltype_text line) (Some Tupltype) None)))))
+
+-- the fields with one more, which was not seen already
+abbrev pub with_field : Fields → Option Line → Option Fields
+with_field s None = None
+with_field s (Some Skipped) = Some s
+with_field s (Some (Width n)) = cond (is_some s.width) None (Some (record s { width = Some n }))
+with_field s (Some (Height n)) = cond (is_some s.height) None (Some (record s { height = Some n }))
+with_field s (Some Depth) = cond s.depth None (Some (record s { depth = true }))
+with_field s (Some Maxval) = cond s.maxval None (Some (record s { maxval = true }))
+with_field s (Some Tupltype) = cond s.tupltype None (Some (record s { tupltype = true }))
 
 -- after one more line
-unfoldable pub with_line : Fields → List ℕ → Fields
-with_line s line =
-    record {
-      widths = more s.widths (is_side width_name line);
-      heights = more s.heights (is_side height_name line);
-      depths = more s.depths (is_text depth_text line);
-      maxvals = more s.maxvals (is_text maxval_text line);
-      tupltypes = more s.tupltypes (is_text tupltype_text line);
-      others = more s.others (is_other line);
-      width = side_from width_name s.width line;
-      height = side_from height_name s.height line;
-    }
+abbrev pub with_line : Fields → List ℕ → Option Fields
+with_line s line = with_field s (line_of line)
 
--- the counts are those of at most n lines, six counts a line
-abbrev pub Few : Fields → ℕ → Type 0
-Few s n = s.widths + s.heights + s.depths + s.maxvals + s.tupltypes + s.others ≤ 6 * n
+-- the header with these sides, where the other fields were seen
+abbrev pub header_with : Option ℕ → Option ℕ → Bool → ℕ → Option Header
+header_with (Some h) (Some w) true at = Some (record { height = h; width = w; body = at })
+header_with (Some h) (Some w) false at = None
+header_with (Some h) None t at = None
+header_with None w t at = None
 
--- whether the lines were as they should be
-unfoldable pub seen_ok : Fields → Bool
-seen_ok s =
-    eqb s.widths 1
-    && eqb s.heights 1
-    && eqb s.depths 1
-    && eqb s.maxvals 1
-    && eqb s.tupltypes 1
-    && eqb s.others 0
-
--- the header whose lines were these, with the pixels at a place
-unfoldable pub header_from : Fields → ℕ → Header
-header_from s at =
-    cond (seen_ok s) (record { ok = true; height = s.height; width = s.width; body = at }) declined
-
--- the header whose further lines are these, the first of them at a place
-unfoldable pub read_from : Fields → ℕ → List (List ℕ) → Header
-read_from s at [] = declined
-read_from s at (line ∷ lines) =
-    let next = at + length line + 1 in
-    cond (is_text end_text line) (header_from s next) (read_from (with_line s line) next lines)
+abbrev pub header_from : Fields → ℕ → Option Header
+header_from s at = header_with s.height s.width (s.depth && s.maxval && s.tupltype) at

@@ -1,25 +1,20 @@
 -- `pbm::pair` meets its contract.
 -- Assumes nothing.
 use native.Mathlib.Omega.{arith}
-use Rattle.text.proofs.Written.{wrote-more}
+use Rattle.text.proofs.Written.{writes-more}
 use Rattle.pbm.specs.Text.{pair_text}
 use Rattle.pbm.proofs.Lengths.{pair-long}
 use Rattle.pbm.proofs.pair.Goals as goal
 
--- the start, seen from the second number
+pub number-requires : goal.number-requires
+number-requires c = omega (arith, c.requires, pair-long c.args.a c.args.b)
+
+pub put-requires : goal.put-requires
+put-requires c = omega (arith, c.requires, pair-long c.args.a c.args.b)
+
+pub number-requires-2 : goal.number-requires-2
+number-requires-2 c = omega (arith, c.requires, pair-long c.args.a c.args.b)
+
 pub returns : goal.returns
 unfolding pair_text
-returns c =
-    wrote-more (wrote-more c.write_number-first.ensures c.put-second.ensures) c.write_number.ensures
-
-pub write_number-first-requires : goal.write_number-first-requires
-write_number-first-requires c =
-    let a = c.args in omega (arith, pair-long a.a a.b)
-
-pub put-second-requires : goal.put-second-requires
-put-second-requires c =
-    let a = c.args in omega (arith, pair-long a.a a.b)
-
-pub write_number-requires : goal.write_number-requires
-write_number-requires c =
-    let a = c.args in omega (arith, pair-long a.a a.b)
+returns c = writes-more (writes-more c.number.ensures c.put.ensures) c.number-2.ensures

@@ -4,7 +4,7 @@ use mathlib.Core.Path.{◌≡◌, sym, ◌∙◌}
 use mathlib.Core.Bool.{true}
 use Prim.Native.Nat.{◌*◌, ◌≤◌}
 use native.Mathlib.Omega.{arith}
-use Rattle.plane.specs.Refusal.{refusal_of, sides_ok}
+use Rattle.plane.specs.Refusal.{refusal_of, answer_for, sides_ok}
 use Rattle.plane.proofs.Refusal.{joined, sides-are, accepted-area}
 use Rattle.outline.specs.Refusal.{cut_lengths}
 use Rattle.refusals.proofs.cut_lengths.Tie as tie
@@ -23,21 +23,21 @@ small : (c : At-Else1) → c.args.h * c.args.w ≤ 4294967296
 small c = accepted-area _ _ (ok c)
 
 pub returns-then-not-sides_ok : goal.returns-then-not-sides_ok
-unfolding cut_lengths refusal_of
+unfolding cut_lengths refusal_of answer_for
 returns-then-not-sides_ok c = rw (sym c.sides_ok.ensures ∙ c.if-not-sides_ok.true)
 
 pub returns-then-mask-n : goal.returns-then-mask-n
-unfolding cut_lengths refusal_of
+unfolding cut_lengths refusal_of answer_for
 returns-then-mask-n c =
     rw (joined, joined, ← c.room.ensures, ok c.before.before.before.before, c.if-colours-n.true, c.if-mask-n.true)
     c.work_lengths.ensures
 
 pub returns-then-colours-n : goal.returns-then-colours-n
-unfolding cut_lengths refusal_of
+unfolding cut_lengths refusal_of answer_for
 returns-then-colours-n c = rw (joined, joined, ok c.before.before, c.if-colours-n.true, c.if-mask-n.false)
 
 pub returns : goal.returns
-unfolding cut_lengths refusal_of
+unfolding cut_lengths refusal_of answer_for
 returns c = rw (joined, ok c.before, c.if-colours-n.false)
 
 pub overflow_mul-n : goal.overflow_mul-n

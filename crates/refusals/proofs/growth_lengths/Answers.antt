@@ -5,7 +5,7 @@ use mathlib.Core.Bool.{true}
 use Prim.Native.Nat.{◌*◌, ◌≤◌}
 use native.Mathlib.Omega.{arith}
 use borrow.Author.Tests.{eq-eqb, ne_eqb}
-use Rattle.plane.specs.Refusal.{refusal_of, sides_ok}
+use Rattle.plane.specs.Refusal.{refusal_of, answer_for, sides_ok}
 use Rattle.plane.proofs.Refusal.{joined, sides-are, accepted-area}
 use Rattle.outline.specs.Refusal.{growth_lengths}
 use Rattle.refusals.proofs.growth_lengths.Tie as tie
@@ -24,21 +24,21 @@ small : (c : At-Else1) → c.args.h * c.args.w ≤ 4294967296
 small c = accepted-area _ _ (ok c)
 
 pub returns-then-not-sides_ok : goal.returns-then-not-sides_ok
-unfolding growth_lengths refusal_of
+unfolding growth_lengths refusal_of answer_for
 returns-then-not-sides_ok c = rw (sym c.sides_ok.ensures ∙ c.if-not-sides_ok.true)
 
 pub returns-then-out-n : goal.returns-then-out-n
-unfolding growth_lengths refusal_of
+unfolding growth_lengths refusal_of answer_for
 returns-then-out-n c = rw (joined, ok c.before.before, c.if-colours-n.true, ne_eqb _ _ c.if-out-n.true)
 
 pub returns-then-colours-n : goal.returns-then-colours-n
-unfolding growth_lengths refusal_of
+unfolding growth_lengths refusal_of answer_for
 returns-then-colours-n c =
     rw (joined, ← c.room.ensures, ok c.before.before.before.before, c.if-colours-n.true, eq-eqb _ _ c.if-out-n.false)
     c.work_lengths.ensures
 
 pub returns : goal.returns
-unfolding growth_lengths refusal_of
+unfolding growth_lengths refusal_of answer_for
 returns c = rw (joined, ok c.before, c.if-colours-n.false)
 
 pub overflow_mul-n : goal.overflow_mul-n

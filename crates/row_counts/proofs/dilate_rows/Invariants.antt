@@ -1,6 +1,6 @@
 -- `row_counts::dilate_rows` meets its contract. The loop's invariant: the buffer holds the first y rows, and then what it held before.
 -- Assumes nothing.
-use Rattle.std.proofs.Common.{◌≡◌, ℕ, ◌-◌, ◌*◌, ◌≤◌, List, ◌++◌, length, drop}
+use Rattle.std.proofs.Common.{◌≡◌, ℕ, ◌*◌, List, ◌++◌, drop}
 use Rattle.plane.specs.Plane.{bit, on_at, table, rows_upto}
 use Rattle.counts.specs.steps.Window.{in_window}
 use Rattle.row_counts.proofs.dilate_rows.Given as goal
@@ -10,10 +10,4 @@ abbrev pub row_of : List ℕ → ℕ → ℕ → ℕ → List ℕ
 row_of mask w k y = table (λ (x : ℕ). bit (in_window w k x (on_at mask w y))) 0 w
 
 abbrev pub invariant-loop-y : goal.invariant-loop-y
-invariant-loop-y l =
-    (l.y ≤ l.h)
-    × (length l.out ≡ length l.initial.out)
-    × (l.out ≡ rows_upto l.y (row_of l.mask l.w l.k) ++ drop (l.y * l.w) l.initial.out)
-
-abbrev pub decreases-loop-y : goal.decreases-loop-y
-decreases-loop-y l = l.h - l.y
+invariant-loop-y l = l.out ≡ rows_upto l.y (row_of l.mask l.w l.k) ++ drop (l.y * l.w) l.initial.out

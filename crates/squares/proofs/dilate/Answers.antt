@@ -1,35 +1,29 @@
 -- `squares::dilate` meets its contract.
 -- Assumes nothing.
-use Prim.Native.Nat.{◌*◌, ◌≤◌}
-use native.Mathlib.Omega.{arith}
-use lib.ListN.{drop}
+use Rattle.std.proofs.Common.{◌*◌, drop, arith}
 use Rattle.plane.specs.steps.Sides.{longest_side}
 use Rattle.squares.proofs.Laws.{larger-least, radius-most}
 use Rattle.squares.proofs.Passes.{passes-are, work-kept}
-use Rattle.squares.proofs.dilate.Tie as tie
-use Rattle.squares.proofs.dilate.Reads as reads
-use Rattle.squares.proofs.dilate.Lts as lts
 use Rattle.squares.proofs.dilate.Goals as goal
-
-abbrev At-After-radius : Type 0
-At-After-radius = lts.After-radius tie.the-claims reads.Pre reads.Post tie.handed_clauses
-
--- the k that is used is at most the longest side
-near : (c : At-After-radius) → c.radius-k.result ≤ longest_side
-near c =
-    let a = c.args in
-    let side = larger-least a.h a.w longest_side c.requires.sides.tall c.requires.sides.wide in
-    omega (arith, c.radius-k.ensures, radius-most a.h a.w a.iterations)
 
 pub dilate_rows-requires : goal.dilate_rows-requires
 dilate_rows-requires c =
-    record { sides = c.requires.sides; near = near c.before.before; mask_size = c.requires.mask_size; out_size = c.requires.work_size }
+    let a = c.args in
+    let side = larger-least a.h a.w longest_side c.requires.sides.tall c.requires.sides.wide in
+    record {
+      sides = c.requires.sides;
+      near = omega (arith, c.radius-k.ensures, radius-most a.h a.w a.iterations);
+      mask_size = c.requires.mask_size;
+      out_size = c.requires.work_size;
+    }
 
 pub dilate_columns-requires : goal.dilate_columns-requires
 dilate_columns-requires c =
+    let a = c.args in
+    let side = larger-least a.h a.w longest_side c.requires.sides.tall c.requires.sides.wide in
     record {
       sides = c.requires.sides;
-      near = near c.before.before.before.before.before.before;
+      near = omega (arith, c.radius-k.ensures, radius-most a.h a.w a.iterations);
       size = omega (arith, c.dilate_rows.auto.out, c.requires.work_size);
       out_size = c.requires.out_size;
     }
@@ -37,8 +31,9 @@ dilate_columns-requires c =
 pub returns : goal.returns
 returns c =
     let a = c.args in
-    let rows = c.dilate_rows in record {
-      out_after = passes-are a.mask.now (drop (a.h * a.w) a.work.now) a.h a.w a.iterations c.radius-k.ensures
-          rows.ensures c.dilate_columns.ensures;
+    let rows = c.dilate_rows in
+    record {
+      out_after =
+          passes-are a.mask.now (drop (a.h * a.w) a.work.now) a.h a.w a.iterations c.radius-k.ensures rows.ensures c.dilate_columns.ensures;
       bit_or_old = work-kept a.mask.now a.h a.w _ rows.ensures rows.auto.out c.requires.sides.some_columns;
     }

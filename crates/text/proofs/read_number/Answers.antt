@@ -7,13 +7,7 @@ use native.Mathlib.Omega.{arith}
 use lib.ListN.{length, take, drop, length-take}
 use Rattle.text.specs.Decimal.{value_from, value_of, digits_upto, number_upto}
 use Rattle.text.proofs.Decimal.{stand, digits-most}
-use Rattle.text.proofs.read_number.Tie as tie
-use Rattle.text.proofs.read_number.Reads as reads
-use Rattle.text.proofs.read_number.Lts as lts
 use Rattle.text.proofs.read_number.Goals as goal
-
-abbrev At-Else1 : Type 0
-At-Else1 = lts.Else1 tie.the-claims reads.Pre reads.Post
 
 pub returns-then-n-eq0 : goal.returns-then-n-eq0
 unfolding number_upto value_from
@@ -23,11 +17,8 @@ returns-then-n-eq0 c =
     rw e
 
 -- the digits are inside the text
-inside : (c : At-Else1) → let a = c.args in a.at + c.digits-n.result ≤ length a.text.now
-inside c =
-    let a = c.args in
-    let e = c.digits-n.ensures in
-    omega (arith, e, (stand a.text.now a.most a.at).inside (omega (arith, e, c.if-n-eq0.false)))
+inside : (text : List ℕ) (most at n : ℕ) → n ≡ digits_upto most text at → (n ≡ 0 → ⊥) → at + n ≤ length text
+inside text most at n e some = omega (arith, e, some, (stand text most at).inside (omega (arith, e, some)))
 
 -- as many bytes as there are digits
 part : (a : ℕ) {n k : ℕ} (text : List ℕ) → n ≡ k → take ((a + n) - a) (drop a text) ≡ take k (drop a text)
@@ -48,8 +39,7 @@ returns c =
 
 pub overflow_add-at : goal.overflow_add-at
 overflow_add-at c =
-    let l = inside c.before in omega arith
+    let l = inside c.args.text.now c.args.most c.args.at _ c.digits-n.ensures c.if-n-eq0.false in omega arith
 
 pub slice_bounds-value-end : goal.slice_bounds-value-end
-slice_bounds-value-end c =
-    inside c.before
+slice_bounds-value-end c = inside c.args.text.now c.args.most c.args.at _ c.digits-n.ensures c.if-n-eq0.false

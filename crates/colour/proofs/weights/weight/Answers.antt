@@ -3,7 +3,6 @@
 -- Assumes nothing.
 use native.Mathlib.Omega.{arith}
 use lib.Ieee.{of_bits, div, of_int}
-use borrow.Author.Rules.{rules}
 use Rattle.colour.specs.Weight.{weight_of}
 use Rattle.colour.proofs.Bytes.{weights, weights-at}
 use Rattle.colour.proofs.weights.weight.Goals as goal
@@ -11,11 +10,3 @@ use Rattle.colour.proofs.weights.weight.Goals as goal
 pub returns : goal.returns
 unfolding weights weight_of of_bits div of_int
 returns c = weights-at c.args.v (omega arith)
-
-pub offset_bounds-v : goal.offset_bounds-v
-offset_bounds-v c =
-    (search rules)
-
-pub bounds-v : goal.bounds-v
-bounds-v c =
-    (search rules)

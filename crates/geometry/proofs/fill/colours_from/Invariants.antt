@@ -2,7 +2,7 @@
 -- Assumes nothing.
 use mathlib.Core.Path.{◌≡◌}
 use mathlib.Core.List.{◌++◌}
-use Prim.Native.Nat.{◌*◌, ◌-◌, ◌≤◌}
+use Prim.Native.Nat.{◌*◌}
 use lib.ListN.{length, drop}
 use Rattle.plane.specs.Plane.{rows_upto}
 use Rattle.geometry.proofs.Filling.{colour_row}
@@ -10,7 +10,4 @@ use Rattle.geometry.proofs.fill.colours_from.Given as goal
 
 abbrev pub invariant-loop-i : goal.invariant-loop-i
 invariant-loop-i l =
-    (l.i ≤ l.h * l.w) × (length l.out ≡ length l.initial.out) × (l.out ≡ rows_upto l.i (colour_row l.colours l.h l.w l.indices l.some) ++ drop (l.i * 3) l.initial.out)
-
-abbrev pub decreases-loop-i : goal.decreases-loop-i
-decreases-loop-i l = l.h * l.w - l.i
+    (length l.out ≡ length l.initial.out) × (l.out ≡ rows_upto l.i (colour_row l.colours l.h l.w l.indices l.some) ++ drop (l.i * 3) l.initial.out)

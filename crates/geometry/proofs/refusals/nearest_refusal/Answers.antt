@@ -5,7 +5,7 @@ use mathlib.Core.Bool.{true}
 use Prim.Native.Nat.{◌*◌, ◌≤◌}
 use native.Mathlib.Omega.{arith}
 use borrow.Author.Tests.{eq-eqb, ne_eqb}
-use Rattle.plane.specs.Refusal.{refusal_of, sides_ok}
+use Rattle.plane.specs.Refusal.{refusal_of, answer_for, sides_ok}
 use Rattle.plane.proofs.Refusal.{joined, sides-are, accepted-area}
 use Rattle.geometry.specs.Refusal.{nearest_refusal}
 use Rattle.geometry.proofs.refusals.nearest_refusal.Tie as tie
@@ -24,20 +24,20 @@ small : (c : At-Else1) → c.args.h * c.args.w ≤ 4294967296
 small c = accepted-area _ _ (ok c)
 
 pub returns-then-not-sides_ok : goal.returns-then-not-sides_ok
-unfolding nearest_refusal refusal_of
+unfolding nearest_refusal refusal_of answer_for
 returns-then-not-sides_ok c = rw (sym c.sides_ok.ensures ∙ c.if-not-sides_ok.true)
 
 pub returns-then-mask-n : goal.returns-then-mask-n
-unfolding nearest_refusal refusal_of
+unfolding nearest_refusal refusal_of answer_for
 returns-then-mask-n c = rw (ok c.before, ne_eqb _ _ c.if-mask-n.true)
 
 pub returns-then-rows-n : goal.returns-then-rows-n
-unfolding nearest_refusal refusal_of
+unfolding nearest_refusal refusal_of answer_for
 returns-then-rows-n c =
     rw (joined, joined, ← c.room.ensures, ok c.before.before.before, eq-eqb _ _ c.if-mask-n.false, c.if-rows-n.true)
 
 pub returns : goal.returns
-unfolding nearest_refusal refusal_of
+unfolding nearest_refusal refusal_of answer_for
 returns c =
     rw (joined, joined, ← c.room.ensures, ok c.before.before.before, eq-eqb _ _ c.if-mask-n.false, c.if-rows-n.false)
 

@@ -1,9 +1,0 @@
--- `text::is_digit` meets its contract.
--- Assumes nothing.
-use mathlib.Core.Path.{refl}
-use Rattle.text.specs.Decimal.{is_digit}
-use Rattle.text.proofs.is_digit.Goals as goal
-
-pub returns : goal.returns
-unfolding is_digit
-returns c = refl
