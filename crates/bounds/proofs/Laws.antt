@@ -1,19 +1,16 @@
 -- Laws of the box of a mask, with any margin: it has every pixel of the mask, and lies in the picture.
 -- Assumes nothing.
 use mathlib.Core.Path.{◌≡◌}
-use mathlib.Core.Bool.{true, false, cond}
+use mathlib.Core.Bool.{true}
 use mathlib.Core.List.{List}
-use mathlib.Core.Logic.{⊎_elim}
-use Prim.Native.Nat.{ℕ, min, ◌+◌, ◌-◌, ◌≤◌, ◌<◌}
+use Prim.Native.Nat.{ℕ, ◌+◌, ◌≤◌, ◌<◌}
 use native.Mathlib.Omega.{arith}
-use lib.Dec.{leb}
-use borrow.Author.Tests.{leb-true, leb-false}
 use Rattle.plane.specs.Plane.{on_at}
 use Rattle.plane.specs.Search.{last_below}
-use Rattle.plane.specs.Box.{row_has, column_has, lesser_of, box_of}
+use Rattle.plane.specs.Box.{row_has, column_has, box_of}
 use Rattle.plane.specs.declared.Box.{Box}
-use Rattle.plane.proofs.Search.{either, some_is}
-use Rattle.plane.proofs.Bounds.{between}
+use Rattle.plane.proofs.Search.{some_is}
+use Rattle.plane.proofs.Bounds.{between, lesser-min}
 
 -- a box that is accepted for a picture (R50): y0 < y1 ≤ h and x0 < x1 ≤ w
 pub record BoxIn (h w : ℕ) (b : Box) : Type 0 where
@@ -29,18 +26,6 @@ pub record Has (b : Box) (y x : ℕ) : Type 0 where
   pub from_column : b.x0 ≤ x
   pub to_column : x < b.x1
 
--- the lesser of two numbers
-pub lesser-is : (a b : ℕ) → lesser_of a b ≡ a - (a - b)
-unfolding lesser_of
-lesser-is a b =
-    ⊎_elim {C = cond (leb a b) a b ≡ a - (a - b)}
-    (λ (e : leb a b ≡ true). rw e (omega (arith, leb-true a b e)))
-    (λ (e : leb a b ≡ false). rw e (omega (arith, leb-false a b e)))
-    (either (leb a b))
-
-pub lesser-min : (a b : ℕ) → lesser_of a b ≡ min a b
-lesser-min a b = omega (arith, lesser-is a b)
-
 module _ (mask : List ℕ) (h w margin y x : ℕ) (row : y < h) (column : x < w) (pixel_on : on_at mask w y x ≡ true) where
   -- the box has every pixel of the mask,
   pub box-has : Has (box_of mask h w margin) y x
@@ -50,9 +35,9 @@ module _ (mask : List ℕ) (h w margin y x : ℕ) (row : y < h) (column : x < w)
       let c = between (column_has mask h w) w x column (some_is (λ (j : ℕ). on_at mask w j x) h y row pixel_on) in
       record {
         from_row = omega (arith, r.0);
-        to_row = omega (arith, r.1, lesser-is h (last_below h (row_has mask w) + 1 + margin));
+        to_row = omega (arith, r.1, lesser-min h (last_below h (row_has mask w) + 1 + margin));
         from_column = omega (arith, c.0);
-        to_column = omega (arith, c.1, lesser-is w (last_below w (column_has mask h w) + 1 + margin));
+        to_column = omega (arith, c.1, lesser-min w (last_below w (column_has mask h w) + 1 + margin));
       }
 
   -- and is one of the picture where there is such a pixel
@@ -62,7 +47,7 @@ module _ (mask : List ℕ) (h w margin y x : ℕ) (row : y < h) (column : x < w)
       let z : Has (box_of mask h w margin) y x = box-has in
       record {
         some_rows = omega (arith, z.from_row, z.to_row);
-        rows_in = omega (arith, lesser-is h (last_below h (row_has mask w) + 1 + margin));
+        rows_in = omega (arith, lesser-min h (last_below h (row_has mask w) + 1 + margin));
         some_columns = omega (arith, z.from_column, z.to_column);
-        columns_in = omega (arith, lesser-is w (last_below w (column_has mask h w) + 1 + margin));
+        columns_in = omega (arith, lesser-min w (last_below w (column_has mask h w) + 1 + margin));
       }

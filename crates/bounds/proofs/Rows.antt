@@ -18,32 +18,49 @@ use Rattle.plane.specs.Plane.{on, on_at}
 use Rattle.plane.specs.Search.{some_below, first_below, last_below}
 use Rattle.plane.specs.Mask.{is_on}
 use Rattle.plane.specs.Box.{row_has, column_has}
-use Rattle.plane.proofs.Search.{which, either, some_same, some_is, some-found, none_is, none_found}
-use Rattle.plane.proofs.Plane.{row_in}
+use Rattle.plane.proofs.Search.{some_same, some_is, some-found, none_is, none_found}
+use Rattle.std.proofs.lemmas.Bool.{cases_Bool, cases_lt}
+use Rattle.plane.proofs.Plane.{part_at}
+use Rattle.std.specs.Bool.{then_some}
 use Rattle.plane.proofs.Bounds.{first_below_lem, first_is, first-none, first-most, first-or, first_same, none_before}
 use Rattle.plane.proofs.Bounds.{Last, last-is, last_none, last-most, last_or, last-same}
 
--- the first place of a list that passes; its length where none does
-pub first_position : (p : ℕ → Bool) (xs : List ℕ) → unwrap_or (position p xs) (length xs) ≡ first_below (length xs) (λ (k : ℕ). p (get_or xs k 0))
+-- the first place of a list that passes
+pub first_position : (p : ℕ → Bool) (xs : List ℕ)
+    → (let n = length xs in
+    let q : ℕ → Bool = λ k. p (get_or xs k 0) in
+    position p xs ≡ then_some (some_below n q) (first_below n q))
 first_position p xs =
     let i = position_or_len p xs in
     let n = length xs in
     let q : ℕ → Bool = λ k. p (get_or xs k 0) in
-    ⊎_elim {C = unwrap_or (cond (ltb i n) (Some i) None) n ≡ first_below n q}
+    ⊎_elim {C = cond (ltb i n) (Some i) None ≡ then_some (some_below n q) (first_below n q)}
     (λ (l : i < n).
-    rw (lt-ltb i n l) (sym (first_is q n i (record { inside = l; holds = passes_at_first p xs 0 l; before = λ k m. fails_before_first p xs k 0 m }))))
-    (λ (l : n ≤ i). rw (le-ltb i n l) (sym (first-none q n (λ k m. fails_before_first p xs k 0 (omega arith)))))
-    (which i n)
+    let here = passes_at_first p xs 0 l in
+    rw (lt-ltb i n l, some_is q n i l here, first_is q n i (record { inside = l; holds = here; before = λ k m. fails_before_first p xs k 0 m })) refl)
+    (λ (l : n ≤ i). rw (le-ltb i n l, none_is q n (λ k m. fails_before_first p xs k 0 (omega arith))) refl)
+    (cases_lt i n)
 
--- the last number below n of which p holds, that is told by an Option; 0 where there is none
-pub last_told : (p : ℕ → Bool) (n : ℕ) (r : Option ℕ) → MatchOption r ((k : ℕ) → k < n → p k ≡ false) (Last n p) → unwrap_or r 0 ≡ last_below n p
-last_told p n None none = sym (last_none p n none)
-last_told p n (Some i) found = sym (last-is p n i found)
+-- an Option that tells the last number below n of which p holds
+pub last_told : (p : ℕ → Bool) (n : ℕ) (r : Option ℕ) → MatchOption r ((k : ℕ) → k < n → p k ≡ false) (Last n p)
+    → r ≡ then_some (some_below n p) (last_below n p)
+last_told p n None none = rw (none_is p n none) refl
+last_told p n (Some i) found = rw (some_is p n i found.inside found.holds, last-is p n i found) refl
 
--- the last number below k + 1 of which p holds
-pub last_step : (p : ℕ → Bool) (n k : ℕ) (t : Bool) → n ≡ suc k → t ≡ p k → last_below n p ≡ cond t k (last_below k p)
-unfolding last_below
-last_step p n k t q e = rw (q, e)
+-- where none is told, the first number is n, and the last one 0
+first-or-n : (p : ℕ → Bool) (n : ℕ) {o : Option ℕ} → o ≡ then_some (some_below n p) (first_below n p) → unwrap_or o n ≡ first_below n p
+first-or-n p n {o} told =
+    ⊎_elim {C = unwrap_or o n ≡ first_below n p}
+    (λ (a : some_below n p ≡ true). rw (told, a) refl)
+    (λ (a : some_below n p ≡ false). rw (told, a) (sym (first-none p n (none_found p n a))))
+    (cases_Bool (some_below n p))
+
+pub last-or-zero : (p : ℕ → Bool) (n : ℕ) {o : Option ℕ} → o ≡ then_some (some_below n p) (last_below n p) → unwrap_or o 0 ≡ last_below n p
+last-or-zero p n {o} told =
+    ⊎_elim {C = unwrap_or o 0 ≡ last_below n p}
+    (λ (a : some_below n p ≡ true). rw (told, a) refl)
+    (λ (a : some_below n p ≡ false). rw (told, a) (sym (last_none p n (none_found p n a))))
+    (cases_Bool (some_below n p))
 
 -- ---- a list is row y of a mask
 
@@ -51,19 +68,11 @@ pub record Row (mask : List ℕ) (w y : ℕ) (row : List ℕ) : Type 0 where
   pub long : length row ≡ w
   pub pixel : (x : ℕ) → x < w → is_on row x ≡ on_at mask w y x
 
--- the part of the mask that the code hands on as row y
-abbrev pub row_part : List ℕ → ℕ → ℕ → List ℕ
-row_part mask w y = take (y * w + w - y * w) (drop (y * w) mask)
-
-pub row-part : (mask : List ℕ) (h w y : ℕ) → length mask ≡ h * w → y < h → Row mask w y (row_part mask w y)
+-- the part of the mask that `Mask::row` hands out is
+pub row-part : {mask row : List ℕ} {w y : ℕ} → row ≡ take w (drop (y * w) mask) → length row ≡ w → Row mask w y row
 unfolding is_on on_at
-row-part mask h w y size here =
-    let q : y * w + w - y * w ≡ w = omega arith in
-    let r = row_in y h w here in
-    record {
-      long = simp (length-take, length-drop) (omega arith);
-      pixel = λ x l. ap on (get_or-take (y * w + w - y * w) (drop (y * w) mask) x 0 (omega arith) ∙ get_or-drop (y * w) mask x 0);
-    }
+row-part {mask} {row} {w} {y} here long =
+    record { long = long; pixel = λ x l. ap on (ap (λ (u : List ℕ). get_or u x 0) here ∙ part_at mask y w x 0 l) }
 
 module _ {mask : List ℕ} {w y : ℕ} {row : List ℕ} (r : Row mask w y row) where
   -- whether a pixel of it is on
@@ -72,21 +81,25 @@ module _ {mask : List ℕ} {w y : ℕ} {row : List ℕ} (r : Row mask w y row) w
   row-some = rw r.long (some_same _ _ w r.pixel)
 
   -- the first pixel that is on, of the first x; the last, from pixel x on
-  pub row_first : (x : ℕ) → x ≤ w → first_below (length (take x row)) (is_on (take x row)) ≡ first_below x (on_at mask w y)
+  pub row_first : (x : ℕ) → x ≤ w → {o : Option ℕ}
+      → (let line = take x row in o ≡ then_some (some_below (length line) (is_on line)) (first_below (length line) (is_on line)))
+      → unwrap_or o x ≡ first_below x (on_at mask w y)
   unfolding is_on
-  row_first x m =
+  row_first x m told =
       let long = r.long in
       let e : length (take x row) ≡ x = simp length-take (omega arith) in
-      rw e (first_same _ _ x (λ i l. ap on (get_or-take x row i 0 l) ∙ r.pixel i (omega arith)))
+      first-or-n _ _ (rw e at told) ∙ first_same _ _ x (λ i l. ap on (get_or-take x row i 0 l) ∙ r.pixel i (omega arith))
 
-  pub row_last : (x n : ℕ) → x ≤ w → n ≡ length row - x
-      → last_below (length (take n (drop x row))) (is_on (take n (drop x row))) ≡ last_below (w - x) (λ (i : ℕ). on_at mask w y (x + i))
+  pub row_last : (x n : ℕ) → x ≤ w → n ≡ length row - x → {o : Option ℕ}
+      → (let line = take n (drop x row) in o ≡ then_some (some_below (length line) (is_on line)) (last_below (length line) (is_on line)))
+      → unwrap_or o 0 ≡ last_below (w - x) (λ (i : ℕ). on_at mask w y (x + i))
   unfolding is_on
-  row_last x n m q =
+  row_last x n m q told =
       let long = r.long in
       let e : length (take n (drop x row)) ≡ w - x = simp (length-take, length-drop) (omega arith) in
-      rw e (last-same _ _ (w - x)
-      (λ i l. ap on (get_or-take n (drop x row) i 0 (omega arith) ∙ get_or-drop x row i 0) ∙ r.pixel (x + i) (omega arith)))
+      last-or-zero _ _ (rw e at told)
+      ∙ last-same _ _ (w - x)
+      (λ i l. ap on (get_or-take n (drop x row) i 0 (omega arith) ∙ get_or-drop x row i 0) ∙ r.pixel (x + i) (omega arith))
 
 -- ---- the edges of the first y rows: the first row, and the first and the last column, that have an on-pixel
 
@@ -118,7 +131,7 @@ first-kept p n e = rw (add-one n) (go (rw (add-one n) at e))
         ⊎_elim {C = first_below n p ≡ first_below (suc n) p}
         (λ (a : some_below n p ≡ true). rw a)
         (λ (a : some_below n p ≡ false). (let b : p n ≡ true = rw a at d in rw (a, b) (first-none p n (none_found p n a))))
-        (either (some_below n p))
+        (cases_Bool (some_below n p))
 
 module _ (mask : List ℕ) (w y : ℕ) where
   column-or : (x : ℕ) → column_has mask (y + 1) w x ≡ column_has mask y w x || on_at mask w y x
@@ -150,7 +163,7 @@ module _ (mask : List ℕ) (w y : ℕ) where
       let z = some-found _ y f.holds in
       some_is (row_has mask w) y z.0 z.1 (some_is (on_at mask w z.0) w _ f.inside z.2))
       (λ (a : some_below w (column_has mask y w) ≡ false). absurd (some (first-none _ w (none_found _ w a))))
-      (either (some_below w (column_has mask y w)))
+      (cases_Bool (some_below w (column_has mask y w)))
 
 -- a row more; its number is the first row's as long as no column is found
 module _ {mask : List ℕ} {w y y0 x0 x1 a b : ℕ} (e : Edges mask w y y0 x0 x1) (p : a ≡ first_below x0 (on_at mask w y))

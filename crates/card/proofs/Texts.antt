@@ -9,36 +9,41 @@ use native.Mathlib.Nat.{not-suc-le-zero, le_of_suc-le-suc}
 use native.Mathlib.Omega.{arith}
 use lib.Dec.{eqb, leb}
 use lib.ListN.{length, get_or, length-map}
-use borrow.Author.Tests.{eqb-true, leb-true}
-use Rattle.plane.proofs.Refusal.{and-true}
-use Rattle.plane.proofs.Search.{either}
+use borrow.Author.Tests.{eqb-true, eq-eqb, leb-true}
+use Rattle.std.proofs.lemmas.Bool.{and_parts, cases_Bool}
 use Rattle.colour.specs.Colour.{colour_ok, rgb_ok}
 use Rattle.colour.proofs.Range.{rgb-from}
 use Rattle.colour.proofs.Bytes.{byte-ok}
 use Rattle.card.specs.Hex.{hex_of, all_hex}
 use Rattle.card.specs.Card.{is_colour_text, text_channel, text_colour, card_of, Given, Unreadable}
-use Rattle.card.specs.steps.Named.{colour_named, card_with}
-use Rattle.std.specs.Prelude.{Some, None}
+use Rattle.card.specs.steps.Named.{colour_named, card_with, card_given}
+use Rattle.std.specs.Prelude.{Option, Some, None}
 use Rattle.std.specs.Bool.{then_some}
 use Rattle.colour.specs.declared.Rgb.{Rgb}
+use Rattle.colour.specs.declared.picture.Reference.{Reference}
 use Rattle.card.specs.steps.Range.{card_ok}
 
 -- every byte of a text of digits is one
 digit_at : (text : List ℕ) (i : ℕ) → all_hex text ≡ true → i < length text → hex_of (get_or text i 0) ≤ 15
 unfolding all_hex
 digit_at [] i e h = absurd (not-suc-le-zero h)
-digit_at (b ∷ text) zero e h = leb-true _ 15 (and-true (leb (hex_of b) 15) (all_hex text) e).0
-digit_at (b ∷ text) (suc i) e h = digit_at text i (and-true (leb (hex_of b) 15) (all_hex text) e).1 (le_of_suc-le-suc h)
+digit_at (b ∷ text) zero e h = leb-true _ 15 (and_parts (leb (hex_of b) 15) (all_hex text) e).0
+digit_at (b ∷ text) (suc i) e h = digit_at text i (and_parts (leb (hex_of b) 15) (all_hex text) e).1 (le_of_suc-le-suc h)
+
+-- a text of six digits names a colour
+pub six-digits : (text : List ℕ) → length text ≡ 6 → true ≡ all_hex text → is_colour_text text ≡ true
+unfolding is_colour_text
+six-digits text e f = rw (eq-eqb (length text) 6 e, ← f)
 
 -- the same of a text that names a colour, which has six of them
 module _ (text : List ℕ) (named : is_colour_text text ≡ true) where
   pub six-long : length text ≡ 6
   unfolding is_colour_text
-  six-long = eqb-true (length text) 6 (and-true _ (all_hex text) named).0
+  six-long = eqb-true (length text) 6 (and_parts _ (all_hex text) named).0
 
   pub digit : (i : ℕ) → i < 6 → hex_of (get_or text i 0) ≤ 15
   unfolding is_colour_text
-  digit i l = digit_at text i (and-true (eqb (length text) 6) (all_hex text) named).1 (omega (arith, six-long))
+  digit i l = digit_at text i (and_parts (eqb (length text) 6) (all_hex text) named).1 (omega (arith, six-long))
 
   channel-ok : (c : ℕ) → c < 3 → colour_ok (text_channel text c) ≡ true
   unfolding text_channel
@@ -55,7 +60,12 @@ card-ok text =
     ⊎_elim {C = card_ok (card_of text) ≡ true}
     (λ (e : is_colour_text text ≡ true). rw e (text-colour-ok text e))
     (λ (e : is_colour_text text ≡ false). rw e)
-    (either (is_colour_text text))
+    (cases_Bool (is_colour_text text))
+
+-- and so is that on which a reference is given, or none
+pub given-ok : (given : Option Reference) → card_ok (card_given given) ≡ true
+given-ok None = refl
+given-ok (Some reference) = reference.in_range
 
 -- a text that names a colour is the card on which it is given, and any other is unreadable
 pub card-named : (text : List ℕ) (c : Rgb) → Some c ≡ colour_named text → card_of text ≡ card_with (Some c)

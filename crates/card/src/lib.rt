@@ -4,10 +4,11 @@
 ghost use Rattle.std.specs.Prelude.{◌≡◌, true, ◌<◌};
 ghost use Rattle.card.specs.Hex.{all_hex};
 ghost use Rattle.card.specs.Card.{is_colour_text, text_channel};
-ghost use Rattle.card.specs.steps.Named.{colour_named};
+ghost use Rattle.card.specs.steps.Named.{colour_named, colour_given};
 ghost use Rattle.card.specs.steps.Digit.{digit_of};
 
 use colour::Rgb;
+use colour::picture::Reference;
 
 // The value of a hexadecimal digit, in either case.
 fn hex(b: u8) -> Option<u32>
@@ -33,9 +34,10 @@ fn channel(text: &[u8], c: usize) -> f64
     colour::weights::weight((16 * high + low) as u8)
 }
 
-// The colour of a text, where it is six hexadecimal digits.
-pub fn colour_named(text: &[u8]) -> Option<Rgb>
-    ensures { result ≡ colour_named text.now }
+// The colour of a text, where it is six hexadecimal digits. All of them are tested before the first is read, as the definition does, so
+// `channel` may unwrap.
+pub fn colour_named(text: &[u8]) -> Option<Reference>
+    ensures { colour_given result ≡ colour_named text.now }
 {
     if text.len() != 6 {
         return None;
@@ -46,5 +48,6 @@ pub fn colour_named(text: &[u8]) -> Option<Rgb>
     let r = channel(text, 0);
     let g = channel(text, 1);
     let b = channel(text, 2);
-    Some(Rgb { r, g, b })
+    let colour = Rgb { r, g, b };
+    Some(Reference { colour })
 }

@@ -9,11 +9,12 @@ ghost use Rattle.colour.specs.Settings.{at_least_zero, passes_of, on_of};
 ghost use Rattle.colour.specs.Join.{joins_of};
 ghost use Rattle.colour.specs.steps.Range.{InRange, Checked};
 
+pub mod picture;
 pub mod weights;
 
 // The three channels of a colour.
 #[repr(C)]
-#[derive(Clone, Copy)]
+#[derive(Clone, Copy, Debug, PartialEq)]
 pub struct Rgb {
     pub r: f64,
     pub g: f64,
@@ -22,7 +23,7 @@ pub struct Rgb {
 
 // The five settings of a cut.
 #[repr(C)]
-#[derive(Clone, Copy)]
+#[derive(Clone, Copy, Debug, PartialEq)]
 pub struct Settings {
     pub alpha_threshold: i64,
     pub key_bg: bool,
@@ -141,5 +142,5 @@ pub fn passes(s: Settings) -> u64
 pub fn reaches(alpha: u8, threshold: i64) -> bool
     ensures { result ≡ on_of alpha threshold }
 {
-    threshold <= alpha as i64
+    threshold <= i64::from(alpha)
 }

@@ -1,4 +1,5 @@
-// Weights: a table of 256 f64 whose entry v is v / 255, rounded once. It is written out, as no const fn can fill a table of floats.
+// Weights: a table of 256 f64 whose entry v is v / 255, rounded once, which R34 asks for. It is written out, as no const fn can fill a
+// table of floats.
 ghost use Rattle.std.specs.Prelude.{◌≡◌};
 ghost use Rattle.colour.specs.Weight.{weight_of};
 
@@ -265,5 +266,5 @@ const WEIGHTS: [f64; 256] = [
 pub fn weight(v: u8) -> f64
     ensures { result ≡ weight_of v }
 {
-    WEIGHTS[v as usize]
+    WEIGHTS[usize::from(v)]
 }

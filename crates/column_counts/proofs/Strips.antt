@@ -5,7 +5,7 @@ use borrow.Rule.Slice.PartMut.{put_mid}
 use Rattle.plane.specs.Plane.{on, bit, on_at, table}
 use Rattle.plane.specs.Mask.{is_on, mask_of}
 use Rattle.plane.specs.steps.Sides.{longest_side}
-use Rattle.plane.proofs.Search.{which}
+use Rattle.std.proofs.lemmas.Bool.{cases_lt}
 use Rattle.plane.proofs.Plane.{row_in, table-length, table_at, table_is, plane-is}
 use Rattle.plane.proofs.Mask.{mask_at}
 use Rattle.counts.specs.Running.{window_count, enters, leaves}
@@ -53,7 +53,7 @@ moved_at line change low x l = table_at (λ (y : ℕ). changed (get_or low y 0) 
 module _ (s : Strip) where
   module _ {j : Option ℕ} (change : Change) {low : List ℕ} where
     -- a row that is there moves the bytes, and one that is not leaves them as they are
-    pub row-moved : {i : ℕ} {row low' : List ℕ} → j ≡ Some i → length low ≡ s.n → row ≡ strip_row s.plane.now s.w s.c s.n i
+    pub row-moved : {i : ℕ} {row low' : List ℕ} → j ≡ Some i → length low ≡ s.n → row ≡ strip_row s.plane.now s.size.w s.c s.n i
         → low' ≡ moved_line row (step_by change) low → MovedRow s j change low low'
     row-moved {i} {row} q size here made =
         rw q
@@ -63,7 +63,7 @@ module _ (s : Strip) where
               ap (λ (u : List ℕ). get_or u x 0) made
               ∙ moved_at row (step_by change) low x l
               ∙ ap (λ (t : Bool). changed (get_or low x 0) t (step_by change))
-              (ap (λ (u : List ℕ). is_on u x) here ∙ strip-pixel s.plane.now s.w s.c s.n i x (omega arith));
+              (ap (λ (u : List ℕ). is_on u x) here ∙ strip-pixel s.plane.now s.size.w s.c s.n i x (omega arith));
         })
 
     pub none-moved : j ≡ None → ((x : ℕ) → get_or low x 0 < 256) → MovedRow s j change low low
@@ -71,9 +71,9 @@ module _ (s : Strip) where
 
   module _ (y x : ℕ) where
     -- the row that enters at the step to row y, and the one that leaves
-    pub moves-enter : {j : Option ℕ} → j ≡ then_some (ltb (y + s.k) s.h) (y + s.k) → moves s j x ≡ enters s.h s.k (on_strip s x) y
+    pub moves-enter : {j : Option ℕ} → j ≡ then_some (ltb (y + s.k) s.size.h) (y + s.k) → moves s j x ≡ enters s.size.h s.k (on_strip s x) y
     unfolding enters
-    moves-enter q = rw q (go (ltb (y + s.k) s.h))
+    moves-enter q = rw q (go (ltb (y + s.k) s.size.h))
       where
         go : (t : Bool) → moves s (then_some t (y + s.k)) x ≡ t && on_strip s x (y + s.k)
         go true = refl
@@ -82,12 +82,12 @@ module _ (s : Strip) where
     pub moves-leave : (j : Option ℕ) → SomeIff j (s.k + 1 ≤ y) (y - (s.k + 1)) → moves s j x ≡ leaves s.k (on_strip s x) y
     unfolding leaves
     moves-leave None none =
-        let l : y ≤ s.k = ⊎_elim (λ (a : s.k < y). absurd (none (omega arith))) (λ (a : y ≤ s.k). a) (which s.k y) in
+        let l : y ≤ s.k = ⊎_elim (λ (a : s.k < y). absurd (none (omega arith))) (λ (a : y ≤ s.k). a) (cases_lt s.k y) in
         rw (le-ltb s.k y l)
     moves-leave (Some j) some = rw (lt-ltb s.k y (omega (arith, some.0)), some.1)
 
   -- both of them have moved the bytes
-  pub rows-followed : (y : ℕ) {j i : Option ℕ} {low mid low' out : List ℕ} → j ≡ then_some (ltb (y + s.k) s.h) (y + s.k)
+  pub rows-followed : (y : ℕ) {j i : Option ℕ} {low mid low' out : List ℕ} → j ≡ then_some (ltb (y + s.k) s.size.h) (y + s.k)
       → SomeIff i (s.k + 1 ≤ y) (y - (s.k + 1)) → length mid ≡ length low → MovedRow s j change_is.Enters low mid
       → MovedRow s i change_is.Leaves mid low' → out ≡ mask_of (length low) (is_on low') → Followed s y low low' out
   rows-followed y {j} {i} q r long a b made = record {
@@ -217,8 +217,8 @@ module _ {plane new : List ℕ} {h w k c n y : ℕ} (t : Swept plane h w k c (c 
       (⊎_elim {C = j * w + x < s}
       (λ (b : j < y). (let r = row_in j y w b in omega arith))
       (λ (b : y ≤ j). (let e : j ≡ y = omega arith in let g = d e in rw e (omega arith)))
-      (which j y)))
-      (which y j)
+      (cases_lt j y)))
+      (cases_lt y j)
 
   pub row-swept : Swept plane h w k c (c + n) (y + 1) put
   row-swept = record {
@@ -240,12 +240,8 @@ module _ {plane new : List ℕ} {h w k c n y : ℕ} (t : Swept plane h w k c (c 
           let q : s + (x - c) ≡ y * w + x = omega arith in
           let z = put-part s m new row fits fill (x - c) (omega arith) ∙ each (x - c) (omega arith) in
           rw e (rw (q, i) at z))
-          (which j y))
-          (which x c)
-
--- before the first strip
-pub none-swept : {plane new : List ℕ} {h w k : ℕ} → length new ≡ h * w → Swept plane h w k 0 0 0 new
-none-swept e = record { size = e; before = λ y x l m. absurd (omega arith); done = λ y x l m. absurd (omega arith) }
+          (cases_lt j y))
+          (cases_lt x c)
 
 -- a strip is written, so the columns to its end are
 pub strip-swept : {plane new : List ℕ} {h w k c d e : ℕ} → Swept plane h w k c d h new → d ≡ e → Swept plane h w k e e 0 new

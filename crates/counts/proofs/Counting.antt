@@ -2,17 +2,15 @@
 -- Assumes nothing.
 use Rattle.std.proofs.Common.{◌≡◌, ℕ, zero, suc, ◌+◌, ◌-◌, ◌<◌, ◌≤◌, Bool, true, false, cond, ◌&&◌, ◌||◌, ltb, leb, sym, refl, ◌∙◌, ⊎_elim, add-zero, add-one, arith, le-ltb, lt-ltb, le-leb}
 use borrow.Author.Tests.{lt-leb}
+use Rattle.std.proofs.Math.Bool.{and-true}
 use Rattle.plane.specs.Search.{some_below, count_below}
 use Rattle.plane.specs.Plane.{bit, apart}
-use Rattle.plane.proofs.Search.{which, either, and_no, or_no, or_right, count_most}
+use Rattle.plane.proofs.Search.{and_no, or_no, count_most}
+use Rattle.std.proofs.lemmas.Bool.{cases_Bool, cases_lt, or_right}
 use Rattle.plane.specs.Box.{lesser_of}
 use Rattle.counts.specs.Running.{window_count, enters, leaves, running}
 use Rattle.counts.specs.steps.Window.{in_window}
-
--- a test joined with one that holds
-pub and_yes : (t : Bool) → t && true ≡ t
-and_yes true = refl
-and_yes false = refl
+use Rattle.plane.proofs.Bounds.{lesser-min}
 
 -- one number more
 pub count-more : (n : ℕ) (p : ℕ → Bool) → count_below (n + 1) p ≡ count_below n p + bit (p n)
@@ -26,7 +24,7 @@ count_less p m (suc n) l =
     ⊎_elim {C = count_below m p ≤ count_below n p + cond (p n) 1 0}
     (λ (a : n < m). (let z : m ≡ suc n = omega arith in rw z (omega arith)))
     (λ (a : m ≤ n). omega (arith, count_less p m n a))
-    (which n m)
+    (cases_lt n m)
 
 -- a count is not 0 exactly where the search finds
 count-some : (n : ℕ) (p : ℕ → Bool) → ltb 0 (count_below n p) ≡ some_below n p
@@ -37,7 +35,7 @@ count-some (suc n) p =
     (λ (a : p n ≡ true).
     rw a (lt-ltb 0 (count_below n p + 1) (omega arith) ∙ sym (or_right (some_below n p) true refl)))
     (λ (a : p n ≡ false). rw (a, or_no, add-zero) (count-some n p))
-    (either (p n))
+    (cases_Bool (p n))
 
 -- where q is p from a to b, and false before a and from b on, it counts what p counts from a to b
 count-between : (p q : ℕ → Bool) (a n b : ℕ) → a ≤ b → b ≤ n → ((i : ℕ) → i < a → q i ≡ false) → ((i : ℕ) → a ≤ i → i < b → q i ≡ p i)
@@ -57,11 +55,11 @@ count-between p q a (suc n) b l m f g h =
     (λ (d : a ≤ n).
     let one = count-between p q a n n d (omega arith) f (λ i e k. g i e (omega arith)) (λ i e k. absurd (omega arith)) in
     rw (z, g n d c) (omega arith))
-    (which n a))
+    (cases_lt n a))
     (λ (c : b ≤ n).
     let one = count-between p q a n b l c f g (λ i e k. h i e (omega arith)) in
     rw (h n c (omega arith)) (omega arith))
-    (which n b)
+    (cases_lt n b)
 
 module _ (k x : ℕ) (p : ℕ → Bool) where
   -- the window of x holds what is counted up to its end without what is counted up to its start
@@ -72,7 +70,7 @@ module _ (k x : ℕ) (p : ℕ → Bool) where
       let far : (i : ℕ) → k < apart x i → (p i && leb (apart x i) k) ≡ false =
       λ i g. rw (lt-leb (apart x i) k g) (and_no (p i)) in
       count-between p (λ (i : ℕ). p i && leb (apart x i) k) (x - k) n b (omega arith) m (λ i g. far i (omega arith))
-      (λ i g h. rw (le-leb (apart x i) k (omega arith)) (and_yes (p i)))
+      (λ i g h. rw (le-leb (apart x i) k (omega arith)) (and-true (p i)))
       (λ i g h. (let z = e (omega arith) in far i (omega arith)))
 
   -- the count tells whether the window has one
@@ -81,20 +79,6 @@ module _ (k x : ℕ) (p : ℕ → Bool) where
   window-some n = count-some n (λ (i : ℕ). p i && leb (apart x i) k)
 
 -- ---- the running value
-
-pub lesser-is : (a b : ℕ) → lesser_of a b ≡ a - (a - b)
-unfolding lesser_of
-lesser-is a b =
-    ⊎_elim {C = cond (leb a b) a b ≡ a - (a - b)}
-    (λ (l : b < a). rw (lt-leb a b l) (omega arith))
-    (λ (l : a ≤ b). rw (le-leb a b l) (omega arith))
-    (which b a)
-
--- a byte is at most 1
-pub bit-most : (t : Bool) → bit t ≤ 1
-unfolding bit
-bit-most true = omega arith
-bit-most false = omega arith
 
 module _ (n k : ℕ) (p : ℕ → Bool) where
   -- the places before which the window of x starts, and ends, at the step to x
@@ -117,7 +101,7 @@ module _ (n k : ℕ) (p : ℕ → Bool) where
       let a : end (x + 1) ≡ n = omega arith in
       let b : end x ≡ n = omega arith in
       rw (a, b, le-ltb (x + k) n l) (omega arith))
-      (which (x + k) n)
+      (cases_lt (x + k) n)
 
   leaves-more : (x : ℕ) → count_below (start (x + 1)) p ≡ count_below (start x) p + bit (leaves k p x)
   unfolding leaves bit
@@ -130,7 +114,7 @@ module _ (n k : ℕ) (p : ℕ → Bool) where
       let a : start (x + 1) ≡ 0 = omega arith in
       let b : start x ≡ 0 = omega arith in
       rw (a, b, le-ltb k x l) (omega arith))
-      (which k x)
+      (cases_lt k x)
 
   -- what leaves is counted up to the window's end
   leaves_in : (x : ℕ) → x < n → count_below (start x) p + bit (leaves k p x) ≤ count_below (end x) p + bit (enters n k p x)
@@ -141,7 +125,7 @@ module _ (n k : ℕ) (p : ℕ → Bool) where
   unfolding running
   running-sum zero l =
       let a : start 0 ≡ 0 = omega arith in
-      let b : end 0 ≡ lesser_of k n = omega (arith, lesser-is k n) in
+      let b : end 0 ≡ lesser_of k n = omega (arith, lesser-min k n) in
       rw (a, b) (unfold count_below in omega arith)
   running-sum (suc x) l =
       let a = leaves-more x in

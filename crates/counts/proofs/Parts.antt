@@ -2,7 +2,7 @@
 -- Assumes nothing.
 use Rattle.std.proofs.Common.{◌≡◌, ℕ, ◌+◌, ◌-◌, ◌%◌, ◌<◌, ◌≤◌, Bool, true, false, not, eqb, ltb, refl, ⊎_elim, arith, lt-ltb, ne_eqb}
 use Rattle.std.specs.Int.{from_bool}
-use Rattle.plane.proofs.Search.{which}
+use Rattle.std.proofs.lemmas.Bool.{cases_lt}
 use Rattle.plane.specs.Plane.{on, bit}
 use Rattle.counts.specs.steps.Parts.{full_byte, rest_of, changed, step_of, Split}
 
@@ -42,7 +42,7 @@ module _ {value t low rest : ℕ} (s : Split value t low rest) where
   -- where the count is not 0, the byte is not
   low-some : t ≤ 127 → 0 < value → 0 < low
   low-some l g =
-      ⊎_elim {C = 0 < low} (λ (a : 0 < rest). omega (arith, s.least a)) (λ (a : rest ≤ 0). omega (arith, s.sum)) (which 0 rest)
+      ⊎_elim {C = 0 < low} (λ (a : 0 < rest). omega (arith, s.least a)) (λ (a : rest ≤ 0). omega (arith, s.sum)) (cases_lt 0 rest)
 
   -- the byte tells whether the count is above 0
   pub split-test : t ≤ 127 → on low ≡ ltb 0 value
@@ -56,7 +56,7 @@ module _ {value t low rest : ℕ} (s : Split value t low rest) where
       let z : low ≡ 0 = omega (arith, s.sum) in
       let v : value ≡ 0 = omega arith in
       rw (z, v) refl)
-      (which 0 value)
+      (cases_lt 0 value)
 
   -- a pixel enters,
   pub split-enter : (e : Bool) → t ≤ 126 → Split (value + bit e) (t + 1) (changed low e 1) rest

@@ -4,7 +4,7 @@ use Rattle.std.proofs.Common.{◌≡◌, ℕ, ◌+◌, ◌-◌, ◌<◌, ◌≤�
 use borrow.Rule.Slice.PartMut.{put_mid}
 use Rattle.std.proofs.Common.{rules}
 use Rattle.std.proofs.lemmas.List.{places}
-use Rattle.plane.proofs.Search.{which}
+use Rattle.std.proofs.lemmas.Bool.{cases_lt}
 use Rattle.counts.proofs.Begun.{Begun}
 
 -- an element of a part, and the length of one
@@ -46,5 +46,5 @@ begun-part {f} {n} {s} {out} m part b l long each =
           let q : s + (i - s) ≡ i = omega arith in
           let z = put-part s m out part fits long (i - s) (omega arith) ∙ each (i - s) (omega arith) in
           rw q at z)
-          (which i s);
+          (cases_lt i s);
     }

@@ -6,7 +6,7 @@ ghost use Rattle.std.specs.Prelude.{◌≡◌, length};
 ghost use Rattle.counts.specs.steps.Parts.{step_by, moved_line};
 
 // What a pixel does that is on: it enters a window, or it leaves.
-#[derive(Clone, Copy)]
+#[derive(Clone, Copy, Debug, PartialEq, Eq)]
 pub enum Change {
     Enters,
     Leaves,
@@ -24,7 +24,8 @@ impl Change {
     }
 }
 
-// Each of a line of counts, modulo 256, changed by a step where the pixel beside it is on.
+// Each of a line of counts, modulo 256, changed by a step where the pixel beside it is on. It takes any step, and no `Change`, which
+// would ask more of its callers. The loop goes by index: after a `zip` of `iter_mut` no proof knows what was written.
 pub fn move_line(line: &[u8], change: u8, counts: &mut [u8])
     requires { length line.now ≡ length counts.old }
     ensures { counts.new ≡ moved_line line.now change counts.old }

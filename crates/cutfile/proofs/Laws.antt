@@ -14,7 +14,8 @@ use Rattle.std.proofs.Common.{Option, Some, None}
 use Rattle.std.specs.Option.{is_some, IsSome, IsNone}
 use Rattle.plane.specs.Refusal.{refusal_of}
 use Rattle.plane.specs.Search.{some_below}
-use Rattle.plane.proofs.Search.{which, either, not-both}
+use Rattle.plane.proofs.Search.{not-both}
+use Rattle.std.proofs.lemmas.Bool.{cases_Bool, cases_lt}
 use Rattle.pam_header.specs.declared.Header.{Header}
 use Rattle.pam_header.specs.Header.{most_header, header_of}
 use Rattle.pam_header.specs.HeaderText.{said_by, HasHeader}
@@ -43,7 +44,7 @@ first-bytes input =
     let number = file_refusal (header_of input) input in
     sym (card-declined first (header_of first) number (sym d.first_same) d.declined)
     ∙ card-declined input (header_of input) number refl d.declined)
-    (which (length input) most_input)
+    (cases_lt (length input) most_input)
 
 -- 8 is the answer to a header that is not accepted, and to nothing else
 not-eight : (b c d : Bool) → ◌≡◌ {A = ℕ} (cond b (cond c (cond d 0 6) 9) 10) 8 → ⊥
@@ -85,7 +86,7 @@ not-eight-header input n =
     ⊎_elim {C = HasHeader input}
     (λ (t : IsSome (header_of input)). header-means input t)
     (λ (t : IsNone (header_of input)). absurd (n (header-eight (header_of input) input t)))
-    (either (is_some (header_of input)))
+    (cases_Bool (is_some (header_of input)))
 
 -- ---- what was accepted at first
 
@@ -104,7 +105,7 @@ earlier-kept input n =
       text_kept = ap (λ (h : Option Header). text_under h input) same;
     })
     (λ (t : IsNone (earlier_of input)). absurd (n (header-eight (earlier_of input) input t)))
-    (either (is_some (earlier_of input)))
+    (cases_Bool (is_some (earlier_of input)))
 
 -- so a file that was accepted prints the same bytes
 pub earlier-accepted : (input : List ℕ) → earlier_refusal input ≡ 0 → card_text input ≡ earlier_text input

@@ -4,17 +4,17 @@ use mathlib.Core.Path.{◌≡◌, refl, sym, ap, ◌∙◌}
 use mathlib.Core.Bool.{Bool, true, false, cond}
 use mathlib.Core.List.{List, [], ◌∷◌, ◌++◌}
 use mathlib.Core.Logic.{⊎_elim}
-use Prim.Native.Nat.{ℕ, ◌+◌, ◌-◌, ◌*◌, ◌≤◌, ◌<◌}
+use Prim.Native.Nat.{ℕ, ◌+◌, ◌*◌, ◌≤◌, ◌<◌}
 use native.Mathlib.Nat.{zero-add}
 use native.Mathlib.Omega.{arith}
 use lib.Dec.{eqb, leb}
-use lib.ListN.{length, get_or, take, drop}
-use lib.Seq.{sets-eq, length-take-le}
+use lib.ListN.{length, get_or, drop}
+use lib.Seq.{sets-eq}
 use borrow.Author.Tests.{ne_eqb, le-leb, eqb-true, eqb-false}
 use Rattle.std.proofs.Common.{Option, Some, None}
 use Rattle.plane.specs.Refusal.{refusal_of}
 use Rattle.plane.specs.Search.{some_below}
-use Rattle.plane.proofs.Search.{either}
+use Rattle.std.proofs.lemmas.Bool.{cases_Bool}
 use Rattle.plane.proofs.Refusal.{declined-first, passed_first}
 use Rattle.text.specs.steps.Writing.{Wrote}
 use Rattle.pam_header.specs.declared.Header.{Header}
@@ -27,12 +27,8 @@ use Rattle.pam.proofs.Files.{file-ok, sides-of}
 use Rattle.pbm.specs.Text.{refusal_text}
 use Rattle.pbm.proofs.Lengths.{mask_long, refusal-short}
 use Rattle.cutfile.specs.Cutcard.{alpha_test, refusal_under, text_under, cut_with, cut_text, card_text, most_text, CardCalled}
-use Rattle.cutfile.specs.steps.Room.{alpha_refusal, picture_text}
+use Rattle.cutfile.specs.steps.Text.{alpha_refusal, picture_text}
 use Rattle.cutfile.proofs.Pictures.{lines-short}
-
--- the length of the first part of a list
-pub part-long : {A : Type 0} (n : ℕ) (xs : List A) → n ≤ length xs → length (take (n - 0) xs) ≡ n
-part-long n xs l = let e : n - 0 ≡ n = omega arith in rw e (length-take-le n xs l)
 
 -- the number is one of four, or 0
 small : (b c d : Bool) → cond b (cond c (cond d 0 6) 9) 10 < 10000
@@ -48,10 +44,6 @@ module _ (input : List ℕ) where
   card-declined (Some header) n e z =
       let f = declined-first (file_tests (Some header) input) (alpha_test (alpha_of header input) ∷ []) (λ g. z (e ∙ g)) in
       rw (f, ← e, ne_eqb n 0 z)
-
-  pub none-declined : (header : Option Header) → header ≡ None → file_refusal header input ≡ 0 → ⊥
-  unfolding file_refusal refusal_of
-  none-declined header n e = let z : ◌≡◌ {A = ℕ} 8 0 = rw n at e in omega (arith, z)
 
   number_small : (header : Option Header) → refusal_under header input < 10000
   unfolding refusal_under refusal_of
@@ -81,7 +73,7 @@ module _ (header : Header) (input : List ℕ) where
       (λ (t : eqb n 0 ≡ true). eqb-true n 0 t)
       (λ (t : eqb n 0 ≡ false).
       sym (declined-first (file_tests (Some header) input) (alpha_test (alpha_of header input) ∷ []) (eqb-false n 0 t)) ∙ e)
-      (either (eqb n 0))
+      (cases_Bool (eqb n 0))
 
   accepted-short : Small header → refusal_under (Some header) input ≡ 0
       → length (cut_text (colours_of header input) (alpha_of header input) header.height header.width) ≤ most_text
@@ -112,7 +104,7 @@ text-short input = by (header_of input) refl
         ⊎_elim {C = length (text_under (Some header) input) ≤ most_text}
         (λ (t : eqb n 0 ≡ true). rw t (accepted-short header input (header-small input header e) (eqb-true n 0 t)))
         (λ (t : eqb n 0 ≡ false). rw t (omega (arith, refusal-short n (number_small input (Some header)))))
-        (either (eqb n 0))
+        (cases_Bool (eqb n 0))
 
 -- a buffer that is long enough, with the text written to its front
 pub whole : (input old new text : List ℕ) (r : ℕ) → most_text ≤ length old → text ≡ card_text input → Wrote text old new 0 r

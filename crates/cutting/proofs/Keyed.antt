@@ -7,6 +7,7 @@ use Prim.Native.Nat.{ℕ, ◌*◌}
 use native.Mathlib.Omega.{arith}
 use lib.ListN.{length, get_or}
 use lib.Ieee.{Float}
+use lib.IntN.{ℤ}
 use borrow.Author.Tests.{not-true}
 use Rattle.plane.specs.Plane.{on, table}
 use Rattle.plane.specs.Mask.{is_on, mask_of, some_off}
@@ -14,13 +15,14 @@ use Rattle.plane.specs.steps.Complement.{complement_of}
 use Rattle.plane.proofs.Search.{not-both, none_found}
 use Rattle.plane.proofs.Plane.{table-length, table_at}
 use Rattle.plane.proofs.Mask.{mask-on, mask-same}
-use Rattle.plane.proofs.Refusal.{and-true}
+use Rattle.std.proofs.lemmas.Bool.{and_parts}
 use Rattle.colour.specs.declared.Rgb.{Rgb}
 use Rattle.colour.specs.declared.Settings.{Settings}
 use Rattle.colour.specs.Settings.{on_of, passes_of}
 use Rattle.outline.specs.Ground.{ground_of, is_found, ground_plane}
 use Rattle.outline.specs.Cut.{alpha_mask, is_sought, is_keyed, grown_ground, cut_mask}
 use Rattle.std.specs.Prelude.{Option, Some, None}
+use Rattle.std.specs.Option.{is_some}
 use Rattle.outline.specs.Answer.{found_reference}
 use Rattle.cutting.specs.steps.Key.{keyed_plane}
 
@@ -35,6 +37,14 @@ module _ (colours : List Float) (h w : ℕ) (reference : Rgb) (t : Float) where
       → is_found colours h w reference t ≡ false
   unfolding found_reference
   not_found g e none = no-so (is_found colours h w reference t) reference (λ x f. none x (e ∙ f))
+
+  some-so : (b : Bool) (q : Rgb) → is_some (cond b (Some q) None) ≡ b
+  some-so true q = refl
+  some-so false q = refl
+
+  pub found-some : is_some (found_reference colours h w reference t) ≡ is_found colours h w reference t
+  unfolding found_reference
+  found-some = some-so (is_found colours h w reference t) reference
 
   yes-so : (b : Bool) (q r : Rgb) → cond b (Some q) None ≡ Some r → (b ≡ true) × (r ≡ q)
   yes-so true q r e = let z : q ≡ r = cc in (refl, sym z)
@@ -81,6 +91,12 @@ full-mask p n e =
 
 -- ---- whether a ground is sought
 
+-- the mask after the threshold t of the settings
+pub by-alpha : (alpha : List ℕ) (n : ℕ) (s : Settings) (t : ℤ) (mask : List ℕ) → length alpha ≡ n → t ≡ s.alpha_threshold
+    → mask ≡ mask_of (length alpha) (λ (i : ℕ). on_of (get_or alpha i 0) t) → mask ≡ alpha_mask alpha n s
+unfolding alpha_mask
+by-alpha alpha n s t mask l q e = e ∙ rw (l, q)
+
 -- asked for by the settings, and no pixel of the mask by alpha is off
 pub sought-is : (alpha : List ℕ) (n : ℕ) (s : Settings) (mask : List ℕ) (off : Bool) → off ≡ some_off mask (length mask) → length mask ≡ n
     → mask ≡ alpha_mask alpha n s → s.key_bg && not off ≡ is_sought alpha n s
@@ -96,7 +112,7 @@ module _ (colours : List Float) (alpha : List ℕ) (h w : ℕ) (reference : Rgb)
   unfolding is_sought alpha_mask
   full e =
       let off = some_off (alpha_mask alpha (h * w) s) (h * w) in
-      full-mask (λ (i : ℕ). on_of (get_or alpha i 0) s.alpha_threshold) (h * w) (not-true off (and-true s.key_bg (not off) e).1)
+      full-mask (λ (i : ℕ). on_of (get_or alpha i 0) s.alpha_threshold) (h * w) (not-true off (and_parts s.key_bg (not off) e).1)
 
   pub sought-flag : is_sought alpha (h * w) s ≡ true → found ≡ is_keyed colours alpha h w reference s
   unfolding is_keyed

@@ -4,7 +4,8 @@ use Rattle.std.proofs.Common.{◌≡◌, ℕ, ◌+◌, ◌-◌, ◌%◌, ◌<◌
 use lib.ListN.{get_or-eq_default}
 use borrow.Author.Tests.{eqb-false}
 use Rattle.std.specs.Bool.{then_some}
-use Rattle.plane.proofs.Search.{which, either, not-both}
+use Rattle.plane.proofs.Search.{not-both}
+use Rattle.std.proofs.lemmas.Bool.{cases_Bool, cases_lt}
 use Rattle.plane.specs.Mask.{is_on}
 use Rattle.labels.specs.Labels.{beside, Joined, onward}
 use Rattle.plane.proofs.Mask.{on-inside}
@@ -32,7 +33,7 @@ set_cases l i k v h =
     ⊎_elim {C = ((k ≡ i) × (get_or (set l i v) k 0 ≡ v)) ⊎ (get_or (set l i v) k 0 ≡ get_or l k 0)}
     (λ (e : eqb k i ≡ true). (let q = eqb-true k i e in inl (q, rw q (get_or-set_same l i v 0 h))))
     (λ (e : eqb k i ≡ false). inr (get_or-set_other l i k v 0 (eqb-false k i e)))
-    (either (eqb k i))
+    (cases_Bool (eqb k i))
 
 -- of the close pixels `mask`, while pixel `hold` is being spread from (none, if it is no pixel)
 pub record Flooding (mask : List ℕ) (h w hold : ℕ) (s : State) : Type 0 where
@@ -81,7 +82,7 @@ module _ (mask : List ℕ) (h w : ℕ) where
           ⊎_elim
           (λ (m : k < s.top). rw (get_or-set_other s.stack s.top k q 0 (λ z. omega arith)) (f.stacked k m))
           (λ (m : s.top ≤ k). (let y : k ≡ s.top = omega arith in rw (y, get_or-set_same s.stack s.top q 0 t-in) r))
-          (which k s.top)
+          (cases_lt k s.top)
 
       still-on : (k : ℕ) → OnStack s k → OnStack (pushed q s) k
       unfolding pushed
@@ -132,7 +133,7 @@ module _ (mask : List ℕ) (h w : ℕ) where
             stays = λ k l. l;
             done = λ z o. ⊎_elim (λ e. absurd (eqb-false (at s q) 1 t e)) (λ e. e) (f.due q o);
           }))
-          (either (eqb (at s q) 1))
+          (cases_Bool (eqb (at s q) 1))
 
   -- the same where the plane may have no such pixel
   pub visits : (hold : ℕ) (has : Bool) (q : ℕ) (s : State) → (has ≡ true → is_on mask q ≡ true → Reach q)
@@ -163,7 +164,7 @@ module _ (mask : List ℕ) (h w : ℕ) where
         (λ (x : s.top - 1 ≤ y.0). (
         let v : y.0 ≡ s.top - 1 = omega (arith, y.1) in
         inr (inl (sym y.2 ∙ ap (λ (e : ℕ). get_or s.stack e 0) v))))
-        (which y.0 (s.top - 1)))
+        (cases_lt y.0 (s.top - 1)))
         z)
         (f.closed k j a b o);
   }

@@ -2,7 +2,9 @@
 -- Assumes nothing.
 use Rattle.std.proofs.Common.{◌≡◌, ℕ, ◌-◌, ◌*◌, ◌<◌, ◌≤◌, true, false, not, eqb, List, [], ◌∷◌, length, get_or, sym, refl, ap, ◌∙◌, inl, ⊎_elim, arith, eq-eqb, ne_eqb, eqb-true}
 use Rattle.plane.specs.Plane.{on}
-use Rattle.plane.proofs.Search.{which, not-both, or-true, or_left, or_right}
+use Rattle.plane.specs.steps.Sides.{Sides}
+use Rattle.plane.proofs.Search.{not-both}
+use Rattle.std.proofs.lemmas.Bool.{cases_lt, or_cases, or_left, or_right}
 use Rattle.plane.specs.Mask.{is_on, mask_of}
 use Rattle.labels.specs.Labels.{beside, same}
 use Rattle.plane.proofs.Mask.{on-inside}
@@ -26,7 +28,7 @@ on-number l k t =
     ⊎_elim {C = 0 < get_or l k 0}
     (λ (p : 0 < get_or l k 0). p)
     (λ (p : get_or l k 0 ≤ 0). not-both (not (eqb (get_or l k 0) 0)) t (rw (eq-eqb (get_or l k 0) 0 (omega arith))))
-    (which 0 (get_or l k 0))
+    (cases_lt 0 (get_or l k 0))
 
 module _ (mask : List ℕ) (h w : ℕ) where
   -- pixels of a list are visited
@@ -47,16 +49,16 @@ module _ (mask : List ℕ) (h w : ℕ) where
         stays = λ k e. g.stays k (v.stays k e);
         done = λ k e o.
             ⊎_elim (λ t. (let z = eqb-true k q t in g.stays k (rw z (v.done refl (rw z at o))))) (λ t. g.done k t o)
-            (or-true (eqb k q) (listed k l) e);
+            (or_cases (eqb k q) (listed k l) e);
       }
 
-  module _ (g : Closed mask h w) (stack : List ℕ) (tall : h * w ≤ length stack) where
+  module _ (sides : Sides h w) (g : Closed mask h w) (stack : List ℕ) (tall : h * w ≤ length stack) where
     none_yet : {R : Type 0} (k : ℕ) → get_or mask k 0 ≡ 2 → R
     none_yet k e = absurd (omega (arith, g.bits k))
 
     first-floods : Flooding mask h w (length mask) (state 0 stack mask)
     first-floods = record {
-      kept = record { room = first-room stack mask h w g tall; long = refl };
+      kept = record { room = first-room stack mask h w sides g tall; long = refl };
       lit = λ k e. number-on mask k 1 e (omega arith);
       due = λ k o. inl (omega (arith, g.bits k, on-number mask k o));
       sound = λ k e. none_yet k e;
@@ -73,16 +75,16 @@ module _ (mask : List ℕ) (h w : ℕ) where
     pub floods : Flooding mask h w (length mask) s
     pub began : (k : ℕ) → on_border h w k ≡ true → is_on mask k ≡ true → at s k ≡ 2
 
-  pub first-going : Closed mask h w → (stack : List ℕ) → h * w ≤ length stack → (s : State)
+  pub first-going : Sides h w → Closed mask h w → (stack : List ℕ) → h * w ≤ length stack → (s : State)
       → s ≡ seeded (border_list h w) (state 0 stack mask) → Going s
   unfolding on_border
-  first-going g stack tall s e =
-      let z = border-seeded g stack tall in
+  first-going sides g stack tall s e =
+      let z = border-seeded sides g stack tall in
       rw e (record { floods = z.floods; began = z.done })
 
-  module _ (g : Closed mask h w) (s : State) (f : Going s) where
+  module _ (sides : Sides h w) (g : Closed mask h w) (s : State) (f : Going s) where
     wide : 0 < w
-    wide = omega (arith, g.sides.some_columns)
+    wide = omega (arith, sides.some_columns)
 
     long : length s.plane ≡ h * w
     long = sym f.floods.kept.long ∙ g.output
@@ -98,7 +100,7 @@ module _ (mask : List ℕ) (h w : ℕ) where
           room = f.floods.kept.room;
           some = t;
           wide = wide;
-          narrow = g.sides.wide;
+          narrow = sides.wide;
           inside = omega (arith, long);
           row = λ x. omega (arith, next-in w wide h (on_top s) l (omega arith), long);
         }

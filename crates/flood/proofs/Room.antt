@@ -2,9 +2,13 @@
 -- Assumes nothing.
 use Rattle.std.proofs.Common.{◌≡◌, ℕ, ◌+◌, ◌-◌, ◌*◌, ◌%◌, ◌<◌, ◌≤◌, Bool, true, false, eqb, ltb, leb, Option, Some, None, is_some, IfSome, SomeIff, List, length, get_or, set, sym, refl, ap, ◌∙◌, ⊎_elim, arith, length-set, get_or-set_other, get_or-set_same, ltb-true, eq-eqb, ne_eqb, eqb-true, le-leb}
 use borrow.Author.Tests.{lt-leb}
+use Rattle.std.specs.Borrow.{MutBor}
 use Rattle.std.specs.Bool.{then_some}
+use Rattle.plane.specs.steps.Sides.{Sides}
 use Rattle.plane.proofs.Plane.{area-most}
-use Rattle.plane.proofs.Search.{which, either, count_most}
+use Rattle.plane.proofs.Search.{count_most}
+use Rattle.std.proofs.lemmas.Bool.{cases_Bool, cases_lt}
+use Rattle.plane.specs.steps.Buffer.{SameBuffer}
 use Rattle.labels.proofs.Counts.{count-without}
 use Rattle.flood.specs.steps.Flood.{State, state, pushed, visited, visit_if, spread_from}
 use Rattle.flood.specs.steps.Flood.{on_top, popped, spread_top, waiting, Room, Spreads, Closed}
@@ -28,9 +32,9 @@ unfolding waiting
 waiting-most plane = count_most (waits plane) (length plane)
 
 -- an empty stack has room
-pub first-room : (stack plane : List ℕ) (h w : ℕ) → Closed plane h w → h * w ≤ length stack → Room (state 0 stack plane)
-first-room stack plane h w g t = record {
-  small = (let a = area-most g.sides.tall g.sides.wide in omega (arith, g.output));
+pub first-room : (stack plane : List ℕ) (h w : ℕ) → Sides h w → Closed plane h w → h * w ≤ length stack → Room (state 0 stack plane)
+first-room stack plane h w s g t = record {
+  small = (let a = area-most s.tall s.wide in omega (arith, g.output));
   tall = omega (arith, g.output);
   fits = omega (arith, waiting-most plane);
 }
@@ -57,7 +61,7 @@ visited-room s q r l =
     ⊎_elim {C = Room (visited q s)}
     (λ (e : eqb (get_or s.plane q 0) 1 ≡ true). rw e (pushed_room s q r l (eqb-true (get_or s.plane q 0) 1 e)))
     (λ (e : eqb (get_or s.plane q 0) 1 ≡ false). rw e r)
-    (either (eqb (get_or s.plane q 0) 1))
+    (cases_Bool (eqb (get_or s.plane q 0) 1))
 
 visited-long : (s : State) (q : ℕ) → length (visited q s).plane ≡ length s.plane
 unfolding visited pushed
@@ -65,7 +69,7 @@ visited-long s q =
     ⊎_elim {C = length (visited q s).plane ≡ length s.plane}
     (λ (e : eqb (get_or s.plane q 0) 1 ≡ true). rw e (length-set s.plane q 2))
     (λ (e : eqb (get_or s.plane q 0) 1 ≡ false). rw e)
-    (either (eqb (get_or s.plane q 0) 1))
+    (cases_Bool (eqb (get_or s.plane q 0) 1))
 
 -- the height of the stack and the number of those that wait
 unfoldable pub total : State → ℕ
@@ -78,7 +82,7 @@ visited-total s q l =
     ⊎_elim {C = total (visited q s) ≡ total s}
     (λ (e : eqb (get_or s.plane q 0) 1 ≡ true). rw e (omega (arith, fewer-wait s.plane q l (eqb-true (get_or s.plane q 0) 1 e))))
     (λ (e : eqb (get_or s.plane q 0) 1 ≡ false). rw e)
-    (either (eqb (get_or s.plane q 0) 1))
+    (cases_Bool (eqb (get_or s.plane q 0) 1))
 
 -- the room of a plane of `area` pixels
 pub record Kept (area : ℕ) (s : State) : Type 0 where
@@ -108,12 +112,16 @@ if-there false l = tt
 -- a pixel by a difference that is there where it is not negative
 pub difference-is : (v : ℕ) (o : Option ℕ) (b a : ℕ) → SomeIff o (b ≤ a) v → o ≡ then_some (leb b a) v
 difference-is v (Some x) b a h = rw (le-leb b a h.0, h.1)
-difference-is v None b a h = rw (lt-leb b a (⊎_elim (λ (l : a < b). l) (λ (l : b ≤ a). absurd (h l)) (which a b)))
+difference-is v None b a h = rw (lt-leb b a (⊎_elim (λ (l : a < b). l) (λ (l : b ≤ a). absurd (h l)) (cases_lt a b)))
 
 -- and by a closure that is called where a test says so
 pub called-is : (v : ℕ) (o : Option ℕ) (t : Bool) → is_some o ≡ t → IfSome o (λ x. x ≡ v) → o ≡ then_some t v
 called-is v (Some x) t e h = rw (← e, h)
 called-is v None t e h = rw (← e)
+
+-- ---- after two calls the stack is still over the same buffer
+pub same-twice : {a b c : MutBor (List ℕ)} → SameBuffer a b → SameBuffer b c → SameBuffer a c
+same-twice f g = record { reference = g.reference ∙ f.reference; size = g.size ∙ f.size }
 
 -- ---- the four visits of one spread
 

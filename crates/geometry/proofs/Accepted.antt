@@ -5,17 +5,16 @@ use mathlib.Core.List.{List}
 use Prim.Native.Nat.{ℕ, ◌+◌, ◌*◌, ◌≤◌, ◌<◌}
 use native.Mathlib.Nat.{mul-le-mul}
 use native.Mathlib.Omega.{arith}
-use lib.IntN.{ℤ}
 use borrow.Author.Tests.{eqb-true, leb-true, ltb-true}
 use Rattle.plane.specs.steps.Sides.{Sides}
+use Rattle.plane.specs.declared.size.Size.{Size}
 use Rattle.std.specs.Prelude.{Ok, Err}
 use Rattle.plane.specs.declared.answer.Refusal.{Refusal}
 use Rattle.plane.specs.Refusal.{room_for, done_for}
 use Rattle.plane.proofs.Plane.{row_in, area-most}
 use Rattle.plane.proofs.Refusal.{Within, passed, accepted, is-declined, written, kept, sides-are, sides-within, three-lines}
-use Rattle.nearest.specs.steps.Room.{Room}
 use Rattle.geometry.specs.Refusal.{plane_refusal, nearest_refusal, fill_refusal, crop_refusal}
-use Rattle.geometry.specs.Calls.{nearest_refusal_in, PlaneCalled}
+use Rattle.geometry.specs.Calls.{PlaneCalled}
 
 -- ---- answers
 
@@ -30,59 +29,64 @@ pub plane-made : {refusal : ℕ} {new work out work' out' : List ℕ} → refusa
     → PlaneCalled refusal new work out (Ok tt) work' out'
 plane-made z e = record { answer = sym (accepted _ _ z); out_is = e ∙ sym (written _ _ _ z); kept = λ bad. absurd (bad z) }
 
--- ---- lengths
+-- ---- lengths, by the sides that an accepted call goes on with
 
 pub record PlaneOk (h w mask out work : ℕ) : Type 0 where
-  pub sides : Sides h w
   pub within : Within h w
   pub input : mask ≡ h * w
   pub output : out ≡ h * w
   pub room : room_for h w ≤ work
 
-pub plane-ok : (h w mask out work : ℕ) → plane_refusal h w mask out work ≡ 0 → PlaneOk h w mask out work
+pub plane-ok : (size : Size) (h w mask out work : ℕ) → (size.h ≡ h) × (size.w ≡ w) → plane_refusal h w mask out work ≡ 0
+    → PlaneOk size.h size.w mask out work
 unfolding plane_refusal
-plane-ok h w mask out work e =
+plane-ok size h w mask out work s e =
     let p = passed _ refl e in
-    record {
-      sides = sides-are h w p.0;
+    rw (s.0, s.1)
+    (record {
       within = sides-within h w p.0;
       input = eqb-true _ _ p.1.0;
       output = eqb-true _ _ p.1.1.0;
       room = leb-true _ _ p.1.1.1.0;
-    }
+    })
 
-pub nearest-ok : (mask : List ℕ) (h w : ℕ) (work : List ℕ) (rows cols : List ℤ)
-    → nearest_refusal_in mask h w work rows cols ≡ 0 → Room h w mask work rows cols
+pub record NearestOk (h w mask rows cols work : ℕ) : Type 0 where
+  pub input : mask ≡ h * w
+  pub rows_long : rows ≡ h * w
+  pub cols_long : cols ≡ h * w
+  pub room : h * w + 3 * w ≤ work
+
+pub nearest-ok : (size : Size) (h w mask rows cols work : ℕ) → (size.h ≡ h) × (size.w ≡ w) → nearest_refusal h w mask rows cols work ≡ 0
+    → NearestOk size.h size.w mask rows cols work
 unfolding nearest_refusal
-nearest-ok mask h w work rows cols e =
+nearest-ok size h w mask rows cols work s e =
     let p = passed _ refl e in
-    let s = sides-are h w p.0 in
-    record {
-      sides = s;
-      mask_long = eqb-true _ _ p.1.0;
-      room = three-lines _ _ _ s (leb-true _ _ p.1.1.1.1.0);
+    rw (s.0, s.1)
+    (record {
+      input = eqb-true _ _ p.1.0;
       rows_long = eqb-true _ _ p.1.1.0;
       cols_long = eqb-true _ _ p.1.1.1.0;
-    }
+      room = three-lines h w _ (sides-are h w p.0) (leb-true _ _ p.1.1.1.1.0);
+    })
 
 pub record FillOk (h w colours mask out work : ℕ) : Type 0 where
-  pub sides : Sides h w
   pub colours_long : colours ≡ 3 * (h * w)
   pub input : mask ≡ h * w
   pub output : out ≡ 3 * (h * w)
-  pub room : room_for h w ≤ work
+  pub room : h * w + 3 * w ≤ work
 
-pub fill-ok : (h w colours mask out work : ℕ) → fill_refusal h w colours mask out work ≡ 0 → FillOk h w colours mask out work
+pub fill-ok : (size : Size) (h w colours mask out work : ℕ) → (size.h ≡ h) × (size.w ≡ w) → fill_refusal h w colours mask out work ≡ 0
+    → FillOk size.h size.w colours mask out work
 unfolding fill_refusal
-fill-ok h w colours mask out work e =
+fill-ok size h w colours mask out work s e =
     let p = passed _ refl e in
-    record {
-      sides = sides-are h w p.0;
+    rw (s.0, s.1)
+    (record {
       colours_long = eqb-true _ _ p.1.0;
       input = eqb-true _ _ p.1.1.0;
       output = eqb-true _ _ p.1.1.1.0;
-      room = leb-true _ _ p.1.1.1.1.0;
-    }
+      room = three-lines h w _ (sides-are h w p.0) (leb-true _ _ p.1.1.1.1.0);
+    })
 
 -- the part of an accepted row lies in the plane
 pub record InPlane (n w x0 x1 y : ℕ) : Type 0 where

@@ -1,30 +1,31 @@
-// The loop of fill: the colours of the pixels that the plane of indices names.
-ghost use Rattle.std.specs.Prelude.{◌≡◌, cond, ◌*◌, length, get_or};
+// The loop of fill: the colours of the pixels that the plane of indices names. It goes by index: what is written through `chunks_mut`
+// with `enumerate` is not known afterwards.
+ghost use Rattle.std.specs.Prelude.{◌≡◌, ◌*◌, ◌-◌, ◌<◌, length};
+ghost use Rattle.std.specs.Option.{ForSome};
 ghost use Rattle.geometry.specs.steps.Source.{source_at, colours_from, Reads};
 
-// Pixel i's index where something is on, else the last row's first pixel.
-fn source(index: u32, some: bool, last: usize) -> usize
-    ensures { result ≡ cond some index last }
+use plane::size::Size;
+
+// The pixel that pixel i's colour is taken from: the one that the plane names, or, without a plane, the first of the last row. It is asked
+// at each pixel: a closure for each case would have the contract of both.
+fn source(indices: Option<&[u32]>, i: usize, last: usize) -> usize
+    requires { ForSome indices (λ plane. i < length plane.now) }
+    ensures { result ≡ source_at indices.entry last i }
 {
-    if some { index as usize } else { last }
+    match indices {
+        Some(plane) => plane[i] as usize,
+        None => last,
+    }
 }
 
 // The colours of the pixels that are named.
-pub fn colours_from(
-    colours: &[u64],
-    h: usize,
-    w: usize,
-    indices: &[u32],
-    some: bool,
-    out: &mut [u64],
-)
-    requires { Reads colours.now h w indices.now out.old }
-    ensures { out.new ≡ colours_from colours.now h w indices.now some }
+pub fn colours_from(colours: &[u64], size: Size, indices: Option<&[u32]>, out: &mut [u64])
+    requires { Reads colours.now size indices out.old }
+    ensures { out.new ≡ colours_from colours.now size indices.entry }
 {
-    let n = h * w;
-    let last = n - w;
-    for i in 0..n {
-        let s = 3 * source(indices[i], some, last);
+    let last = size.area() - size.w;
+    for i in 0..size.area() {
+        let s = 3 * source(indices, i, last);
         let t = i * 3;
         out[t..t + 3].copy_from_slice(&colours[s..s + 3]);
     }

@@ -1,4 +1,5 @@
-// Plane geometry: the public calls. Each answers its value or why it declines, and a call that declines writes nothing.
+// Plane geometry: the public calls. Each answers its value or why it declines, and a call that declines writes nothing. Masks and sides
+// come flat, as the C interface lends them.
 #![tactic(auto)]
 
 mod fill;
@@ -10,7 +11,9 @@ ghost use Rattle.geometry.specs.Calls.{NearestCalled, LabelsCalled, SquaresCalle
 ghost use Rattle.geometry.specs.Refusal.{crop_refusal};
 ghost use Rattle.geometry.specs.Crop.{crop_part};
 
+use plane::Box;
 use plane::answer::Refusal;
+use plane::size::Mask;
 
 // Row and column of the nearest on-pixel of each pixel; with nothing on, row -1 and column 0.
 pub fn feature_transform(
@@ -25,8 +28,8 @@ pub fn feature_transform(
         work.old rows.old cols.old result
         work.new rows.new cols.new }
 {
-    refusals::nearest_refusal(h, w, mask.len(), rows.len(), cols.len(), work.len())?;
-    nearest::nearest_planes(mask, h, w, work, rows, cols);
+    let size = refusals::nearest_refusal(h, w, mask.len(), rows.len(), cols.len(), work.len())?;
+    nearest::nearest_planes(Mask { pixels: mask, size }, work, rows, cols);
     Ok(())
 }
 
@@ -43,8 +46,8 @@ pub fn label4(
         parents.old labels.old result
         parents.new labels.new }
 {
-    refusals::plane_refusal(h, w, mask.len(), labels.len(), parents.len())?;
-    Ok(labels::label(mask, h, w, parents, labels))
+    let size = refusals::plane_refusal(h, w, mask.len(), labels.len(), parents.len())?;
+    Ok(labels::label(Mask { pixels: mask, size }, parents, labels))
 }
 
 // The dilation of a mask by the square of k rows and k columns each way: k is iterations, and 0 iterations mean the larger
@@ -61,8 +64,8 @@ pub fn binary_dilation8(
         work.old out.old result
         work.new out.new }
 {
-    refusals::plane_refusal(h, w, mask.len(), out.len(), work.len())?;
-    squares::dilate(mask, h, w, iterations, work, out);
+    let size = refusals::plane_refusal(h, w, mask.len(), out.len(), work.len())?;
+    squares::dilate(Mask { pixels: mask, size }, iterations, work, out);
     Ok(())
 }
 
@@ -78,8 +81,8 @@ pub fn square_distance(
         work.old out.old result
         work.new out.new }
 {
-    refusals::plane_refusal(h, w, mask.len(), out.len(), work.len())?;
-    nearest::nearest_distances(mask, h, w, work, out);
+    let size = refusals::plane_refusal(h, w, mask.len(), out.len(), work.len())?;
+    nearest::nearest_distances(Mask { pixels: mask, size }, work, out);
     Ok(())
 }
 
@@ -97,9 +100,10 @@ pub fn fill_transparent(
         work.old out.old result
         work.new out.new }
 {
-    refusals::fill_refusal(h, w, colours.len(), mask.len(), out.len(), work.len())?;
-    nearest::nearest_indices(mask, h, w, work);
-    fill::colours_from(colours, h, w, work, plane::any(mask), out);
+    let size = refusals::fill_refusal(h, w, colours.len(), mask.len(), out.len(), work.len())?;
+    nearest::nearest_indices(Mask { pixels: mask, size }, work);
+    let indices = plane::any(mask).then_some(&work[..size.area()]);
+    fill::colours_from(colours, size, indices, out);
     Ok(())
 }
 
@@ -108,32 +112,20 @@ pub fn crop_row_refusal(
     plane: &[u8],
     h: usize,
     w: usize,
-    y0: usize,
-    y1: usize,
-    x0: usize,
-    x1: usize,
+    part: Box,
     y: usize,
 ) -> Result<(), Refusal>
-    ensures { result ≡ done_for (crop_refusal (length plane.now) h w y0 y1 x0 x1 y) }
+    ensures { result ≡ done_for (crop_refusal (length plane.now) h w part.y0 part.y1 part.x0 part.x1 y) }
 {
-    refusals::crop_refusal(plane.len(), h, w, y0, y1, x0, x1, y)
+    refusals::crop_refusal(plane.len(), h, w, part, y)
 }
 
-// Row y of the plane from column x0 up to x1; declined, an empty part.
-pub fn crop_row(
-    plane: &[u8],
-    h: usize,
-    w: usize,
-    y0: usize,
-    y1: usize,
-    x0: usize,
-    x1: usize,
-    y: usize,
-) -> &[u8]
-    ensures { result.now ≡ crop_part plane.now h w y0 y1 x0 x1 y }
+// Row y of the part of the plane; declined, an empty one, and the call before says why: R37 asks for both.
+pub fn crop_row(plane: &[u8], h: usize, w: usize, part: Box, y: usize) -> &[u8]
+    ensures { result.now ≡ crop_part plane.now h w part.y0 part.y1 part.x0 part.x1 y }
 {
-    match crop_row_refusal(plane, h, w, y0, y1, x0, x1, y) {
-        Ok(()) => &plane[y * w + x0..y * w + x1],
+    match crop_row_refusal(plane, h, w, part, y) {
+        Ok(()) => &plane[y * w + part.x0..y * w + part.x1],
         Err(_) => &[],
     }
 }

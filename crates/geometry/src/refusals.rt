@@ -1,34 +1,37 @@
-// The tests behind the refusals, in order: each function returns at the first that fails. Tests with one number are made at once.
-ghost use Rattle.std.specs.Prelude.{◌≡◌};
+// What the calls of this crate decline: the sides first, then the other tests in order. The sides come flat, as the C interface lends them,
+// and go on as a Size. Each function is the list of its own tests; over a closure that makes the list from the sides none is shorter.
+ghost use Rattle.std.specs.Prelude.{◌≡◌, IfOk};
 ghost use Rattle.plane.specs.Refusal.{done_for};
+ghost use Rattle.plane.specs.steps.Accepted.{HasSides};
+ghost use Rattle.plane.specs.steps.Judged.{done};
 ghost use Rattle.geometry.specs.Refusal.{plane_refusal, nearest_refusal, fill_refusal, crop_refusal};
 
-use plane::answer::Refusal;
+use plane::Box;
+use plane::answer::{self, Refusal};
+use plane::size::Size;
 
-// Labels, squares and square distance: the lengths of the mask, the output and the work buffer.
+// Labels, squares and square distance: the sides, where the lengths of the mask, the output and the work buffer are accepted.
 pub fn plane_refusal(
     h: usize,
     w: usize,
     mask: usize,
     out: usize,
     work: usize,
-) -> Result<(), Refusal>
-    ensures { result ≡ done_for (plane_refusal h w mask out work) }
+) -> Result<Size, Refusal>
+    ensures refusal { done result ≡ done_for (plane_refusal h w mask out work) }
+    ensures size { IfOk result (HasSides h w) }
 {
-    if !plane::sides_ok(h, w) {
-        return Err(Refusal::Sides);
-    }
-    let n = h * w;
-    if mask != n {
-        return Err(Refusal::Inputs);
-    }
-    if (out == n) & (plane::room(h, w) <= work) {
-        return Ok(());
-    }
-    Err(Refusal::Outputs)
+    let size = Size::new(h, w)?;
+    let n = size.area();
+    answer::judge(&[
+        (mask == n, Refusal::Inputs),
+        (out == n, Refusal::Outputs),
+        (size.room() <= work, Refusal::Outputs),
+    ])?;
+    Ok(size)
 }
 
-// Nearest: the lengths of the mask, the planes of rows and columns, and the work buffer.
+// Nearest: the same, for the lengths of the mask, the planes of rows and columns, and the work buffer.
 pub fn nearest_refusal(
     h: usize,
     w: usize,
@@ -36,23 +39,22 @@ pub fn nearest_refusal(
     rows: usize,
     cols: usize,
     work: usize,
-) -> Result<(), Refusal>
-    ensures { result ≡ done_for (nearest_refusal h w mask rows cols work) }
+) -> Result<Size, Refusal>
+    ensures refusal { done result ≡ done_for (nearest_refusal h w mask rows cols work) }
+    ensures size { IfOk result (HasSides h w) }
 {
-    if !plane::sides_ok(h, w) {
-        return Err(Refusal::Sides);
-    }
-    let n = h * w;
-    if mask != n {
-        return Err(Refusal::Inputs);
-    }
-    if (rows == n) & (cols == n) & (plane::room(h, w) <= work) {
-        return Ok(());
-    }
-    Err(Refusal::Outputs)
+    let size = Size::new(h, w)?;
+    let n = size.area();
+    answer::judge(&[
+        (mask == n, Refusal::Inputs),
+        (rows == n, Refusal::Outputs),
+        (cols == n, Refusal::Outputs),
+        (size.room() <= work, Refusal::Outputs),
+    ])?;
+    Ok(size)
 }
 
-// Fill: the lengths of the colours, the mask, the output and the work buffer.
+// Fill: the same, for the lengths of the colours, the mask, the output and the work buffer.
 pub fn fill_refusal(
     h: usize,
     w: usize,
@@ -60,43 +62,33 @@ pub fn fill_refusal(
     mask: usize,
     out: usize,
     work: usize,
-) -> Result<(), Refusal>
-    ensures { result ≡ done_for (fill_refusal h w colours mask out work) }
+) -> Result<Size, Refusal>
+    ensures refusal { done result ≡ done_for (fill_refusal h w colours mask out work) }
+    ensures size { IfOk result (HasSides h w) }
 {
-    if !plane::sides_ok(h, w) {
-        return Err(Refusal::Sides);
-    }
-    let n = h * w;
-    if (colours == 3 * n) & (mask == n) {
-        if (out == 3 * n) & (plane::room(h, w) <= work) {
-            return Ok(());
-        }
-        return Err(Refusal::Outputs);
-    }
-    Err(Refusal::Inputs)
+    let size = Size::new(h, w)?;
+    let n = size.area();
+    answer::judge(&[
+        (colours == 3 * n, Refusal::Inputs),
+        (mask == n, Refusal::Inputs),
+        (out == 3 * n, Refusal::Outputs),
+        (size.room() <= work, Refusal::Outputs),
+    ])?;
+    Ok(size)
 }
 
 // Crop row: the length of the plane, the box, and the row.
-pub fn crop_refusal(
-    n: usize,
-    h: usize,
-    w: usize,
-    y0: usize,
-    y1: usize,
-    x0: usize,
-    x1: usize,
-    y: usize,
-) -> Result<(), Refusal>
-    ensures { result ≡ done_for (crop_refusal n h w y0 y1 x0 x1 y) }
+pub fn crop_refusal(n: usize, h: usize, w: usize, part: Box, y: usize) -> Result<(), Refusal>
+    ensures { result ≡ done_for (crop_refusal n h w part.y0 part.y1 part.x0 part.x1 y) }
 {
-    if !plane::sides_ok(h, w) {
-        return Err(Refusal::Sides);
-    }
-    if n != h * w {
-        return Err(Refusal::Inputs);
-    }
-    if (y0 < y1) & (y1 <= h) & (x0 < x1) & (x1 <= w) & (y0 <= y) & (y < y1) {
-        return Ok(());
-    }
-    Err(Refusal::Part)
+    let size = Size::new(h, w)?;
+    answer::judge(&[
+        (n == size.area(), Refusal::Inputs),
+        (part.y0 < part.y1, Refusal::Part),
+        (part.y1 <= size.h, Refusal::Part),
+        (part.x0 < part.x1, Refusal::Part),
+        (part.x1 <= size.w, Refusal::Part),
+        (part.y0 <= y, Refusal::Part),
+        (y < part.y1, Refusal::Part),
+    ])
 }

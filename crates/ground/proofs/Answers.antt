@@ -9,12 +9,11 @@ use native.Mathlib.Omega.{arith}
 use lib.Dec.{leb}
 use lib.ListN.{length, get_or, get_or-eq_default, replicate}
 use lib.Ieee.{Float}
-use mir.Val.{bool_byte}
 use Rattle.plane.specs.Plane.{bit, table}
-use Rattle.plane.specs.steps.Sides.{Sides}
-use Rattle.plane.specs.Mask.{mask_of, some_off}
-use Rattle.plane.proofs.Plane.{table-length, table_at}
-use Rattle.plane.proofs.Search.{which, and_no}
+use Rattle.plane.specs.Mask.{some_off}
+use Rattle.plane.proofs.Plane.{table-length, table_at, bit-most}
+use Rattle.plane.proofs.Search.{and_no}
+use Rattle.std.proofs.lemmas.Bool.{cases_lt}
 use Rattle.colour.specs.declared.Rgb.{Rgb}
 use Rattle.std.specs.Prelude.{Option, Some, None}
 use Rattle.outline.specs.Border.{border_list}
@@ -22,31 +21,16 @@ use Rattle.outline.specs.Ground.{is_close, close_plane, ground_from, ground_of, 
 use Rattle.outline.specs.Answer.{found_reference}
 use Rattle.flood.specs.steps.Flood.{Closed}
 
--- a test as a byte
-pub byte-is : (b : Bool) → bool_byte b ≡ bit b
-unfolding bit
-byte-is true = refl
-byte-is false = refl
-
 -- a table of 0
 zeros : (n k : ℕ) → table {A = ℕ} (λ (i : ℕ). 0) k n ≡ replicate n 0
 unfolding table
 zeros zero k = refl
 zeros (suc n) k = ap (λ (l : List ℕ). 0 ∷ l) (zeros n (suc k))
 
-pub bit-most : (b : Bool) → bit b ≤ 1
-unfolding bit
-bit-most true = omega arith
-bit-most false = omega arith
-
 module _ (colours : List Float) (h w : ℕ) (reference : Rgb) (tolerance : Float) where
   -- the close pixels of the picture
   abbrev close : List ℕ
   close = close_plane colours h w reference tolerance
-
-  pub close-is : (n : ℕ) (p : List ℕ) → n ≡ h * w → p ≡ mask_of n (is_close colours reference tolerance) → p ≡ close
-  unfolding close_plane mask_of
-  close-is n p l q = q ∙ rw l
 
   close-length : length close ≡ h * w
   unfolding close_plane
@@ -59,10 +43,10 @@ module _ (colours : List Float) (h w : ℕ) (reference : Rgb) (tolerance : Float
       ⊎_elim {C = get_or close k 0 ≤ 1}
       (λ (l : k < h * w). rw (table_at f (h * w) k 0 l) (bit-most (is_close colours reference tolerance k)))
       (λ (l : h * w ≤ k). (let z = get_or-eq_default close 0 {n = k} (omega (arith, close-length)) in omega arith))
-      (which k (h * w))
+      (cases_lt k (h * w))
 
-  pub close-closed : (p : List ℕ) → Sides h w → p ≡ close → Closed p h w
-  close-closed p s e = rw e (record { sides = s; output = close-length; bits = close-bits })
+  pub close-closed : (p : List ℕ) → p ≡ close → Closed p h w
+  close-closed p e = rw e (record { output = close-length; bits = close-bits })
 
   -- what is answered and written
   abbrev pub Answered : Option Rgb → List ℕ → Type 0

@@ -1,17 +1,20 @@
 -- The shallow plane, the deep plane and the edge marks, from the dilations of the background.
 -- Assumes nothing.
-use mathlib.Core.Path.{◌≡◌, refl, ap, ◌∙◌}
+use mathlib.Core.Path.{◌≡◌, refl, sym, ap, ◌∙◌}
 use mathlib.Core.Bool.{Bool, true, false, not, ◌&&◌}
 use mathlib.Core.List.{List}
 use mathlib.Core.Logic.{⊎_elim}
 use Prim.Native.Nat.{ℕ, ◌*◌, ◌<◌, ◌/◌, ◌%◌}
 use native.Mathlib.Omega.{arith}
 use lib.ListN.{length}
+use Rattle.std.proofs.Common.{replicate}
+use Rattle.std.proofs.lemmas.List.{length-replicate, get_or-replicate}
 use Rattle.plane.proofs.Mask.{mask-same, mask-length, mask-on, index_on}
 use Rattle.plane.specs.Plane.{bit, apart, table}
 use Rattle.plane.specs.Search.{some_below}
-use Rattle.plane.proofs.Search.{either, some_same}
-use Rattle.plane.proofs.Plane.{row_of, column-of, plane-index, table_same, on_bit}
+use Rattle.plane.proofs.Search.{some_same}
+use Rattle.std.proofs.lemmas.Bool.{cases_Bool}
+use Rattle.plane.proofs.Plane.{row_of, column-of, plane-index, table_same, table_is, on_bit}
 use Rattle.plane.specs.Mask.{is_on, mask_of}
 use Rattle.plane.specs.steps.Complement.{complement_of}
 use Rattle.squares.specs.Squares.{reach, in_square, squares_plane}
@@ -68,25 +71,37 @@ module _ (back : List ℕ) (h w : ℕ) (wide : 0 < w) where
       ⊎_elim {C = far 1 i ≡ not (is_on back i) && far 1 i}
       (λ (e : is_on back i ≡ true). rw (e, self-near i l e))
       (λ (e : is_on back i ≡ false). rw e)
-      (either (is_on back i))
+      (cases_Bool (is_on back i))
 
   pub shallow-laid : complement_of (squares_plane back h w 1) ≡ mask_of (h * w) shallows
   shallow-laid = far_from 1 (omega arith) ∙ mask-same (h * w) (far 1) shallows shallow_is
 
-  tests : (s a b : Bool) → s && not a && not (not a && not b) ≡ s && (not a && b)
-  tests true true b = refl
-  tests true false true = refl
-  tests true false false = refl
-  tests false a b = refl
+  tests : (a b : Bool) → not a && not (not a && not b) ≡ not a && b
+  tests true b = refl
+  tests false true = refl
+  tests false false = refl
 
-  -- the edge pixels are what is neither background nor shallow
-  pub edge-laid : (shallow : List ℕ) → shallow ≡ mask_of (h * w) shallows
-      → mask_of (h * w) (edge_test (some_below (length shallow) (is_on shallow)) back shallow) ≡ table (edge_mark back h w) 0 (h * w)
-  unfolding mask_of edge_test edge_mark is_edge is_shallow
-  edge-laid shallow e =
-      let same : (i : ℕ) → i < h * w → is_on shallow i ≡ shallows i = λ i l. rw e (mask-on (h * w) shallows i l) in
-      let known : some_below (length shallow) (is_on shallow) ≡ some_below (h * w) shallows =
-      ap (λ (n : ℕ). some_below n (is_on shallow)) (ap length e ∙ mask-length (h * w) shallows)
-      ∙ some_same (is_on shallow) shallows (h * w) same in
-      table_same (λ (i : ℕ). bit (edge_test (some_below (length shallow) (is_on shallow)) back shallow i)) (edge_mark back h w) (h * w) 0
-      (λ i l. rw (known, same i l) (ap bit (tests (some_below (h * w) shallows) (is_on back i) (near_ground back h w 1 i))))
+  module _ (shallow : List ℕ) (made : shallow ≡ mask_of (h * w) shallows) (some : Bool)
+      (known : some ≡ some_below (length shallow) (is_on shallow)) where
+    same : (i : ℕ) → i < h * w → is_on shallow i ≡ shallows i
+    same i l = rw made (mask-on (h * w) shallows i l)
+
+    known-is : some ≡ some_below (h * w) shallows
+    known-is =
+        known
+        ∙ ap (λ (n : ℕ). some_below n (is_on shallow)) (ap length made ∙ mask-length (h * w) shallows)
+        ∙ some_same (is_on shallow) shallows (h * w) same
+
+    -- where there is a shallow pixel, the edge pixels are what is neither background nor shallow
+    pub edge-laid : some ≡ true → mask_of (h * w) (edge_test back shallow) ≡ table (edge_mark back h w) 0 (h * w)
+    unfolding mask_of edge_test edge_mark is_edge is_shallow
+    edge-laid e =
+        table_same (λ (i : ℕ). bit (edge_test back shallow i)) (edge_mark back h w) (h * w) 0
+        (λ i l. rw (sym known-is ∙ e, same i l) (ap bit (tests (is_on back i) (near_ground back h w 1 i))))
+
+    -- where there is none, no pixel is
+    pub no-edge : some ≡ false → replicate (h * w) 0 ≡ table (edge_mark back h w) 0 (h * w)
+    unfolding edge_mark is_shallow bit
+    no-edge e =
+        table_is (edge_mark back h w) (h * w) _ 0 (length-replicate (h * w) 0)
+        (λ i l. get_or-replicate (h * w) i 0 0 l ∙ rw (sym known-is ∙ e))

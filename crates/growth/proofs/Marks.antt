@@ -1,15 +1,16 @@
 -- The marks of a pass: what the search of the window decides, what waits, and that the last marks are the pixels that join.
 -- Assumes nothing.
-use mathlib.Core.Path.{◌≡◌, refl, ap, ◌∙◌}
+use mathlib.Core.Path.{◌≡◌, refl, sym, ap, ◌∙◌}
 use mathlib.Core.Bool.{Bool, true, false, cond, ◌&&◌, ◌||◌}
 use mathlib.Core.List.{List}
 use mathlib.Core.Logic.{◌⊎◌, inl, inr, ⊎_elim}
 use Prim.Native.Nat.{ℕ, ◌+◌, ◌*◌, ◌<◌, ◌/◌, ◌%◌}
+use native.Mathlib.Nat.{add-zero}
 use lib.Dec.{eqb}
 use lib.Ieee.{Float}
 use lib.ListN.{length}
-use Rattle.std.specs.Int.{from_bool}
-use Rattle.std.specs.Prelude.{None}
+use Rattle.std.specs.Bool.{then_some}
+use Rattle.std.specs.Prelude.{Option, None}
 use Rattle.plane.proofs.Mask.{mask-same}
 use Rattle.plane.specs.Plane.{bit, on_at, table, index_of}
 use Rattle.plane.specs.Search.{some_below}
@@ -20,17 +21,19 @@ use Rattle.nearest.specs.Nearest.{nearest}
 use Rattle.nearest.proofs.Laws.{nothing-on}
 use Rattle.colour.specs.declared.Rgb.{Rgb}
 use Rattle.nearest.specs.steps.Indices.{indices_plane}
+use Rattle.colour.specs.steps.Pixel.{pixel_of}
+use Rattle.outline.specs.Border.{channel_at, colour_at}
 use Rattle.outline.specs.Growth.{is_edge, is_shallow, is_reach, body_from, joins_from, is_joining, pass_of}
 use Rattle.window.specs.steps.Window.{near_pixel}
-use Rattle.growth.specs.steps.Marks.{joins_with, waits, edge_mark, near_mark, search_mark, last_mark, decided_mark, Laid}
+use Rattle.growth.specs.declared.deep.Deep.{Deep}
+use Rattle.growth.specs.steps.Marks.{joins_with, near_deep, waits, edge_mark, near_mark, search_mark, last_mark, decided_mark, Laid}
 use Rattle.window.proofs.Searching.{near_none, near-some}
 use Rattle.window.proofs.Indices.{indices-at}
 
--- what `u8::from` writes for a truth
-pub from_bool-bit : (t : Bool) → from_bool t ≡ bit t
-unfolding bit
-from_bool-bit true = refl
-from_bool-bit false = refl
+-- the colour of a pixel, as its three channels stand
+pub pixel-colour : (colours : List Float) (i : ℕ) → pixel_of colours i ≡ colour_at colours i
+unfolding colour_at channel_at
+pixel-colour colours i = simp add-zero
 
 -- without a deep pixel none is near enough
 pub near-empty : (deep : List ℕ) (h w y x : ℕ) → some_below (h * w) (is_on deep) ≡ false → near_pixel deep h w y x ≡ None
@@ -39,13 +42,22 @@ near-empty deep h w y x e =
     let z = nothing-on deep h w y x (λ j i a b. none_found (is_on deep) (h * w) e (j * w + i) (pixel-in j i h w a b)) in
     near_none deep h w y x (rw z)
 
+-- the deep plane is searched where it has a pixel, and then each pixel's nearest deep pixel is known
+pub near-searched : (d : Deep) (some : Bool) {r : Option Deep} → r ≡ then_some some d
+    → some ≡ some_below (d.mask.size.h * d.mask.size.w) (is_on d.mask.pixels.now) → (i : ℕ) → i < d.mask.size.h * d.mask.size.w
+    → near_deep r i ≡ near_pixel d.mask.pixels.now d.mask.size.h d.mask.size.w (i / d.mask.size.w) (i % d.mask.size.w)
+near-searched d true e known i l = rw e
+near-searched d false e known i l =
+    let w = d.mask.size.w in rw e (sym (near-empty d.mask.pixels.now d.mask.size.h w (i / w) (i % w) (sym known)))
+
 -- a mark that is decided does not wait
 bit-decided : (t : Bool) → eqb (bit t) waits ≡ false
 unfolding bit
 bit-decided true = refl
 bit-decided false = refl
 
-module _ (colours : List Float) (reference : Rgb) (deep shallow : List ℕ) (h w : ℕ) (wide : 0 < w) where
+module _ (colours : List Float) (reference : Rgb) (near : ℕ → Option ℕ) (deep shallow : List ℕ) (h w : ℕ) (wide : 0 < w)
+    (near-is : (i : ℕ) → i < h * w → near i ≡ near_pixel deep h w (i / w) (i % w)) where
   -- pixel i is decided by its body pixel; its nearest shallow pixel
   abbrev by_body : ℕ → ℕ
   by_body i = bit (joins_with colours reference (body_from deep shallow h w i) i)
@@ -55,19 +67,19 @@ module _ (colours : List Float) (reference : Rgb) (deep shallow : List ℕ) (h w
 
   abbrev Marked : ℕ → Type 0
   Marked i =
-      (near_mark colours reference deep h w i ≡ by_body i)
-      ⊎ ((near_mark colours reference deep h w i ≡ waits) × (body_from deep shallow h w i ≡ near_shallow i))
+      (near_mark colours reference near i ≡ by_body i)
+      ⊎ ((near_mark colours reference near i ≡ waits) × (body_from deep shallow h w i ≡ near_shallow i))
 
   -- a deep pixel is near enough and gives the body colour, or the pixel waits and the nearest shallow pixel does
   marked : (i : ℕ) → i < h * w → (t : Bool) → is_reach (i / w) (i % w) (nearest deep h w (i / w) (i % w)) ≡ t → Marked i
   unfolding body_from near_mark
   marked i l true e =
-      inl (rw (near-some deep h w (i / w) (i % w) e, e))
-  marked i l false e = inr (rw (near_none deep h w (i / w) (i % w) e), rw e)
+      inl (rw (near-is i l, near-some deep h w (i / w) (i % w) e, e))
+  marked i l false e = inr (rw (near-is i l, near_none deep h w (i / w) (i % w) e), rw e)
 
   module _ (marks : List ℕ) where
     abbrev searched : ℕ → ℕ
-    searched = search_mark colours reference deep h w marks
+    searched = search_mark colours reference near marks
 
     abbrev decided : ℕ → ℕ
     decided = decided_mark colours reference deep shallow h w marks
@@ -80,18 +92,18 @@ module _ (colours : List Float) (reference : Rgb) (deep shallow : List ℕ) (h w
     unfolding search_mark decided_mark
     last-is i l true t =
         ⊎_elim {C = Last i}
-        (λ (d : near_mark colours reference deep h w i ≡ by_body i). rw (t, d, bit-decided))
-        (λ (d : (near_mark colours reference deep h w i ≡ waits) × (body_from deep shallow h w i ≡ near_shallow i)). rw (t, d.0, d.1))
+        (λ (d : near_mark colours reference near i ≡ by_body i). rw (t, d, bit-decided))
+        (λ (d : (near_mark colours reference near i ≡ waits) × (body_from deep shallow h w i ≡ near_shallow i)). rw (t, d.0, d.1))
         (marked i l (is_reach (i / w) (i % w) (nearest deep h w (i / w) (i % w))) refl)
     last-is i l false t = rw t
 
     -- the waiting pixels are decided by the plane of indices
-    pub decided-last : (near now : List ℕ) → near ≡ indices_plane shallow h w → now ≡ table searched 0 (h * w)
-        → table (last_mark colours reference near now) 0 (length now) ≡ table decided 0 (h * w)
+    pub decided-last : (plane now : List ℕ) → plane ≡ indices_plane shallow h w → now ≡ table searched 0 (h * w)
+        → table (last_mark colours reference plane now) 0 (length now) ≡ table decided 0 (h * w)
     unfolding last_mark
-    decided-last near now e f =
-        ap (table (last_mark colours reference near now) 0) (ap length f ∙ table-length searched 0 (h * w))
-        ∙ table_same (last_mark colours reference near now) decided (h * w) 0
+    decided-last plane now e f =
+        ap (table (last_mark colours reference plane now) 0) (ap length f ∙ table-length searched 0 (h * w))
+        ∙ table_same (last_mark colours reference plane now) decided (h * w) 0
         (λ i l. rw (f, e, table_at searched (h * w) i 0 l, indices-at shallow h w wide i l) (last-is i l (is_on marks i) refl))
 
     -- where none waits all are decided

@@ -1,17 +1,21 @@
-// Growth (the core of unmix_fringe): passes that move the background into the object's anti-aliased rim.
+// Growth (the core of unmix_fringe): passes that move the background into the object's anti-aliased rim. The loops that write a plane
+// go by an index: after `zip` or `enumerate` over `iter_mut` it is not known what was written.
 #![tactic(auto)]
 
 ghost use Rattle.std.specs.Prelude.{◌≡◌, cond, ◌||◌, ℕ, ◌*◌, ◌+◌, ◌<◌, ◌≤◌, eqb, length, get_or};
 ghost use Rattle.std.specs.Option.{ForSome};
 ghost use Rattle.plane.specs.Plane.{on, bit, table};
-ghost use Rattle.plane.specs.steps.Sides.{Sides};
 ghost use Rattle.plane.specs.Search.{some_below};
 ghost use Rattle.plane.specs.Mask.{is_on, mask_of};
-ghost use Rattle.outline.specs.Border.{colour_at};
 ghost use Rattle.outline.specs.Growth.{is_joining, pass_of, growth_of};
-ghost use Rattle.window.specs.steps.Window.{Made};
-ghost use Rattle.growth.specs.steps.Marks.{joins_with, edge_test, near_mark, waits, search_mark, last_mark, decided_mark};
+ghost use Rattle.growth.specs.steps.Marks.{joins_with, edge_test, near_deep, near_mark, waits, search_mark, last_mark, decided_mark};
 ghost use Rattle.growth.specs.steps.Marks.{Planes, Laid, Room};
+
+mod deep;
+
+use crate::deep::Deep;
+use colour::Rgb;
+use plane::size::{Mask, Size};
 
 // The mark of a pixel that waits for its nearest shallow pixel. A number, and no enum: the marks stand in a lent plane of bytes.
 const WAITS: u8 = 2;
@@ -19,113 +23,89 @@ const WAITS: u8 = 2;
 // How far deep pixels are from the background (deep_reach).
 const DEEP_REACH: u64 = 4;
 
-// A picture with its sides, and the reference colour that its pixels are compared with.
+// A picture, and the reference colour that its pixels are compared with. Its colours need not be in range, so it is no `Picture`. How long
+// the marks and the planes are stays a clause: they are lent to be written.
 #[derive(Clone, Copy)]
 struct Photo<'a> {
     colours: &'a [f64],
-    h: usize,
-    w: usize,
-    reference: colour::Rgb,
-    ghost sides: { Sides h w },
-    ghost colours_long: { length colours.now ≡ 3 * (h * w) },
+    size: Size,
+    reference: Rgb,
+    ghost whole: { length colours.now ≡ 3 * (size.h * size.w) },
 }
 
-// The edge pixels: neither background nor shallow; none where there is no shallow pixel at all.
-fn edges(some: bool, back: &[u8], shallow: &[u8], marks: &mut [u8])
+// The edge pixels, where there is a shallow pixel: neither background nor shallow.
+fn edges(back: &[u8], shallow: &[u8], marks: &mut [u8])
     requires shallow_len { length shallow.now ≡ length back.now }
     requires marks_len { length marks.old ≡ length back.now }
-    ensures { marks.new ≡ mask_of (length back.now)
-        (edge_test some back.now shallow.now) }
+    ensures { marks.new ≡ mask_of (length back.now) (edge_test back.now shallow.now) }
 {
     for i in 0..back.len() {
-        marks[i] = u8::from(some & (back[i] == 0) & (shallow[i] == 0));
+        marks[i] = u8::from((back[i] == 0) & (shallow[i] == 0));
     }
 }
 
-// The shallow plane, the deep plane and the edge pixels of a background.
-fn lay(back: &[u8], h: usize, w: usize, shallow: &mut [u8], deep: &mut [u8], marks: &mut [u8])
-    requires sides { Sides h w }
-    requires back_len { length back.now ≡ h * w }
-    requires shallow_len { length shallow.old ≡ h * w }
-    requires deep_len { length deep.old ≡ h * w }
-    requires marks_len { length marks.old ≡ h * w }
-    ensures { Laid back.now h w shallow.new deep.new marks.new }
+// The shallow plane, the deep plane and the edge pixels of a background; no edge pixel where there is no shallow one.
+fn lay(back: Mask, shallow: &mut [u8], deep: &mut [u8], marks: &mut [u8])
+    requires shallow_len { length shallow.old ≡ back.size.h * back.size.w }
+    requires deep_len { length deep.old ≡ back.size.h * back.size.w }
+    requires marks_len { length marks.old ≡ back.size.h * back.size.w }
+    ensures { let b = back.entry in Laid b.pixels.now b.size.h b.size.w shallow.new deep.new marks.new }
 {
-    squares::dilate(back, h, w, DEEP_REACH, marks, deep);
+    squares::dilate(back, DEEP_REACH, marks, deep);
     plane::complement(deep);
-    squares::dilate(back, h, w, 1, marks, shallow);
+    squares::dilate(back, 1, marks, shallow);
     plane::complement(shallow);
-    let some = plane::any(shallow);
-    edges(some, back, shallow, marks);
+    if plane::any(shallow) {
+        edges(back.pixels, shallow, marks);
+    } else {
+        marks.fill(0);
+    }
 }
 
 impl<'a> Photo<'a> {
-    // The colour of pixel i.
-    fn colour_at(self, i: usize) -> colour::Rgb
-        requires { i < self.h * self.w }
-        ensures { result ≡ colour_at self.entry.colours.now i }
-    {
-        let k = 3 * i;
-        colour::Rgb {
-            r: self.colours[k],
-            g: self.colours[k + 1],
-            b: self.colours[k + 2],
-        }
-    }
-
     // Whether pixel i joins if its body colour is that of pixel b.
     fn joins_with(self, b: usize, i: usize) -> bool
-        requires b_in_bounds { b < self.h * self.w }
-        requires i_in_bounds { i < self.h * self.w }
+        requires b_in_bounds { b < self.size.h * self.size.w }
+        requires i_in_bounds { i < self.size.h * self.size.w }
         ensures { result ≡ joins_with self.entry.colours.now self.entry.reference b i }
     {
-        let full = colour::difference(self.colour_at(b), self.reference);
-        let mixed = colour::difference(self.colour_at(i), self.reference);
+        let full = colour::difference(colour::picture::pixel(self.colours, b), self.reference);
+        let mixed = colour::difference(colour::picture::pixel(self.colours, i), self.reference);
         colour::joins(full, mixed)
     }
 }
 
-// The mark of a pixel after the search for its deep pixel: one that is not marked stays so; `some` says whether there is a deep pixel.
-fn search_mark(
-    photo: Photo,
-    deep: &[u8],
-    nearest: Option<&[u32]>,
-    some: bool,
-    mark: u8,
-    i: usize,
-) -> u8
-    requires deep_len { length deep.now ≡ photo.h * photo.w }
-    requires made { ForSome nearest (λ plane. Made deep.now plane.now photo.h photo.w) }
-    requires known { some ≡ some_below (photo.h * photo.w) (is_on deep.now) }
-    requires i_bound { i < photo.h * photo.w }
-    ensures { let p = photo.entry in result ≡ cond (on mark) (near_mark p.colours.now p.reference deep.now p.h p.w i) 0 }
+// The mark of a pixel after the search for its deep pixel: one that is not marked stays so. Whether there is a deep pixel is asked at each:
+// a closure for each case would have the contract of both.
+fn search_mark(photo: Photo, deep: Option<Deep>, mark: u8, i: usize) -> u8
+    requires one_size { ForSome deep (λ d. d.mask.size ≡ photo.size) }
+    requires i_bound { i < photo.size.h * photo.size.w }
+    ensures { let p = photo.entry in result ≡ cond (on mark) (near_mark p.colours.now p.reference (near_deep deep.entry) i) 0 }
 {
     if mark == 0 {
         return 0;
     }
-    if !some {
+    let Some(deep) = deep else {
         return WAITS;
-    }
-    match window::near_pixel(deep, nearest, photo.h, photo.w, i) {
+    };
+    match window::near_pixel(deep.mask, deep.nearest, i) {
         Some(b) => u8::from(photo.joins_with(b, i)),
         None => WAITS,
     }
 }
 
 // The marks after the search for deep pixels; whether a pixel waits.
-fn search(photo: Photo, deep: &[u8], nearest: Option<&[u32]>, some: bool, marks: &mut [u8]) -> bool
-    requires deep_len { length deep.now ≡ photo.h * photo.w }
-    requires made { ForSome nearest (λ plane. Made deep.now plane.now photo.h photo.w) }
-    requires known { some ≡ some_below (photo.h * photo.w) (is_on deep.now) }
-    requires marks_len { length marks.old ≡ photo.h * photo.w }
+fn search(photo: Photo, deep: Option<Deep>, marks: &mut [u8]) -> bool
+    requires one_size { ForSome deep (λ d. d.mask.size ≡ photo.size) }
+    requires marks_len { length marks.old ≡ photo.size.h * photo.size.w }
     ensures marks_after { let p = photo.entry in marks.new ≡ table
-        (search_mark p.colours.now p.reference deep.now p.h p.w marks.old) 0 (length marks.old) }
+        (search_mark p.colours.now p.reference (near_deep deep.entry) marks.old) 0 (length marks.old) }
     ensures value { let p = photo.entry in result ≡ some_below (length marks.old) (λ (i : ℕ).
-        eqb (search_mark p.colours.now p.reference deep.now p.h p.w marks.old i) waits) }
+        eqb (search_mark p.colours.now p.reference (near_deep deep.entry) marks.old i) waits) }
 {
     let mut found = false;
     for i in 0..marks.len() {
-        let m = search_mark(photo, deep, nearest, some, marks[i], i);
+        let m = search_mark(photo, deep, marks[i], i);
         marks[i] = m;
         found |= m == WAITS;
     }
@@ -134,8 +114,8 @@ fn search(photo: Photo, deep: &[u8], nearest: Option<&[u32]>, some: bool, marks:
 
 // The last mark of a pixel: one that waits is decided by the pixel `body`.
 fn last_mark(photo: Photo, body: usize, mark: u8, i: usize) -> u8
-    requires body_in_bounds { body < photo.h * photo.w }
-    requires i_in_bounds { i < photo.h * photo.w }
+    requires body_in_bounds { body < photo.size.h * photo.size.w }
+    requires i_in_bounds { i < photo.size.h * photo.size.w }
     ensures { result ≡ cond (eqb mark waits) (bit (joins_with photo.entry.colours.now photo.entry.reference body i)) mark }
 {
     if mark != WAITS {
@@ -146,9 +126,9 @@ fn last_mark(photo: Photo, body: usize, mark: u8, i: usize) -> u8
 
 // The last marks, from the nearest shallow pixels.
 fn decide_waiting(photo: Photo, nearest: &[u32], marks: &mut [u8])
-    requires marks_len { length marks.old ≡ photo.h * photo.w }
-    requires nearest_len { length nearest.now ≡ photo.h * photo.w }
-    requires inside { (i : ℕ) → i < photo.h * photo.w → get_or nearest.now i 0 < photo.h * photo.w }
+    requires marks_len { length marks.old ≡ photo.size.h * photo.size.w }
+    requires nearest_len { length nearest.now ≡ photo.size.h * photo.size.w }
+    requires inside { (i : ℕ) → i < photo.size.h * photo.size.w → get_or nearest.now i 0 < photo.size.h * photo.size.w }
     ensures { marks.new ≡ table
         (last_mark photo.entry.colours.now photo.entry.reference nearest.now marks.old) 0 (length marks.old) }
 {
@@ -173,7 +153,8 @@ fn settle(marks: &[u8], back: &mut [u8]) -> bool
     joined
 }
 
-// The background's bytes as 0 and 1.
+// The background's bytes as 0 and 1. It shares no closure with `settle` and `plane::complement`: what a closure writes would need a
+// contract as long as the loop.
 fn tidy(back: &mut [u8])
     ensures { back.new ≡ mask_of (length back.old) (is_on back.old) }
 {
@@ -182,7 +163,8 @@ fn tidy(back: &mut [u8])
     }
 }
 
-// Whether more than one pixel in 32 is marked, so that one transform costs less than the windows of all.
+// Whether more than one pixel in 32 is marked, so that one transform costs less than the windows of all. A loop: `filter` with
+// `count` is not compiled to many pixels at once.
 fn many(marks: &[u8]) -> bool {
     let mut n = 0usize;
     for m in marks {
@@ -193,22 +175,31 @@ fn many(marks: &[u8]) -> bool {
 
 // The marks of the pixels that join, from the edge pixels. The plane of the nearest deep pixels is made where it is worth it.
 fn decide(photo: Photo, shallow: &[u8], deep: &[u8], nearest: &mut [u32], marks: &mut [u8])
-    requires shallow_len { length shallow.now ≡ photo.h * photo.w }
-    requires deep_len { length deep.now ≡ photo.h * photo.w }
-    requires nearest_len { photo.h * photo.w + 3 * photo.w ≤ length nearest.old }
-    requires marks_len { length marks.old ≡ photo.h * photo.w }
+    requires shallow_len { length shallow.now ≡ photo.size.h * photo.size.w }
+    requires deep_len { length deep.now ≡ photo.size.h * photo.size.w }
+    requires nearest_len { photo.size.h * photo.size.w + 3 * photo.size.w ≤ length nearest.old }
+    requires marks_len { length marks.old ≡ photo.size.h * photo.size.w }
     ensures { let p = photo.entry in marks.new ≡ table
-        (decided_mark p.colours.now p.reference deep.now shallow.now p.h p.w marks.old)
-        0 (p.h * p.w) }
+        (decided_mark p.colours.now p.reference deep.now shallow.now p.size.h p.size.w marks.old)
+        0 (p.size.h * p.size.w) }
 {
+    let size = photo.size;
     let n = marks.len();
     let some = plane::any(deep);
     let made = some && many(marks);
     if made {
-        nearest::nearest_indices(deep, photo.h, photo.w, nearest);
+        nearest::nearest_indices(Mask { pixels: deep, size }, nearest);
     }
-    if search(photo, deep, made.then_some(&nearest[0..n]), some, marks) {
-        nearest::nearest_indices(shallow, photo.h, photo.w, nearest);
+    let searched = Deep {
+        mask: Mask { pixels: deep, size },
+        nearest: made.then_some(&nearest[0..n]),
+    };
+    if search(photo, some.then_some(searched), marks) {
+        let shallow = Mask {
+            pixels: shallow,
+            size,
+        };
+        nearest::nearest_indices(shallow, nearest);
         decide_waiting(photo, &nearest[0..n], marks);
     }
 }
@@ -223,12 +214,13 @@ fn pass(
     marks: &mut [u8],
     back: &mut [u8],
 ) -> bool
-    requires { Planes photo.h photo.w nearest.old shallow.old deep.old marks.old back.old }
-    ensures back_after { let p = photo.entry in back.new ≡ pass_of p.colours.now p.reference back.old p.h p.w }
-    ensures value { let p = photo.entry in result ≡ some_below (p.h * p.w)
-        (is_joining p.colours.now p.reference back.old p.h p.w) }
+    requires { Planes photo.size.h photo.size.w nearest.old shallow.old deep.old marks.old back.old }
+    ensures back_after { let p = photo.entry in back.new ≡ pass_of p.colours.now p.reference back.old p.size.h p.size.w }
+    ensures value { let p = photo.entry in result ≡ some_below (p.size.h * p.size.w)
+        (is_joining p.colours.now p.reference back.old p.size.h p.size.w) }
 {
-    lay(back, photo.h, photo.w, shallow, deep, marks);
+    let size = photo.size;
+    lay(Mask { pixels: back, size }, shallow, deep, marks);
     decide(photo, shallow, deep, nearest, marks);
     settle(marks, back)
 }
@@ -243,8 +235,8 @@ fn run(
     marks: &mut [u8],
     back: &mut [u8],
 )
-    requires { Planes photo.h photo.w nearest.old shallow.old deep.old marks.old back.old }
-    ensures { let p = photo.entry in back.new ≡ growth_of p.colours.now p.reference p.h p.w passes back.old }
+    requires { Planes photo.size.h photo.size.w nearest.old shallow.old deep.old marks.old back.old }
+    ensures { let p = photo.entry in back.new ≡ growth_of p.colours.now p.reference p.size.h p.size.w passes back.old }
 {
     for _ in 0..passes {
         if !pass(photo, nearest, shallow, deep, marks, back) {
@@ -255,12 +247,12 @@ fn run(
 }
 
 // Growth: the background takes in the object's rim, in at most `passes` passes; a pass without a join is the last.
-// The output is 0 and 1 whatever non-zero bytes came in; nearest, shallow, deep and marks are work space.
+// The output is 0 and 1 whatever non-zero bytes came in; nearest, shallow, deep and marks are work space. Colours and size come apart: a
+// `Picture` would ask for colours in range.
 pub fn grow(
     colours: &[f64],
-    h: usize,
-    w: usize,
-    reference: colour::Rgb,
+    size: Size,
+    reference: Rgb,
     passes: u64,
     nearest: &mut [u32],
     shallow: &mut [u8],
@@ -268,15 +260,14 @@ pub fn grow(
     marks: &mut [u8],
     back: &mut [u8],
 )
-    requires { Room colours.now h w nearest.old shallow.old deep.old marks.old back.old }
-    ensures { back.new ≡ growth_of colours.now reference h w passes back.old }
+    requires { Room colours.now size.h size.w nearest.old shallow.old deep.old marks.old back.old }
+    ensures { back.new ≡ growth_of colours.now reference size.h size.w passes back.old }
 {
     let n = back.len();
     run(
         Photo {
             colours,
-            h,
-            w,
+            size,
             reference,
         },
         passes,

@@ -2,28 +2,30 @@
 -- Assumes nothing.
 use mathlib.Core.Path.{◌≡◌, refl, sym, ap, ◌∙◌}
 use mathlib.Core.Bool.{Bool, true}
-use mathlib.Core.List.{List}
+use mathlib.Core.List.{List, [], ◌∷◌}
 use Prim.Native.Nat.{ℕ, ◌*◌, ◌≤◌}
 use lib.IntN.{ℤ}
 use lib.ListN.{length}
 use lib.Ieee.{Float}
 use borrow.Author.Tests.{eqb-true, leb-true}
-use Rattle.plane.specs.steps.Sides.{Sides}
+use Rattle.plane.specs.declared.size.Size.{Size}
 use Rattle.plane.specs.declared.Box.{Box}
-use Rattle.std.specs.Prelude.{Option, Some, None, Ok, Err}
+use Rattle.std.specs.Prelude.{Ok, Err}
+use Rattle.std.specs.Float.Ieee.Scale.{finite}
+use Rattle.plane.specs.Search.{some_below}
+use Rattle.plane.specs.Mask.{is_on}
 use Rattle.plane.specs.declared.answer.Refusal.{Refusal}
-use Rattle.plane.specs.declared.answer.Refusal.TheVariants as refusal
-use Rattle.plane.specs.Refusal.{Test, refusal_of, room_for, answer_for, done_for}
-use Rattle.plane.proofs.Refusal.{passed, passed_first, accepted, is-declined, same-refusal, declined-so, sides-are, written, kept}
+use Rattle.plane.specs.Refusal.{Test, refusal_of, room_for, done_for}
+use Rattle.plane.proofs.Refusal.{passed, passed_first, accepted, is-accepted, is-declined, same-refusal, declined-so, written, kept}
 use Rattle.colour.specs.declared.Rgb.{Rgb}
 use Rattle.colour.specs.declared.Settings.{Settings}
 use Rattle.colour.specs.Colour.{colours_ok}
 use Rattle.colour.specs.Settings.{at_least_zero}
-use Rattle.card.specs.Card.{Card, Border, Unreadable}
-use Rattle.card.specs.steps.Named.{card_with}
+use Rattle.card.specs.Card.{Card, Border, is_readable}
 use Rattle.outline.specs.Border.{reference_on}
+use Rattle.outline.proofs.CutLaws.{Taken, taken}
 use Rattle.outline.specs.Growth.{growth_of}
-use Rattle.outline.specs.Cut.{is_keyed, cut_mask, weights_of, crop_of, margin, cut_of}
+use Rattle.outline.specs.Cut.{alpha_mask, is_keyed, cut_mask, weights_of, crop_of, margin, cut_of}
 use Rattle.outline.specs.Calls.{Buffers, refusal_in, HeldIn}
 use Rattle.outline.specs.Refusal.{work_tests, ground_lengths, growth_lengths, cut_lengths, picture_tests, cut_contents}
 use Rattle.outline.specs.Refusal.{ground_refusal, growth_refusal, cut_refusal}
@@ -32,27 +34,25 @@ use Rattle.keying.specs.Calls.{ground_refusal_in, GroundCalled, GrowthBuffers, g
 -- ---- what was lent
 
 pub record GroundOk (colours : List Float) (h w out work : ℕ) : Type 0 where
-  pub sides : Sides h w
   pub input : length colours ≡ 3 * (h * w)
   pub output : out ≡ h * w
   pub room : room_for h w ≤ work
   pub range : colours_ok colours ≡ true
 
-pub ground-ok : (colours : List Float) (h w : ℕ) (card : Card) (t : Float) (out work : ℕ) → ground_refusal colours h w card t out work ≡ 0
-    → GroundOk colours h w out work
+pub ground-ok : (size : Size) (colours : List Float) (h w : ℕ) (card : Card) (t : Float) (out work : ℕ) → (size.h ≡ h) × (size.w ≡ w)
+    → ground_refusal colours h w card t out work ≡ 0 → GroundOk colours size.h size.w out work
 unfolding ground_refusal ground_lengths picture_tests
-ground-ok colours h w card t out work e =
+ground-ok size colours h w card t out work s e =
     let p = passed _ refl e in
-    record {
-      sides = sides-are h w p.0;
+    rw (s.0, s.1)
+    (record {
       input = eqb-true _ _ p.1.0;
       output = eqb-true _ _ p.1.1.0;
       room = leb-true _ _ p.1.1.1.0;
       range = p.1.1.1.1.1.0;
-    }
+    })
 
 pub record GrowthOk (colours : List Float) (background : List ℕ) (h w : ℕ) (b : GrowthBuffers) : Type 0 where
-  pub sides : Sides h w
   pub colours_long : length colours ≡ 3 * (h * w)
   pub back_long : length background ≡ h * w
   pub out_long : length b.out ≡ h * w
@@ -61,13 +61,12 @@ pub record GrowthOk (colours : List Float) (background : List ℕ) (h w : ℕ) (
   pub deep_long : room_for h w ≤ length b.deep
   pub marks_long : room_for h w ≤ length b.marks
 
-pub growth-ok : (colours : List Float) (background : List ℕ) (h w : ℕ) (reference : Rgb) (b : GrowthBuffers)
+pub growth-lent : (colours : List Float) (background : List ℕ) (h w : ℕ) (reference : Rgb) (b : GrowthBuffers)
     → growth_refusal_in colours background h w reference b ≡ 0 → GrowthOk colours background h w b
 unfolding growth_refusal growth_lengths work_tests
-growth-ok colours background h w reference b e =
+growth-lent colours background h w reference b e =
     let p = passed _ refl e in
     record {
-      sides = sides-are h w p.0;
       colours_long = eqb-true _ _ p.1.0;
       back_long = eqb-true _ _ p.1.1.0;
       out_long = eqb-true _ _ p.1.1.1.0;
@@ -77,36 +76,41 @@ growth-ok colours background h w reference b e =
       marks_long = leb-true _ _ p.1.1.1.1.1.1.1.0;
     }
 
+-- the same, by the sides that an accepted call goes on with
+pub growth-ok : (size : Size) (colours : List Float) (background : List ℕ) (h w : ℕ) (reference : Rgb) (b : GrowthBuffers)
+    → (size.h ≡ h) × (size.w ≡ w) → growth_refusal_in colours background h w reference b ≡ 0 → GrowthOk colours background size.h size.w b
+growth-ok size colours background h w reference b s e = rw (s.0, s.1) (growth-lent colours background h w reference b e)
+
 -- ---- the tests of ground and cut: the lengths, and where these are accepted, what stands in the buffers
 
 module _ (colours : List Float) (h w : ℕ) (card : Card) (t : Float) (work out : List ℕ) where
   abbrev ground-lengths : List Test
   ground-lengths = ground_lengths h w (length colours) (length out) (length work)
 
-  pub ground-by-picture : refusal_of ground-lengths ≡ 0
+  ground-by-picture : refusal_of ground-lengths ≡ 0
       → refusal_of (picture_tests card colours t) ≡ ground_refusal_in colours h w card t work out
   unfolding ground_refusal
   ground-by-picture e = sym (passed_first ground-lengths _ (unfold ground_lengths in refl) e)
 
--- a picture is declined for the same whether a colour is given for its card or not
-given-picture : (given : Option Rgb) (colours : List Float) (t : Float)
-    → refusal_of (picture_tests Border colours t) ≡ refusal_of (picture_tests (card_with given) colours t)
-unfolding refusal_of picture_tests
-given-picture None colours t = refl
-given-picture (Some colour) colours t = refl
+-- the card of an accepted text is readable
+pub read : (card : Card) → Ok tt ≡ done_for (refusal_of ((11, is_readable card) ∷ [])) → is_readable card ≡ true
+read card e = (passed ((11, is_readable card) ∷ []) refl (is-accepted _ _ _ e)).0
 
-pub ground-by-given : (colours : List Float) (h w : ℕ) (given : Option Rgb) (t : Float) (work out : List ℕ)
+-- a picture whose card is readable is declined for the same as one without a text
+pub ground-by-read : (colours : List Float) (h w : ℕ) (card : Card) (t : Float) (work out : List ℕ) → is_readable card ≡ true
     → refusal_of (ground_lengths h w (length colours) (length out) (length work)) ≡ 0
-    → refusal_of (picture_tests Border colours t) ≡ ground_refusal_in colours h w (card_with given) t work out
-ground-by-given colours h w given t work out e =
-    given-picture given colours t ∙ ground-by-picture colours h w (card_with given) t work out e
+    → refusal_of (picture_tests Border colours t) ≡ ground_refusal_in colours h w card t work out
+unfolding refusal_of picture_tests
+ground-by-read colours h w card t work out r e = ap (λ (b : Bool). refusal_of ((11, b) ∷ (4, colours_ok colours) ∷ (5, finite t) ∷ [])) (sym r)
+    ∙ ground-by-picture colours h w card t work out e
 
 -- a text that names no colour is declined once the lengths are accepted
-pub ground-no-colour : (colours : List Float) (h w : ℕ) (t : Float) (work out : List ℕ)
+pub ground-unread : (colours : List Float) (h w : ℕ) (card : Card) (t : Float) (work out : List ℕ) {r : Refusal}
     → refusal_of (ground_lengths h w (length colours) (length out) (length work)) ≡ 0
-    → Err refusal.CardColour ≡ done_for (ground_refusal_in colours h w Unreadable t work out)
-unfolding picture_tests refusal_of answer_for
-ground-no-colour colours h w t work out e = ap done_for (ground-by-picture colours h w Unreadable t work out e)
+    → Err r ≡ done_for (refusal_of ((11, is_readable card) ∷ [])) → Err r ≡ done_for (ground_refusal_in colours h w card t work out)
+unfolding picture_tests
+ground-unread colours h w card t work out e f =
+    declined-so ((11, is_readable card) ∷ []) _ f ∙ ap done_for (ground-by-picture colours h w card t work out e)
 
 module _ (colours : List Float) (alpha : List ℕ) (h w : ℕ) (card : Card) (s : Settings) (b : Buffers) where
   abbrev pub cut-lengths : List Test
@@ -118,30 +122,33 @@ module _ (colours : List Float) (alpha : List ℕ) (h w : ℕ) (card : Card) (s 
   unfolding cut_lengths work_tests
   alpha_long e = let p = passed _ refl e in eqb-true _ _ p.1.1.0
 
-  pub cut-by-contents : refusal_of cut-lengths ≡ 0
+  cut-by-contents : refusal_of cut-lengths ≡ 0
       → refusal_of (cut_contents card colours alpha (length alpha) s) ≡ refusal_in colours alpha h w card s b
   unfolding cut_refusal
   cut-by-contents e =
       ap (λ (n : ℕ). refusal_of (cut_contents card colours alpha n s)) (alpha_long e)
       ∙ sym (passed_first cut-lengths _ (unfold cut_lengths work_tests in refl) e)
 
-given-contents : (given : Option Rgb) (colours : List Float) (alpha : List ℕ) (n : ℕ) (s : Settings)
-    → refusal_of (cut_contents Border colours alpha n s) ≡ refusal_of (cut_contents (card_with given) colours alpha n s)
-unfolding refusal_of cut_contents picture_tests
-given-contents None colours alpha n s = refl
-given-contents (Some colour) colours alpha n s = refl
+pub cut-by-read : (colours : List Float) (alpha : List ℕ) (h w : ℕ) (card : Card) (s : Settings) (b : Buffers) → is_readable card ≡ true
+    → refusal_of (cut-lengths colours alpha h w card s b) ≡ 0
+    → refusal_of (cut_contents Border colours alpha (length alpha) s) ≡ refusal_in colours alpha h w card s b
+unfolding cut_contents picture_tests
+cut-by-read colours alpha h w card s b r e =
+    ap (λ (q : Bool). refusal_of ((11, q) ∷ (4, colours_ok colours) ∷ (5, finite s.key_bg_tolerance)
+    ∷ (6, some_below (length alpha) (is_on (alpha_mask alpha (length alpha) s))) ∷ [])) (sym r)
+    ∙ cut-by-contents colours alpha h w card s b e
 
-pub cut-by-given : (colours : List Float) (alpha : List ℕ) (h w : ℕ) (given : Option Rgb) (s : Settings) (b : Buffers)
-    → refusal_of (cut-lengths colours alpha h w (card_with given) s b) ≡ 0
-    → refusal_of (cut_contents Border colours alpha (length alpha) s) ≡ refusal_in colours alpha h w (card_with given) s b
-cut-by-given colours alpha h w given s b e =
-    given-contents given colours alpha (length alpha) s ∙ cut-by-contents colours alpha h w (card_with given) s b e
+pub cut-unread : (colours : List Float) (alpha : List ℕ) (h w : ℕ) (card : Card) (s : Settings) (b : Buffers) {r : Refusal}
+    → refusal_of (cut-lengths colours alpha h w card s b) ≡ 0
+    → Err r ≡ done_for (refusal_of ((11, is_readable card) ∷ [])) → Err r ≡ done_for (refusal_in colours alpha h w card s b)
+unfolding cut_contents picture_tests
+cut-unread colours alpha h w card s b e f =
+    declined-so ((11, is_readable card) ∷ []) _ f ∙ ap done_for (cut-by-contents colours alpha h w card s b e)
 
-pub cut-no-colour : (colours : List Float) (alpha : List ℕ) (h w : ℕ) (s : Settings) (b : Buffers)
-    → refusal_of (cut-lengths colours alpha h w Unreadable s b) ≡ 0
-    → Err refusal.CardColour ≡ done_for (refusal_in colours alpha h w Unreadable s b)
-unfolding cut_contents picture_tests refusal_of answer_for
-cut-no-colour colours alpha h w s b e = ap done_for (cut-by-contents colours alpha h w Unreadable s b e)
+-- what an accepted cut was lent, by the sides that it goes on with
+pub cut-ok : (size : Size) (colours : List Float) (alpha : List ℕ) (h w : ℕ) (card : Card) (s : Settings) (b : Buffers)
+    → (size.h ≡ h) × (size.w ≡ w) → refusal_in colours alpha h w card s b ≡ 0 → Taken colours alpha size.h size.w s b
+cut-ok size colours alpha h w card s b e z = rw (e.0, e.1) (taken colours alpha h w card s b z)
 
 -- ---- what a call has done
 

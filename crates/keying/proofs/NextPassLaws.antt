@@ -12,7 +12,7 @@ use Rattle.plane.specs.Refusal.{done_for}
 use Rattle.plane.proofs.Refusal.{accepted, is-accepted, same-refusal, written}
 use Rattle.colour.specs.declared.Rgb.{Rgb}
 use Rattle.keying.specs.Calls.{GrowthBuffers, growth_refusal_in, GrowthCalled, NextPassCalled}
-use Rattle.keying.proofs.Accepted.{growth-ok}
+use Rattle.keying.proofs.Accepted.{growth-lent}
 use Rattle.next_pass.specs.NextPass.{next_background, newly_on, joins_in}
 use Rattle.next_pass.proofs.Laws.{next-length}
 
@@ -44,7 +44,7 @@ module _ (colours : List Float) (background : List ℕ) (h w : ℕ) (reference :
     counted-joins = newly_on (length background) background b'.out
 
     back_long : length background ≡ h * w
-    back_long = (growth-ok colours background h w reference b accepted-look).back_long
+    back_long = (growth-lent colours background h w reference b accepted-look).back_long
 
     next-is : b'.out ≡ next_background colours reference h w background
     unfolding next_background

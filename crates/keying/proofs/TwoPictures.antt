@@ -11,7 +11,7 @@ use borrow.Author.Tests.{eqb-true, eqb-false}
 use Rattle.std.specs.Prelude.{Result}
 use Rattle.plane.specs.declared.answer.Refusal.{Refusal}
 use Rattle.plane.specs.Refusal.{after, refusal_of_answer}
-use Rattle.plane.proofs.Search.{either}
+use Rattle.std.proofs.lemmas.Bool.{cases_Bool}
 use Rattle.plane.proofs.Refusal.{declined, accepted-number, written}
 use Rattle.colour.specs.declared.Settings.{Settings}
 use Rattle.card.specs.Card.{Card}
@@ -43,7 +43,7 @@ module _ (one two : List Float) (alpha : List ℕ) (h w : ℕ) (card card' : Car
       (λ (e : eqb n 0 ≡ false).
       let bad = eqb-false _ 0 e in
       declined n _ bad ∙ sym (declined n _ bad) ∙ ap (λ (k : ℕ). outcome_for k y) refusals)
-      (either (eqb n 0))
+      (cases_Bool (eqb n 0))
       ∙ sym second.answer
 
   -- Demand 3 (R66), for any two calls: whatever the buffers held before, both calls answer the same, that is, the same number by which they

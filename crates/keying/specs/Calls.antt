@@ -1,13 +1,14 @@
 -- What each public call ensures: its answer, every output, and what a refusal leaves in the buffers. A name with ' is what a buffer holds
 -- afterwards.
 -- Assumes nothing.
-use Rattle.std.specs.Prelude.{ℕ, ◌≡◌, List, length, ℤ, Float, Option, Result}
+use Rattle.std.specs.Prelude.{ℕ, ◌≡◌, List, length, ℤ, Float, Option, Some, None, Result}
+use Rattle.std.specs.Borrow.{Bor}
 use Rattle.plane.specs.declared.answer.Refusal.{Refusal}
 use Rattle.plane.specs.Refusal.{after, answer_for, done_for, refusal_of_answer}
 use Rattle.colour.specs.declared.Rgb.{Rgb}
 use Rattle.colour.specs.declared.Settings.{Settings}
 use Rattle.colour.specs.Settings.{at_least_zero}
-use Rattle.card.specs.Card.{Card}
+use Rattle.card.specs.Card.{Card, Border, card_of}
 use Rattle.outline.specs.Border.{reference_on}
 use Rattle.outline.specs.Ground.{ground_plane}
 use Rattle.outline.specs.Growth.{growth_of}
@@ -17,7 +18,12 @@ use Rattle.outline.specs.Calls.{Buffers, refusal_in, cut_in, HeldIn}
 use Rattle.outline.specs.declared.Outcome.{Outcome}
 use Rattle.next_pass.specs.NextPass.{next_background, joins_in}
 
--- ---- flat_background, flat_background_with_colour
+-- the card of a call that may be given a text (R82): the one whose colour the text names, and without a text one of no known colour
+abbrev pub card_in : Option (Bor (List ℕ)) → Card
+card_in None = Border
+card_in (Some text) = card_of text.now
+
+-- ---- flat_background
 
 -- the refusal of a call with these buffers, 0 where it is accepted (R55, R82)
 abbrev pub ground_refusal_in : List Float → ℕ → ℕ → Card → Float → List ℕ → List ℕ → ℕ
@@ -40,6 +46,10 @@ pub record GrowthBuffers : Type 0 where
   pub shallow : List ℕ
   pub deep : List ℕ
   pub marks : List ℕ
+
+-- these buffers, in that order (R46)
+abbrev pub growth_buffers : List ℕ → List ℕ → List ℕ → List ℕ → List ℕ → GrowthBuffers
+growth_buffers out nearest shallow deep marks = record { out = out; nearest = nearest; shallow = shallow; deep = deep; marks = marks }
 
 -- the refusal of a call with these buffers (R56)
 abbrev pub growth_refusal_in : List Float → List ℕ → ℕ → ℕ → Rgb → GrowthBuffers → ℕ
@@ -68,7 +78,12 @@ pub record NextPassCalled (colours : List Float) (background : List ℕ) (h w : 
   pub picture_kept : colours' ≡ colours
   pub background_kept : background' ≡ background
 
--- ---- subject, subject_with_colour
+-- ---- subject
+
+-- the buffers of a cut: its two outputs and four work buffers, in that order (R46)
+abbrev pub cut_buffers : List ℕ → List Float → List ℕ → List ℕ → List ℕ → List ℕ → Buffers
+cut_buffers mask weights nearest shallow deep marks =
+    record { mask = mask; weights = weights; nearest = nearest; shallow = shallow; deep = deep; marks = marks }
 
 -- a call of the cut on a card, with these buffers, has answered r and left these (R63)
 pub record Called (colours : List Float) (alpha : List ℕ) (h w : ℕ) (card : Card) (s : Settings) (b : Buffers)

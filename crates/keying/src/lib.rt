@@ -1,74 +1,51 @@
-// Keying: the public calls of the upper layer. Each answers its value or why it declines, and one that declines writes nothing. Ground and
-// cut come in two forms, without the card's colour and with a text that names it; both judge the lengths, and then share the rest.
+// Keying: the public calls of the upper layer. Each answers its value or why it declines, and one that declines writes nothing. Pictures
+// and sides come flat, as the C interface lends them. Ground and cut may be given a text that names the card's colour.
 #![tactic(auto)]
 
-ghost use Rattle.std.specs.Prelude.{◌≡◌, true, length};
-ghost use Rattle.plane.specs.Refusal.{refusal_of};
-ghost use Rattle.card.specs.Card.{Border, card_of};
-ghost use Rattle.card.specs.steps.Named.{card_with};
-ghost use Rattle.card.specs.steps.Range.{card_ok};
-ghost use Rattle.outline.specs.Refusal.{ground_lengths, cut_lengths};
-ghost use Rattle.keying.specs.Calls.{GroundCalled, GrowthCalled, NextPassCalled, Called};
+ghost use Rattle.std.specs.Prelude.{◌≡◌, [], ◌∷◌, IfOk};
+ghost use Rattle.plane.specs.Refusal.{refusal_of, done_for};
+ghost use Rattle.plane.specs.steps.Judged.{done};
+ghost use Rattle.card.specs.Card.{is_readable};
+ghost use Rattle.card.specs.steps.Named.{card_given};
+ghost use Rattle.keying.specs.Calls.{card_in, growth_buffers, cut_buffers, GroundCalled, GrowthCalled, NextPassCalled, Called};
 
+use colour::picture::{Picture, Reference};
 use colour::{Rgb, Settings};
 use outline::Outcome;
 use plane::answer::Refusal;
+use plane::size::Mask;
+use refusals::WorkLengths;
 
-// The ground of a picture, by the colour that is given for its card or by its border, as a mask, once the lengths are accepted; all 0
-// where it is not found.
-fn ground_on(
-    colours: &[f64],
-    h: usize,
-    w: usize,
-    given: Option<Rgb>,
-    tolerance: f64,
-    work: &mut [u32],
-    out: &mut [u8],
-) -> Result<Option<Rgb>, Refusal>
-    requires lengths { refusal_of (ground_lengths h w (length colours.now) (length out.old) (length work.old)) ≡ 0 }
-    requires given_in_range { card_ok (card_with given) ≡ true }
-    ensures { GroundCalled colours.now h w (card_with given) tolerance
-        work.old out.old result
-        work.new out.new }
+// The colour of the card that a text names; none without a text.
+fn card_colour(text: Option<&[u8]>) -> Result<Option<Reference>, Refusal>
+    ensures refusal { done result ≡ done_for (refusal_of ((11, is_readable (card_in text.entry)) ∷ [])) }
+    ensures card { IfOk result (λ given. card_given given ≡ card_in text.entry) }
 {
-    refusals::picture_refusal(colours, tolerance)?;
-    Ok(ground::flat_ground(colours, h, w, given, tolerance, work, out))
+    let Some(text) = text else {
+        return Ok(None);
+    };
+    let named = card::colour_named(text).ok_or(Refusal::CardColour)?;
+    Ok(Some(named))
 }
 
-// The ground of a picture by the reference of its border.
+// The ground of a picture, as a mask, and the colour that it was compared with: the card's, where a text of six hexadecimal digits names
+// it, else the reference of the border.
 pub fn flat_background(
     colours: &[f64],
     h: usize,
     w: usize,
+    text: Option<&[u8]>,
     tolerance: f64,
     work: &mut [u32],
     out: &mut [u8],
 ) -> Result<Option<Rgb>, Refusal>
-    ensures { GroundCalled colours.now h w Border tolerance
-        work.old out.old result
-        work.new out.new }
+    ensures { GroundCalled colours.now h w (card_in text.entry) tolerance work.old out.old result work.new out.new }
 {
-    refusals::ground_lengths(h, w, colours.len(), out.len(), work.len())?;
-    ground_on(colours, h, w, None, tolerance, work, out)
-}
-
-// The ground of a picture by the card's colour, which a text of six hexadecimal digits names.
-pub fn flat_background_with_colour(
-    colours: &[f64],
-    h: usize,
-    w: usize,
-    text: &[u8],
-    tolerance: f64,
-    work: &mut [u32],
-    out: &mut [u8],
-) -> Result<Option<Rgb>, Refusal>
-    ensures { GroundCalled colours.now h w (card_of text.now) tolerance
-        work.old out.old result
-        work.new out.new }
-{
-    refusals::ground_lengths(h, w, colours.len(), out.len(), work.len())?;
-    let named = card::colour_named(text).ok_or(Refusal::CardColour)?;
-    ground_on(colours, h, w, Some(named), tolerance, work, out)
+    let size = refusals::ground_lengths(h, w, colours.len(), out.len(), work.len())?;
+    let given = card_colour(text)?;
+    refusals::picture_refusal(colours, tolerance)?;
+    let picture = Picture { colours, size };
+    Ok(ground::flat_ground(picture, given, tolerance, work, out))
 }
 
 // The background after at most p passes of growth, written as 0 and 1; a negative p counts as 0.
@@ -86,37 +63,22 @@ pub fn unmix_fringe(
     out: &mut [u8],
 ) -> Result<(), Refusal>
     ensures { GrowthCalled colours.now background.now h w reference p
-        (record {
-          out = out.entry.now;
-          nearest = nearest.old;
-          shallow = shallow.old;
-          deep = deep.old;
-          marks = marks.old;
-        }) result
-        (record {
-          out = out.exit.now;
-          nearest = nearest.new;
-          shallow = shallow.new;
-          deep = deep.new;
-          marks = marks.new;
-        }) }
+        (growth_buffers out.old nearest.old shallow.old deep.old marks.old) result
+        (growth_buffers out.new nearest.new shallow.new deep.new marks.new) }
 {
-    refusals::growth_refusal(
-        colours,
-        background.len(),
-        h,
-        w,
-        reference,
-        out.len(),
-        nearest.len(),
-        shallow.len(),
-        deep.len(),
-        marks.len(),
-    )?;
+    // As in `subject`: a function for these lines would take the four buffers.
+    let work = WorkLengths {
+        nearest: nearest.len(),
+        shallow: shallow.len(),
+        deep: deep.len(),
+        marks: marks.len(),
+    };
+    let back = background.len();
+    let size = refusals::growth_refusal(colours, back, h, w, reference, out.len(), work)?;
     out.copy_from_slice(background);
     let passes = colour::count_of(p);
     growth::grow(
-        colours, h, w, reference, passes, nearest, shallow, deep, marks, out,
+        colours, size, reference, passes, nearest, shallow, deep, marks, out,
     );
     Ok(())
 }
@@ -135,20 +97,8 @@ pub fn next_pass(
     out: &mut [u8],
 ) -> Result<u64, Refusal>
     ensures { NextPassCalled colours.now background.now h w reference
-        (record {
-          out = out.entry.now;
-          nearest = nearest.old;
-          shallow = shallow.old;
-          deep = deep.old;
-          marks = marks.old;
-        }) result colours.exit.now background.exit.now
-        (record {
-          out = out.exit.now;
-          nearest = nearest.new;
-          shallow = shallow.new;
-          deep = deep.new;
-          marks = marks.new;
-        }) }
+        (growth_buffers out.old nearest.old shallow.old deep.old marks.old) result
+        colours.exit.now background.exit.now (growth_buffers out.new nearest.new shallow.new deep.new marks.new) }
 {
     unmix_fringe(
         colours, background, h, w, reference, 1, nearest, shallow, deep, marks, out,
@@ -156,58 +106,14 @@ pub fn next_pass(
     Ok(next_pass::newly_on(background, out))
 }
 
-// The cut of a picture, by the colour that is given for its card or by its border, once the lengths are accepted: mask, weights, keyed
-// flag and crop box.
-fn cut_on(
-    colours: &[f64],
-    alpha: &[u8],
-    h: usize,
-    w: usize,
-    given: Option<Rgb>,
-    s: Settings,
-    nearest: &mut [u32],
-    shallow: &mut [u8],
-    deep: &mut [u8],
-    marks: &mut [u8],
-    mask: &mut [u8],
-    weights: &mut [f64],
-) -> Result<Outcome, Refusal>
-    requires lengths { refusal_of (cut_lengths h w (length colours.now) (length alpha.now) (length mask.old) (length weights.old)
-        (length nearest.old) (length shallow.old) (length deep.old) (length marks.old)) ≡ 0 }
-    requires given_in_range { card_ok (card_with given) ≡ true }
-    ensures { Called colours.now alpha.now h w (card_with given) s
-        (record {
-          mask = mask.entry.now;
-          weights = weights.old;
-          nearest = nearest.old;
-          shallow = shallow.old;
-          deep = deep.old;
-          marks = marks.old;
-        }) result
-        (record {
-          mask = mask.exit.now;
-          weights = weights.new;
-          nearest = nearest.new;
-          shallow = shallow.new;
-          deep = deep.new;
-          marks = marks.new;
-        }) }
-{
-    refusals::cut_contents(colours, alpha, s)?;
-    let keyed = cutting::cut_mask(
-        colours, alpha, h, w, given, s, nearest, shallow, deep, marks, mask,
-    );
-    weights::weights(mask, alpha, weights);
-    let crop = cutting::crop_of(mask, h, w, s.crop_to_alpha);
-    Ok(Outcome { keyed, crop })
-}
-
-// The cut: mask and weights of a picture by the five settings, with the reference of its border.
+// The cut: mask and weights of a picture by the five settings, with the colour of the card where a text names it, else the reference of
+// the border.
 pub fn subject(
     colours: &[f64],
     alpha: &[u8],
     h: usize,
     w: usize,
+    text: Option<&[u8]>,
     s: Settings,
     nearest: &mut [u32],
     shallow: &mut [u8],
@@ -216,99 +122,30 @@ pub fn subject(
     mask: &mut [u8],
     weights: &mut [f64],
 ) -> Result<Outcome, Refusal>
-    ensures { Called colours.now alpha.now h w Border s
-        (record {
-          mask = mask.entry.now;
-          weights = weights.old;
-          nearest = nearest.old;
-          shallow = shallow.old;
-          deep = deep.old;
-          marks = marks.old;
-        }) result
-        (record {
-          mask = mask.exit.now;
-          weights = weights.new;
-          nearest = nearest.new;
-          shallow = shallow.new;
-          deep = deep.new;
-          marks = marks.new;
-        }) }
+    ensures { Called colours.now alpha.now h w (card_in text.entry) s
+        (cut_buffers mask.old weights.old nearest.old shallow.old deep.old marks.old) result
+        (cut_buffers mask.new weights.new nearest.new shallow.new deep.new marks.new) }
 {
-    refusals::cut_lengths(
+    let work = WorkLengths {
+        nearest: nearest.len(),
+        shallow: shallow.len(),
+        deep: deep.len(),
+        marks: marks.len(),
+    };
+    let size = refusals::cut_lengths(
         h,
         w,
         colours.len(),
         alpha.len(),
         mask.len(),
         weights.len(),
-        nearest.len(),
-        shallow.len(),
-        deep.len(),
-        marks.len(),
+        work,
     )?;
-    cut_on(
-        colours, alpha, h, w, None, s, nearest, shallow, deep, marks, mask, weights,
-    )
-}
-
-// The same by the card's colour, which a text of six hexadecimal digits names.
-pub fn subject_with_colour(
-    colours: &[f64],
-    alpha: &[u8],
-    h: usize,
-    w: usize,
-    text: &[u8],
-    s: Settings,
-    nearest: &mut [u32],
-    shallow: &mut [u8],
-    deep: &mut [u8],
-    marks: &mut [u8],
-    mask: &mut [u8],
-    weights: &mut [f64],
-) -> Result<Outcome, Refusal>
-    ensures { Called colours.now alpha.now h w (card_of text.now) s
-        (record {
-          mask = mask.entry.now;
-          weights = weights.old;
-          nearest = nearest.old;
-          shallow = shallow.old;
-          deep = deep.old;
-          marks = marks.old;
-        }) result
-        (record {
-          mask = mask.exit.now;
-          weights = weights.new;
-          nearest = nearest.new;
-          shallow = shallow.new;
-          deep = deep.new;
-          marks = marks.new;
-        }) }
-{
-    refusals::cut_lengths(
-        h,
-        w,
-        colours.len(),
-        alpha.len(),
-        mask.len(),
-        weights.len(),
-        nearest.len(),
-        shallow.len(),
-        deep.len(),
-        marks.len(),
-    )?;
-    let given = card::colour_named(text).ok_or(Refusal::CardColour)?;
-    cut_on(
-        colours,
-        alpha,
-        h,
-        w,
-        Some(given),
-        s,
-        nearest,
-        shallow,
-        deep,
-        marks,
-        mask,
-        weights,
-    )
+    let card = card_colour(text)?;
+    refusals::cut_contents(colours, alpha, s)?;
+    let picture = Picture { colours, size };
+    let keyed = cutting::cut_mask(picture, alpha, card, s, nearest, shallow, deep, marks, mask);
+    weights::weights(mask, alpha, weights);
+    let crop = cutting::crop_of(Mask { pixels: mask, size }, s.crop_to_alpha);
+    Ok(Outcome { keyed, crop })
 }

@@ -7,7 +7,8 @@ use Prim.Native.Nat.{ℕ, zero, suc, ◌+◌, ◌≤◌, ◌<◌}
 use native.Mathlib.Nat.{not-suc-le-zero}
 use native.Mathlib.Omega.{arith}
 use Rattle.plane.specs.Search.{count_below}
-use Rattle.plane.proofs.Search.{which, either, count_same}
+use Rattle.plane.proofs.Search.{count_same}
+use Rattle.std.proofs.lemmas.Bool.{cases_Bool, cases_lt}
 
 module _ (p : ℕ → Bool) where
   -- one number more
@@ -27,7 +28,7 @@ module _ (p : ℕ → Bool) where
       ⊎_elim {C = count_below a p ≤ count_below b p + cond (p b) 1 0}
       (λ (m : b < a). (let q : a ≡ suc b = omega arith in rw q (omega arith)))
       (λ (m : a ≤ b). omega (arith, count-mono a b m))
-      (which b a)
+      (cases_lt b a)
 
   -- nor rises faster than n
   pub count-slow : (a b : ℕ) → a ≤ b → count_below b p + a ≤ count_below a p + b
@@ -41,8 +42,8 @@ module _ (p : ℕ → Bool) where
       ⊎_elim {C = count_below b p + cond (p b) 1 0 + a ≤ count_below a p + suc b}
       (λ e. rw e (omega arith))
       (λ e. rw e (omega arith))
-      (either (p b))))
-      (which b a)
+      (cases_Bool (p b))))
+      (cases_lt b a)
 
   -- and stays where p holds of none in between
   pub count-gap : (a b : ℕ) → a ≤ b → ((k : ℕ) → a ≤ k → k < b → p k ≡ false) → count_below b p ≡ count_below a p
@@ -51,7 +52,7 @@ module _ (p : ℕ → Bool) where
       ⊎_elim {C = count_below (suc b) p ≡ count_below a p}
       (λ (m : b < a). (let q : a ≡ suc b = omega arith in rw q refl))
       (λ (m : a ≤ b). count-no-more b (h b m (omega arith)) ∙ count-gap a b m (λ k i j. h k i (omega arith)))
-      (which b a)
+      (cases_lt b a)
 
   -- and rises past a number of which p holds
   pub count-strict : (a b : ℕ) → a < b → p a ≡ true → count_below a p < count_below b p
@@ -68,8 +69,8 @@ module _ (p : ℕ → Bool) where
       ⊎_elim {C = (i : ℕ) × (i < suc n) × (p i ≡ true) × (count_below i p ≡ k)}
       (λ (e : p n ≡ true). (let l' : k < count_below n p + 1 = rw e at l in (n, omega arith, e, omega arith)))
       (λ (e : p n ≡ false). (let l' : k < count_below n p + 0 = rw e at l in absurd (omega arith)))
-      (either (p n)))
-      (which k (count_below n p))
+      (cases_Bool (p n)))
+      (cases_lt k (count_below n p))
 
 -- where one number below n is taken away, the count is one less
 pub count-without : (p q : ℕ → Bool) (n i : ℕ) → i < n → p i ≡ true → q i ≡ false → ((k : ℕ) → (k ≡ i → ⊥) → q k ≡ p k)
@@ -84,4 +85,4 @@ count-without p q (suc n) i l e g same =
     let e' : p n ≡ true = rw z at e in
     let g' : q n ≡ false = rw z at g in
     rw (e', g') (omega (arith, count_same q p n (λ k j. same k (λ u. omega arith))))))
-    (which i n)
+    (cases_lt i n)

@@ -3,33 +3,28 @@
 use mathlib.Core.Path.{◌≡◌, refl, sym, ap, ◌∙◌}
 use mathlib.Core.Bool.{Bool, true, false, cond, ◌&&◌, ◌||◌}
 use mathlib.Core.Logic.{◌⊎◌, inl, inr, ⊎_elim}
-use mathlib.Core.List.{List, [], ◌∷◌, map}
+use mathlib.Core.List.{List}
 use Prim.Native.Nat.{ℕ, zero, suc, ◌*◌, ◌≤◌, ◌<◌}
-use native.Mathlib.Nat.{not-suc-le-zero, le_of_suc-le-suc}
+use native.Mathlib.Nat.{not-suc-le-zero}
 use native.Mathlib.Omega.{arith}
 use lib.Dec.{eqb, leb}
 use lib.ListN.{length, get_or, length-map}
 use borrow.Author.Tests.{le-leb, lt-leb, eqb-true, eq-eqb}
+use Rattle.std.proofs.lemmas.List.{get_or-map}
 use Rattle.plane.specs.Plane.{table}
 use Rattle.plane.proofs.Plane.{table_at, table-length}
-use Rattle.plane.proofs.Search.{which, either, or_right}
-use Rattle.plane.proofs.Refusal.{and-true}
+use Rattle.std.proofs.lemmas.Bool.{and_parts, cases_Bool, cases_lt, or_right}
 use Rattle.plane.specs.Mask.{is_on}
 use Rattle.labels.specs.Labels.{beside, Joined, same, onward, renamed, merge, join_two, join_with, join_upto}
 use Rattle.plane.specs.Box.{lesser_of}
 use Rattle.labels.specs.Labels.{first_pixel, is_first}
 use Rattle.plane.proofs.Mask.{on-inside}
 use Rattle.labels.proofs.Joined.{beside_back, start-on, end_on, joined-trans, joined-sym}
-
--- the element of a mapped list
-map_at : {A B : Type 0} (f : A → B) (l : List A) (k : ℕ) (a : A) (b : B) → k < length l → get_or (map f l) k b ≡ f (get_or l k a)
-map_at f [] k a b h = absurd (not-suc-le-zero h)
-map_at f (x ∷ l) zero a b h = refl
-map_at f (x ∷ l) (suc k) a b h = map_at f l k a b (le_of_suc-le-suc h)
+use Rattle.plane.proofs.Bounds.{lesser-min}
 
 merge-at : (a b : ℕ) (numbers : List ℕ) (k : ℕ) → k < length numbers → get_or (merge a b numbers) k 0 ≡ renamed a b (get_or numbers k 0)
 unfolding merge
-merge-at a b numbers k h = map_at (renamed a b) numbers k 0 0 h
+merge-at a b numbers k h = get_or-map (renamed a b) numbers k 0 0 h
 
 merge-long : (a b : ℕ) (numbers : List ℕ) → length (merge a b numbers) ≡ length numbers
 unfolding merge
@@ -66,15 +61,7 @@ lesser-cases a b =
     ⊎_elim {C = ((cond (leb a b) a b ≡ a) × (a ≤ b)) ⊎ ((cond (leb a b) a b ≡ b) × (b ≤ a))}
     (λ (l : b < a). inr (rw (lt-leb a b l), omega arith))
     (λ (l : a ≤ b). inl (rw (le-leb a b l), l))
-    (which b a)
-
--- and neither is less
-pub lesser-low : (a b : ℕ) → (lesser_of a b ≤ a) × (lesser_of a b ≤ b)
-lesser-low a b =
-    ⊎_elim {C = (lesser_of a b ≤ a) × (lesser_of a b ≤ b)}
-    (λ z. omega (arith, z.0, z.1))
-    (λ z. omega (arith, z.0, z.1))
-    (lesser-cases a b)
+    (cases_lt b a)
 
 -- the pixels i and j carry one number
 abbrev Alike : List ℕ → ℕ → ℕ → Type 0
@@ -109,8 +96,8 @@ module _ (mask : List ℕ) (w : ℕ) where
         joined_at i e (inr z) = rw z (s.joined i e)
 
         least_at : (i : ℕ) → is_on mask i ≡ true → Cases a b (get_or numbers i 0) → renamed a b (get_or numbers i 0) ≤ i
-        least_at i e (inl (inl q, z)) = rw z (omega (arith, lesser-low a b, s.least i e))
-        least_at i e (inl (inr q, z)) = rw z (omega (arith, lesser-low a b, s.least i e))
+        least_at i e (inl (inl q, z)) = rw z (omega (arith, lesser-min a b, s.least i e))
+        least_at i e (inl (inr q, z)) = rw z (omega (arith, lesser-min a b, s.least i e))
         least_at i e (inr z) = rw z (s.least i e)
 
     merge_keeps : (a b i j : ℕ) → is_on mask i ≡ true → is_on mask j ≡ true → Alike numbers i j → Alike (merge a b numbers) i j
@@ -124,15 +111,15 @@ module _ (mask : List ℕ) (w : ℕ) where
 
     -- the two are joined, or nothing changes
     tested : (i j : ℕ) → (is_on mask i && is_on mask j && beside w i j ≡ true) ⊎ (is_on mask i && is_on mask j && beside w i j ≡ false)
-    tested i j = either (is_on mask i && is_on mask j && beside w i j)
+    tested i j = cases_Bool (is_on mask i && is_on mask j && beside w i j)
 
     two-sound : (i j : ℕ) → Sound (join_two mask w i j numbers)
     unfolding join_two
     two-sound i j =
         ⊎_elim {C = Sound (join_two mask w i j numbers)}
         (λ (t : is_on mask i && is_on mask j && beside w i j ≡ true). (
-        let both = and-true (is_on mask i && is_on mask j) (beside w i j) t in
-        let ons = and-true (is_on mask i) (is_on mask j) both.0 in
+        let both = and_parts (is_on mask i && is_on mask j) (beside w i j) t in
+        let ons = and_parts (is_on mask i) (is_on mask j) both.0 in
         let r = joined-trans (s.joined i ons.0) (onward (same ons.0) both.1 ons.1) in
         rw t (merge-sound (get_or numbers i 0) (get_or numbers j 0) (joined-trans r (joined-sym (s.joined j ons.1))))))
         (λ (t : is_on mask i && is_on mask j && beside w i j ≡ false). rw t s)
@@ -176,7 +163,7 @@ module _ (mask : List ℕ) (w : ℕ) where
         let g' : is_on mask n ≡ true = rw q at g in
         let b' : beside w i n ≡ true = rw q at b in
         rw q (two-does before t i n e g' b')))
-        (which j n)
+        (cases_lt j n)
 
 module _ (mask : List ℕ) (h w : ℕ) (fits : length mask ≡ h * w) where
   upto-sound : (n : ℕ) → Sound mask w (join_upto mask h w n)
@@ -203,7 +190,7 @@ module _ (mask : List ℕ) (h w : ℕ) (fits : length mask ≡ h * w) where
       let e' : is_on mask n ≡ true = rw q at e in
       let b' : beside w n j ≡ true = rw q at b in
       rw q (with-does mask w before (upto-sound n) n n j (omega arith) e' g b')))
-      (which i n)
+      (cases_lt i n)
 
   -- the first pixel of a pixel's part is joined to it
   pub first-joined : (i : ℕ) → is_on mask i ≡ true → Joined mask w (first_pixel mask h w i) i
@@ -226,8 +213,8 @@ module _ (mask : List ℕ) (h w : ℕ) (fits : length mask ≡ h * w) where
       ⊎_elim {C = Alike (join_upto mask h w (h * w)) i j}
       (λ (k : i < j). sym (upto-does (h * w) j i (omega arith) k g e (beside_back w j i ∙ b)))
       (λ (k : j ≤ i). (let q : i ≡ j = omega arith in ap (λ (n : ℕ). get_or (join_upto mask h w (h * w)) n 0) q))
-      (which i j))
-      (which j i)
+      (cases_lt i j))
+      (cases_lt j i)
 
   -- pixels that are joined have one first pixel
   pub first_same : {i j : ℕ} → Joined mask w i j → first_pixel mask h w i ≡ first_pixel mask h w j
@@ -248,4 +235,4 @@ module _ (mask : List ℕ) (h w : ℕ) (fits : length mask ≡ h * w) where
 
   pub first_on : (i : ℕ) → is_first mask h w i ≡ true → (is_on mask i ≡ true) × (first_pixel mask h w i ≡ i)
   unfolding is_first
-  first_on i t = let z = and-true (is_on mask i) (eqb (first_pixel mask h w i) i) t in (z.0, eqb-true (first_pixel mask h w i) i z.1)
+  first_on i t = let z = and_parts (is_on mask i) (eqb (first_pixel mask h w i) i) t in (z.0, eqb-true (first_pixel mask h w i) i z.1)

@@ -10,11 +10,13 @@ use lib.Dec.{eqb}
 use lib.ListN.{length, get_or, set, length-set}
 use lib.Seq.{get_or-set_same, get_or-set_other}
 use borrow.Author.Tests.{eqb-true, eqb-false}
-use Rattle.plane.proofs.Search.{which, either}
+use Rattle.std.proofs.Math.Arith.{lt_of_le-ne}
+use Rattle.std.proofs.lemmas.Bool.{cases_Bool, cases_lt}
 use Rattle.labels.specs.Labels.{renamed}
 use Rattle.plane.specs.Box.{lesser_of}
 use Rattle.labels.specs.steps.Trees.{Forest, Found, Joinable, Linked}
-use Rattle.labels.proofs.Firsts.{renamed-left, renamed-right, Cases, renamed-cases, lesser-cases, lesser-low}
+use Rattle.labels.proofs.Firsts.{renamed-left, renamed-right, Cases, renamed-cases, lesser-cases}
+use Rattle.plane.proofs.Bounds.{lesser-min}
 
 -- an element after a store at i
 abbrev pub Stored : List ℕ → ℕ → ℕ → ℕ → Type 0
@@ -25,26 +27,7 @@ set_cases l i v h k =
     ⊎_elim {C = Stored l i v k}
     (λ (e : eqb k i ≡ true). (let q = eqb-true k i e in inl (q, rw q (get_or-set_same l i v 0 h))))
     (λ (e : eqb k i ≡ false). (let q = eqb-false k i e in inr (q, get_or-set_other l i k v 0 q)))
-    (either (eqb k i))
-
--- a number that is at most another, and not the other, is less
-pub less-of : {k i : ℕ} → k ≤ i → (k ≡ i → ⊥) → k < i
-less-of {k} {i} l n = ⊎_elim {C = k < i} (λ (z : k < i). z) (λ (z : i ≤ k). absurd (n (omega arith))) (which k i)
-
-pub positive : (n : ℕ) → (n ≡ 0 → ⊥) → 0 < n
-positive n h = less-of (omega arith) (λ q. h (sym q))
-
-lesser-min : (a b : ℕ) → lesser_of a b ≡ min a b
-lesser-min a b =
-    ⊎_elim {C = lesser_of a b ≡ min a b} (λ z. omega (arith, z.0, z.1)) (λ z. omega (arith, z.0, z.1)) (lesser-cases a b)
-
-lesser-left-is : (a b : ℕ) → a ≤ b → lesser_of a b ≡ a
-lesser-left-is a b l =
-    ⊎_elim {C = lesser_of a b ≡ a} (λ z. z.0) (λ z. omega (arith, z.0, z.1)) (lesser-cases a b)
-
-lesser-right-is : (a b : ℕ) → b ≤ a → lesser_of a b ≡ b
-lesser-right-is a b l =
-    ⊎_elim {C = lesser_of a b ≡ b} (λ z. omega (arith, z.0, z.1)) (λ z. z.0) (lesser-cases a b)
+    (cases_Bool (eqb k i))
 
 -- what is renamed to: the lesser keeps its number
 pub renamed-lesser : (a b : ℕ) → renamed a b (lesser_of a b) ≡ lesser_of a b
@@ -58,8 +41,8 @@ pub renamed_low : (a b n : ℕ) → renamed a b n ≤ n
 renamed_low a b n = go (renamed-cases a b n)
   where
     go : Cases a b n → renamed a b n ≤ n
-    go (inl (inl q, e)) = omega (arith, lesser-low a b)
-    go (inl (inr q, e)) = omega (arith, lesser-low a b)
+    go (inl (inl q, e)) = omega (arith, lesser-min a b)
+    go (inl (inr q, e)) = omega (arith, lesser-min a b)
     go (inr e) = omega arith
 
 module _ {parents : List ℕ} {m : ℕ} {rep : ℕ → ℕ} (f : Forest parents m rep) where
@@ -69,7 +52,7 @@ module _ {parents : List ℕ} {m : ℕ} {rep : ℕ → ℕ} (f : Forest parents 
   -- and the parent's parent of a label that is no root is below it
   pub grandparent : (a : ℕ) → a ≤ m → (get_or parents a 0 ≡ a → ⊥) → get_or parents (get_or parents a 0) 0 < a
   grandparent a h n =
-      omega (arith, less-of (f.down a h) n, f.down (get_or parents a 0) (parent-most a h))
+      omega (arith, lt_of_le-ne (f.down a h) n, f.down (get_or parents a 0) (parent-most a h))
 
   -- a label's parent becomes its parent's parent
   module _ (a : ℕ) (h : a ≤ m) where
@@ -112,7 +95,7 @@ module _ {parents : List ℕ} {m : ℕ} {rep : ℕ → ℕ} (f : Forest parents 
     more = set parents (m + 1) (m + 1)
 
     least : {l : ℕ} → l ≤ m + 1 → (l ≡ m + 1 → ⊥) → l ≤ m
-    least i n = omega (arith, less-of i n)
+    least i n = omega (arith, lt_of_le-ne i n)
 
     cases-new : (l : ℕ) → Stored parents (m + 1) (m + 1) l
     cases-new = set_cases parents (m + 1) (m + 1) h
@@ -179,8 +162,8 @@ module _ {parents : List ℕ} {m : ℕ} {rep : ℕ → ℕ} (f : Forest parents 
       where
         -- one of the two that is not z is the lesser_of
         least : (l ≡ x) ⊎ (l ≡ y) → s ≡ l
-        least (inl q) = ⊎_elim {C = s ≡ l} (λ b. absurd (n (q ∙ sym b))) (λ b. lesser-left-is x y (omega arith) ∙ sym q) z-is
-        least (inr q) = ⊎_elim {C = s ≡ l} (λ b. lesser-right-is x y (omega arith) ∙ sym q) (λ b. absurd (n (q ∙ sym b))) z-is
+        least (inl q) = ⊎_elim {C = s ≡ l} (λ b. absurd (n (q ∙ sym b))) (λ b. omega (arith, lesser-min x y)) z-is
+        least (inr q) = ⊎_elim {C = s ≡ l} (λ b. omega (arith, lesser-min x y)) (λ b. absurd (n (q ∙ sym b))) z-is
 
         go : Cases x y l → renamed x y l ≡ l
         go (inl u) = u.1 ∙ least u.0
@@ -191,7 +174,7 @@ module _ {parents : List ℕ} {m : ℕ} {rep : ℕ → ℕ} (f : Forest parents 
       room = omega (arith, f.room, length-set parents z s);
       down = λ l i.
           ⊎_elim {C = get_or new l 0 ≤ l}
-          (λ u. omega (arith, u.0, u.1, lesser-low x y))
+          (λ u. omega (arith, u.0, u.1, lesser-min x y))
           (λ u. omega (arith, u.1, f.down l i))
           (cases l);
       along = λ l i.
@@ -251,10 +234,10 @@ module _ {old one two : List ℕ} {m a b x y : ℕ} (g : Joinable old m a b) (p 
       greater-is : {rep : ℕ → ℕ} → Forest old m rep → (greater ≡ rep a) ⊎ (greater ≡ rep b)
       greater-is {rep} f =
           ⊎_elim {C = (greater ≡ rep a) ⊎ (greater ≡ rep b)}
-          (λ (l : x < y). inr (omega (arith, y-is f))) (λ (l : y ≤ x). inl (omega (arith, x-is f))) (which x y)
+          (λ (l : x < y). inr (omega (arith, y-is f))) (λ (l : y ≤ x). inl (omega (arith, x-is f))) (cases_lt x y)
 
 -- the root of the tree is one of the labels
 pub linked-in : {old new : List ℕ} {m a b r : ℕ} → Joinable old m a b → Linked old new m a b r → r ≤ m
 linked-in {a = a} {b = b} g k =
     let t = g.trees in
-    omega (arith, k.root t.rep t.forest, lesser-low (t.rep a) (t.rep b), t.forest.low a, g.a_in)
+    omega (arith, k.root t.rep t.forest, lesser-min (t.rep a) (t.rep b), t.forest.low a, g.a_in)

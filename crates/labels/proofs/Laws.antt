@@ -9,7 +9,7 @@ use Prim.Native.Nat.{ℕ, ◌+◌, ◌*◌, ◌-◌, ◌≤◌, ◌<◌}
 use native.Mathlib.Omega.{arith}
 use lib.ListN.{length}
 use Rattle.plane.specs.Search.{count_below}
-use Rattle.plane.proofs.Search.{which, either}
+use Rattle.std.proofs.lemmas.Bool.{cases_Bool, cases_lt}
 use Rattle.plane.specs.Mask.{is_on}
 use Rattle.labels.specs.Labels.{Joined, first_pixel, is_first, parts, label_of}
 use Rattle.labels.proofs.Counts.{count-strict, count-reached}
@@ -33,7 +33,7 @@ module _ (mask : List ℕ) (h w : ℕ) where
       ⊎_elim {C = is_on mask i ≡ true}
       (λ (e : is_on mask i ≡ true). e)
       (λ (e : is_on mask i ≡ false). (let q = label-off i e in absurd (omega arith)))
-      (either (is_on mask i))
+      (cases_Bool (is_on mask i))
 
   module _ (fits : length mask ≡ h * w) where
     -- pixels that are joined have one label
@@ -61,8 +61,8 @@ module _ (mask : List ℕ) (h w : ℕ) where
         ⊎_elim {C = first_pixel mask h w i ≡ first_pixel mask h w j}
         (λ (m : first_pixel mask h w j < first_pixel mask h w i). (let z = label-order j i g e m in absurd (omega arith)))
         (λ (m : first_pixel mask h w i ≤ first_pixel mask h w j). omega arith)
-        (which (first_pixel mask h w j) (first_pixel mask h w i)))
-        (which (first_pixel mask h w i) (first_pixel mask h w j)))
+        (cases_lt (first_pixel mask h w j) (first_pixel mask h w i)))
+        (cases_lt (first_pixel mask h w i) (first_pixel mask h w j)))
 
     -- every number from 1 to the number of parts is the label of some part's first pixel
     pub label-occurs : (n : ℕ) → 1 ≤ n → n ≤ parts mask h w → (i : ℕ) × (i < h * w) × (is_first mask h w i ≡ true) × (label_of mask h w i ≡ n)

@@ -14,8 +14,8 @@ use lib.Seq.{get_or-set_other}
 use borrow.Author.Tests.{eqb-true, eqb-false, eq-eqb, ne_eqb, lt-ltb, ltb-true}
 use Rattle.plane.specs.Search.{count_below}
 use Rattle.plane.proofs.Plane.{plane-is, pixel-in}
-use Rattle.plane.proofs.Search.{which, either, not-both}
-use Rattle.plane.proofs.Refusal.{and-true}
+use Rattle.plane.proofs.Search.{not-both}
+use Rattle.std.proofs.lemmas.Bool.{and_parts, cases_Bool, cases_lt}
 use Rattle.plane.specs.Mask.{is_on}
 use Rattle.labels.specs.Labels.{Joined, first_pixel, is_first, parts, label_of, label_at, labels_plane}
 use Rattle.labels.specs.steps.Trees.{Forest, Trees, Scanned, is_root, Numbered}
@@ -24,7 +24,8 @@ use Rattle.plane.proofs.Mask.{on-inside}
 use Rattle.labels.proofs.Joined.{start-on, spreads}
 use Rattle.labels.proofs.Firsts.{first-joined, first-least, first_same, is-first, first_on}
 use Rattle.labels.proofs.Laws.{label-on, label-off}
-use Rattle.labels.proofs.Forests.{set_cases, less-of}
+use Rattle.labels.proofs.Forests.{set_cases}
+use Rattle.std.proofs.Math.Arith.{lt_of_le-ne}
 
 -- ---- numbering
 
@@ -38,7 +39,7 @@ root-not parents l p e = simp (lt-ltb 0 l p, ne_eqb (get_or parents l 0) l e)
 
 root-at : (parents : List ℕ) (l : ℕ) → is_root parents l ≡ true → (0 < l) × (get_or parents l 0 ≡ l)
 unfolding is_root
-root-at parents l t = let z = and-true (ltb 0 l) (eqb (get_or parents l 0) l) t in (ltb-true 0 l z.0, eqb-true (get_or parents l 0) l z.1)
+root-at parents l t = let z = and_parts (ltb 0 l) (eqb (get_or parents l 0) l) t in (ltb-true 0 l z.0, eqb-true (get_or parents l 0) l z.1)
 
 -- 0 is no root
 pub count-few : (parents : List ℕ) (k : ℕ) → 1 ≤ k → count_below k (is_root parents) < k
@@ -48,7 +49,7 @@ count-few parents (suc zero) l = omega arith
 count-few parents (suc (suc k)) l =
     let z = count-few parents (suc k) (omega arith) in
     ⊎_elim {C = count_below (suc k) (is_root parents) + cond (is_root parents (suc k)) 1 0 < suc (suc k)}
-    (λ e. rw e (omega arith)) (λ e. rw e (omega arith)) (either (is_root parents (suc k)))
+    (λ e. rw e (omega arith)) (λ e. rw e (omega arith)) (cases_Bool (is_root parents (suc k)))
 
 module _ (old : List ℕ) (m : ℕ) (t : Trees old m) where
   -- before the first label
@@ -88,10 +89,10 @@ module _ (old : List ℕ) (m : ℕ) (t : Trees old m) where
         let p = get_or new k 0 in
         let d : p ≤ k = omega (arith, same-k, f.down k high) in
         let a : rep p ≡ rep k = ap rep same-k ∙ f.along k high in
-        let less : p < k = less-of d ne in
+        let less : p < k = lt_of_le-ne d ne in
         let some : 0 < p = omega (arith, a, f.some k low, f.low p) in
         rw e (g.done rep f p some less ∙ ap (λ (i : ℕ). 1 + count_below i (is_root old)) a)))
-        (either (eqb (get_or new k 0) k))
+        (cases_Bool (eqb (get_or new k 0) k))
 
     count-is : count' ≡ count_below (k + 1) (is_root old)
     count-is =
@@ -102,7 +103,7 @@ module _ (old : List ℕ) (m : ℕ) (t : Trees old m) where
         (λ (e : eqb (get_or new k 0) k ≡ false).
         let no-root = root-not old k low (λ q. eqb-false (get_or new k 0) k e (same-k ∙ q)) in
         rw (e, add-one k) (omega (arith, g.count, count-no-more (is_root old) k no-root)))
-        (either (eqb (get_or new k 0) k))
+        (cases_Bool (eqb (get_or new k 0) k))
 
     pub one-numbered : Numbered old (set new k value) m (k + 1) count'
     one-numbered = record {
@@ -112,7 +113,7 @@ module _ (old : List ℕ) (m : ℕ) (t : Trees old m) where
       done = λ rep f l a b.
           ⊎_elim {C = get_or (set new k value) l 0 ≡ 1 + count_below (rep l) (is_root old)}
           (λ z. z.1 ∙ value-is rep f ∙ ap (λ (i : ℕ). 1 + count_below (rep i) (is_root old)) (sym z.0))
-          (λ z. z.1 ∙ g.done rep f l a (less-of (omega arith) z.0))
+          (λ z. z.1 ∙ g.done rep f l a (lt_of_le-ne (omega arith) z.0))
           (set_cases new k value k-in l);
       rest = λ l a. get_or-set_other new k l value 0 (λ q. omega arith) ∙ g.rest l (omega arith);
     }
@@ -145,14 +146,14 @@ module _ {mask labels parents : List ℕ} {h w m : ℕ} (fits : length mask ≡ 
   -- labels and their seeds are in one order
   seeds-order : (a b : ℕ) → 0 < a → a ≤ m → 0 < b → b ≤ m → s.seed a ≤ s.seed b → a ≤ b
   seeds-order a b p q u v l =
-      ⊎_elim {C = a ≤ b} (λ (z : b < a). absurd (omega (arith, s.rises b a u z q))) (λ (z : a ≤ b). z) (which b a)
+      ⊎_elim {C = a ≤ b} (λ (z : b < a). absurd (omega (arith, s.rises b a u z q))) (λ (z : a ≤ b). z) (cases_lt b a)
 
   order-seeds : (a b : ℕ) → 0 < a → a ≤ b → b ≤ m → s.seed a ≤ s.seed b
   order-seeds a b p l q =
       ⊎_elim {C = s.seed a ≤ s.seed b}
       (λ (z : a < b). omega (arith, s.rises a b p z q))
       (λ (z : b ≤ a). (let e : a ≡ b = omega arith in rw e (omega arith)))
-      (which a b)
+      (cases_lt a b)
 
   -- a first pixel has a label, whose seed it is
   first-label : (k : ℕ) → is_first mask h w k ≡ true → (0 < lab k) × (lab k ≤ m) × (s.seed (lab k) ≡ k)
@@ -203,8 +204,8 @@ module _ {mask labels parents : List ℕ} {h w m : ℕ} (fits : length mask ≡ 
       let e : s.rep l ≡ l = omega (arith, s.forest.low l) in
       not-both (is_root parents l) (root_is parents l p (root-parent l q e)) t))
       (λ (f : is_first mask h w (s.seed l) ≡ false). t ∙ sym f)
-      (either (is_first mask h w (s.seed l))))
-      (either (is_root parents l))
+      (cases_Bool (is_first mask h w (s.seed l))))
+      (cases_Bool (is_root parents l))
 
   -- where the seeds up to label l end
   end_of : ℕ → ℕ
@@ -227,9 +228,9 @@ module _ {mask labels parents : List ℕ} {h w m : ℕ} (fits : length mask ≡ 
       let next = order-seeds (l + 1) (lab k) (omega arith) (omega arith) z.1 in
       absurd (omega (arith, j (omega (arith, z.1)), z.2)))
       (λ (a : lab k ≤ l). absurd (omega (arith, z.2, order-seeds (lab k) l z.0 a q, end_is l (omega (arith, z.0)))))
-      (which l (lab k))))
+      (cases_lt l (lab k))))
       (λ (f : is_first mask h w k ≡ false). f)
-      (either (is_first mask h w k))
+      (cases_Bool (is_first mask h w k))
 
   end_low : (l : ℕ) → suc l ≤ m → end_of l ≤ s.seed (suc l)
   unfolding end_of
@@ -292,7 +293,7 @@ module _ {mask labels parents : List ℕ} {h w m : ℕ} (fits : length mask ≡ 
       ⊎_elim {C = get_or out k 0 ≡ label_of mask h w k}
       (λ (o : is_on mask k ≡ true). ones k i o ∙ number_is k o)
       (λ (o : is_on mask k ≡ false). zeros k i o ∙ sym (label-off mask h w k o))
-      (either (is_on mask k))))
+      (cases_Bool (is_on mask k))))
 
   -- so the plane of the labels' numbers is,
   pub numbers-are : {new out : List ℕ} {n : ℕ} → Numbered parents new m (m + 1) n → length labels ≡ h * w
@@ -320,4 +321,4 @@ module _ {mask labels parents : List ℕ} {h w m : ℕ} (fits : length mask ≡ 
           ⊎_elim {C = 1 + count_below (s.rep l) (is_root parents) ≡ l}
           (λ (t : is_root parents l ≡ true). rw (s.forest.top l q (root-at parents l t).1) (omega arith))
           (λ (t : is_root parents l ≡ false). absurd (omega (arith, count-no-more (is_root parents) l t)))
-          (either (is_root parents l))
+          (cases_Bool (is_root parents l))

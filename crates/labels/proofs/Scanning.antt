@@ -12,8 +12,10 @@ use lib.ListN.{length, get_or, set, length-set}
 use lib.Seq.{get_or-set_same, get_or-set_other}
 use borrow.Author.Tests.{eqb-false, eq-eqb, ne_eqb, ltb-false, lt-ltb, le-ltb}
 use Rattle.plane.specs.Plane.{on}
+use Rattle.plane.specs.declared.size.Mask.{Mask}
 use Rattle.plane.proofs.Plane.{pixel-in}
-use Rattle.plane.proofs.Search.{which, either, not-both}
+use Rattle.plane.proofs.Search.{not-both}
+use Rattle.std.proofs.lemmas.Bool.{cases_Bool, cases_lt}
 use Rattle.plane.specs.Mask.{is_on}
 use Rattle.labels.specs.Labels.{beside, Joined, same, onward, renamed, is_first}
 use Rattle.plane.specs.Box.{lesser_of}
@@ -21,9 +23,11 @@ use Rattle.labels.specs.steps.Trees.{Forest, Linked, Placeable, Placed, dark, fr
 use Rattle.labels.specs.steps.Trees.{up_at, left_at, diag_at, Scanned, Given}
 use Rattle.labels.proofs.Joined.{beside_back, joined-trans, joined-sym}
 use Rattle.labels.proofs.Firsts.{first-least, first_same, first_on, renamed-left, renamed-right, Cases, renamed-cases}
-use Rattle.labels.proofs.Firsts.{lesser-cases, lesser-low}
+use Rattle.labels.proofs.Firsts.{lesser-cases}
 use Rattle.labels.proofs.Steps.{column-is, beside-above, beside-left, Sides4, beside-sides}
-use Rattle.labels.proofs.Forests.{positive, added, renamed-lesser}
+use Rattle.labels.proofs.Forests.{added, renamed-lesser}
+use Rattle.std.proofs.Math.Nat.{pos_of_ne-zero, max-eq_left}
+use Rattle.plane.proofs.Bounds.{lesser-min}
 
 -- a pixel is on where its byte is not 0
 byte-on : (mask : List ℕ) (k : ℕ) → (get_or mask k 0 ≡ 0 → ⊥) → is_on mask k ≡ true
@@ -45,7 +49,7 @@ up-some labels w t l =
     ⊎_elim {C = w ≤ t}
     (λ (e : ltb t w ≡ true). (let z : 0 < cond (ltb t w) 0 (get_or labels (t - w) 0) = l in absurd (not-suc-le-zero (rw e at z))))
     (λ (e : ltb t w ≡ false). ltb-false t w e)
-    (either (ltb t w))
+    (cases_Bool (ltb t w))
 
 left_is : (labels : List ℕ) (t x : ℕ) → 0 < x → left_at labels t x ≡ get_or labels (t - 1) 0
 unfolding left_at
@@ -56,8 +60,8 @@ unfolding left_at
 left-some labels t x l =
     ⊎_elim {C = 0 < x}
     (λ (e : eqb x 0 ≡ true). (let z : 0 < cond (eqb x 0) 0 (get_or labels (t - 1) 0) = l in absurd (not-suc-le-zero (rw e at z))))
-    (λ (e : eqb x 0 ≡ false). positive x (eqb-false x 0 e))
-    (either (eqb x 0))
+    (λ (e : eqb x 0 ≡ false). pos_of_ne-zero (eqb-false x 0 e))
+    (cases_Bool (eqb x 0))
 
 diag-is : (labels : List ℕ) (w t x : ℕ) → 0 < x → diag_at labels w t x ≡ up_at labels w (t - 1)
 unfolding diag_at
@@ -114,7 +118,7 @@ module _ (mask : List ℕ) (h w : ℕ) (fits : length mask ≡ h * w) (wide : 0 
     -- what holds of the pixels before t and of t
     both : (P : ℕ → Type 0) → ((k : ℕ) → k < t → P k) → P t → (k : ℕ) → k < t + 1 → P k
     both P a b k l =
-        ⊎_elim {C = P k} (λ (z : k < t). a k z) (λ (z : t ≤ k). (let q : t ≡ k = omega arith in rw q at b)) (which k t)
+        ⊎_elim {C = P k} (λ (z : k < t). a k z) (λ (z : t ≤ k). (let q : t ≡ k = omega arith in rw q at b)) (cases_lt k t)
 
     beside-new : (k : ℕ) → k < t → is_on mask t ≡ true → is_on mask k ≡ true → beside w t k ≡ true → rep r ≡ rep (lab k)
     beside-new k l e o b = go (beside-sides w wide t k b)
@@ -164,7 +168,7 @@ module _ (mask : List ℕ) (h w : ℕ) (fits : length mask ≡ h * w) (wide : 0 
     -- a pixel with a label is on
     has_on : (k : ℕ) → k < t → 0 < lab k → is_on mask k ≡ true
     has_on k l p =
-        ⊎_elim {C = is_on mask k ≡ true} (λ e. e) (λ e. absurd (omega (arith, s.off k l e))) (either (is_on mask k))
+        ⊎_elim {C = is_on mask k ≡ true} (λ e. e) (λ e. absurd (omega (arith, s.off k l e))) (cases_Bool (is_on mask k))
 
     -- the pixel above, and the one to the left, where they have labels
     up-on : 0 < up → (w ≤ t) × (is_on mask (t - w) ≡ true) × (beside w t (t - w) ≡ true)
@@ -283,7 +287,7 @@ module _ (mask : List ℕ) (h w : ℕ) (fits : length mask ≡ h * w) (wide : 0 
       -- a label up to m, or the new one
       by-label : (P : ℕ → Type 0) → ((l : ℕ) → 0 < l → l ≤ m → P l) → P (m + 1) → (l : ℕ) → 0 < l → l ≤ m + 1 → P l
       by-label P a b l i j =
-          ⊎_elim {C = P l} (λ (e : m < l). (let q : m + 1 ≡ l = omega arith in rw q at b)) (λ (e : l ≤ m). a l i e) (which m l)
+          ⊎_elim {C = P l} (λ (e : m < l). (let q : m + 1 ≡ l = omega arith in rw q at b)) (λ (e : l ≤ m). a l i e) (cases_lt m l)
 
       put-new : Scanned mask (set labels t (m + 1)) (set parents (m + 1) (m + 1)) h w (t + 1) (m + 1)
       put-new = grown {rep = s.rep} {seed = seed'} record {
@@ -365,7 +369,7 @@ module _ (mask : List ℕ) (h w : ℕ) (fits : length mask ≡ h * w) (wide : 0 
 
       r-low : r ≤ m
       r-low =
-          omega (arith, r-is, lesser-low u v, s.forest.low left, (s.on (t - 1) l-in (left-on p).1).1, left-lab)
+          omega (arith, r-is, lesser-min u v, s.forest.low left, (s.on (t - 1) l-in (left-on p).1).1, left-lab)
 
       still-joined : (i : ℕ) → Joined mask w (s.seed (s.rep (lab i))) i → Cases u v (s.rep (lab i))
           → Joined mask w (s.seed (rep' (lab i))) i
@@ -395,15 +399,12 @@ module _ (mask : List ℕ) (h w : ℕ) (fits : length mask ≡ h * w) (wide : 0 
         };
       }
 
-    max-low : (r : ℕ) → r ≤ m → max m r ≡ m
-    max-low r l = omega arith
-
     max-new : max m (m + 1) ≡ m + 1
     max-new = omega arith
 
     label-low : (k : ℕ) → k < t → lab k ≤ m
     label-low k l =
-        ⊎_elim {C = lab k ≤ m} (λ e. (s.on k l e).1) (λ e. omega (arith, s.off k l e)) (either (is_on mask k))
+        ⊎_elim {C = lab k ≤ m} (λ e. (s.on k l e).1) (λ e. omega (arith, s.off k l e)) (cases_Bool (is_on mask k))
 
     pub left-low : left ≤ m
     left-low =
@@ -411,43 +412,49 @@ module _ (mask : List ℕ) (h w : ℕ) (fits : length mask ≡ h * w) (wide : 0 
         ⊎_elim {C = left ≤ m}
         (λ (p : 0 < left). (let l = (left-on p).0 in omega (arith, left_is labels t (t % w) l, label-low (t - 1) (omega arith))))
         (λ (p : left ≤ 0). omega arith)
-        (which 0 left)
+        (cases_lt 0 left)
 
     pub up-low : up ≤ m
     up-low =
         ⊎_elim {C = up ≤ m}
         (λ (p : 0 < up). (let l = (up-on p).0 in omega (arith, up_is labels w t l, label-low (t - w) (omega arith))))
         (λ (p : up ≤ 0). omega arith)
-        (which 0 up)
+        (cases_lt 0 up)
 
     -- one pixel more
     pub step : (new : List ℕ) (r : ℕ) → m + 1 < length parents → Placed (get_or mask t 0) left up diag m parents new r
         → Scanned mask (set labels t r) new h w (t + 1) (max m r)
-    step new r room (dark a b c) = rw (b, c, max-low 0 (omega arith)) (put-off (byte-off mask t a))
+    step new r room (dark a b c) = rw (b, c, max-eq_left {n = m} {m = 0} (omega arith)) (put-off (byte-off mask t a))
     step new r room (fresh a b c d e) = rw (d, e, max-new) (put-new (byte-on mask t a) b c room)
-    step new r room (from-above a b c d e) = rw (d, e, max-low up up-low) (put_up (byte-on mask t a) b c)
-    step new r room (from-left a b c d e) = rw (d, e, max-low left left-low) (put-left (byte-on mask t a) b c)
+    step new r room (from-above a b c d e) = rw (d, e, max-eq_left up-low) (put_up (byte-on mask t a) b c)
+    step new r room (from-left a b c d e) = rw (d, e, max-eq_left left-low) (put-left (byte-on mask t a) b c)
     step new r room (from-both a b c d) =
         let o = byte-on mask t a in
-        rw (max-low r (r-low o b c new r d)) (put_both o b c new r d)
+        rw (max-eq_left (r-low o b c new r d)) (put_both o b c new r d)
 
--- what is given stays given while the planes keep their lengths
-pub still-given : {mask parents labels parents' labels' : List ℕ} {h w : ℕ} → Given mask parents labels h w
-    → length parents' ≡ length parents → length labels' ≡ length labels → Given mask parents' labels' h w
-still-given g p l = record {
-  sides = g.sides;
-  few = g.few;
-  input = g.input;
-  output = l ∙ g.output;
-  room = omega (arith, g.room, p);
-}
+-- what is given stays given while the buffers keep their lengths
+pub still-given : {parents labels parents' labels' : List ℕ} {n : ℕ} → Given parents labels n → length parents' ≡ length parents
+    → length labels' ≡ length labels → Given parents' labels' n
+still-given g p l = record { few = g.few; output = l ∙ g.output; room = omega (arith, g.room, p) }
 
 -- ---- along a row
 
-module _ {mask parents labels : List ℕ} {h w : ℕ} (g : Given mask parents labels h w) (y x m : ℕ) (row : y < h) (column : x < w)
-    (s : Scanned mask labels parents h w (y * w + x) m) where
+module _ (a : Mask) {parents labels : List ℕ} (g : Given parents labels (a.size.h * a.size.w)) (y x m : ℕ) (row : y < a.size.h)
+    (column : x < a.size.w) (s : Scanned a.pixels.now labels parents a.size.h a.size.w (y * a.size.w + x) m) where
+  abbrev mask : List ℕ
+  mask = a.pixels.now
+
+  abbrev h : ℕ
+  h = a.size.h
+
+  abbrev w : ℕ
+  w = a.size.w
+
   abbrev pixel : ℕ
   pixel = y * w + x
+
+  some : 1 ≤ w
+  some = a.size.sides.some_columns
 
   pub pixel-inside : pixel < h * w
   pixel-inside = pixel-in y x h w row column
@@ -460,10 +467,10 @@ module _ {mask parents labels : List ℕ} {h w : ℕ} (g : Given mask parents la
 
   -- the labels of the neighbours are labels, and there is room for a new one
   pub placeable : {left up : ℕ} → left ≡ left_at labels pixel x → up ≡ up_at labels w pixel → Placeable parents m left up
-  placeable a b = record {
+  placeable l u = record {
     trees = record { rep = s.rep; forest = s.forest };
-    left_in = rw a (rw column-of at (left-low mask h w g.input g.sides.some_columns labels pixel in-labels parents m s));
-    up_in = rw b (up-low mask h w g.input g.sides.some_columns labels pixel in-labels parents m s);
+    left_in = rw l (rw column-of at (left-low mask h w a.whole some labels pixel in-labels parents m s));
+    up_in = rw u (up-low mask h w a.whole some labels pixel in-labels parents m s);
     room = omega (arith, s.few, pixel-inside, g.room);
     small = omega (arith, s.few, pixel-inside, g.few);
   }
@@ -485,20 +492,20 @@ module _ {mask parents labels : List ℕ} {h w : ℕ} (g : Given mask parents la
         ⊎_elim {C = up_at after w pixel ≡ up_at labels w pixel}
         (λ (l : pixel < w). rw (lt-ltb pixel w l))
         (λ (l : w ≤ pixel).
-        rw (le-ltb pixel w l) (get_or-set_other labels pixel (pixel - w) r 0 (λ q. omega (arith, g.sides.some_columns))))
-        (which pixel w)
+        rw (le-ltb pixel w l) (get_or-set_other labels pixel (pixel - w) r 0 (λ q. omega (arith, some))))
+        (cases_lt pixel w)
 
     -- one pixel more, and the labels to the left, and above to the left, of the next
     pub row_next : {new : List ℕ} {left up diag : ℕ} → left ≡ left_at labels pixel x → up ≡ up_at labels w pixel
         → diag ≡ diag_at labels w pixel x → Placed (get_or mask pixel 0) left up diag m parents new r
         → Scanned mask after new h w next (max m r) × (r ≡ left_at after next (x + 1)) × (up ≡ diag_at after w next (x + 1))
-    row_next {new} a b c p =
+    row_next {new} l u d p =
         let e : next ≡ pixel + 1 = omega arith in
-        let room = (placeable a b).room in
-        let one_more = step mask h w g.input g.sides.some_columns labels pixel in-labels parents m s new r room in (
-          rw e (one_more (rw column-of (rw (a, b, c) at p))),
+        let room = (placeable l u).room in
+        let one_more = step mask h w a.whole some labels pixel in-labels parents m s new r room in (
+          rw e (one_more (rw column-of (rw (l, u, d) at p))),
           sym (left_is after next (x + 1) (omega arith) ∙ ap (λ (k : ℕ). get_or after k 0) back ∙ get_or-set_same labels pixel r 0 in-labels),
-          b ∙ sym (diag-is after w next (x + 1) (omega arith) ∙ ap (up_at after w) back ∙ up_same),
+          u ∙ sym (diag-is after w next (x + 1) (omega arith) ∙ ap (up_at after w) back ∙ up_same),
         )
 
 -- before the first pixel

@@ -10,7 +10,7 @@ use native.Mathlib.Omega.{arith}
 use borrow.Author.Tests.{eqb-true, eq-eqb}
 use Rattle.plane.specs.Plane.{apart}
 use Rattle.plane.proofs.Plane.{row_of, pixel-in}
-use Rattle.plane.proofs.Search.{which}
+use Rattle.std.proofs.lemmas.Bool.{cases_lt}
 use Rattle.labels.specs.Labels.{beside}
 use Rattle.labels.proofs.Joined.{beside_back}
 
@@ -85,6 +85,6 @@ module _ (w : ℕ) (wide : 0 < w) where
       ⊎_elim {C = Sides4 p j}
       (λ (x : p % w < j % w). inr (inr (inr (omega arith, omega arith))))
       (λ (x : j % w ≤ p % w). inr (inr (inl (omega arith, omega arith))))
-      (which (p % w) (j % w))))
-      (which (j / w) (p / w)))
-      (which (p / w) (j / w))
+      (cases_lt (p % w) (j % w))))
+      (cases_lt (j / w) (p / w)))
+      (cases_lt (p / w) (j / w))

@@ -2,12 +2,18 @@
 // label from its neighbours to the left and above, and labels that meet are joined in trees, whose roots are numbered at the end.
 #![tactic(auto)]
 
-ghost use Rattle.std.specs.Prelude.{◌≡◌, ◌+◌, ◌*◌, ◌<◌, ◌≤◌, ◌==◌, if◌then◌else◌, max, length, slice_index, slice_set, EachIndex};
+ghost use Rattle.std.specs.Prelude.{◌≡◌, ◌+◌, ◌*◌, ◌<◌, ◌≤◌, ◌==◌, if◌then◌else◌, max, length};
+ghost use Rattle.std.specs.Prelude.{slice_index, slice_set, EachIndex};
 ghost use Rattle.labels.specs.Labels.{parts, labels_plane};
-ghost use Rattle.labels.specs.steps.Trees.{Given, Trees, SameBuffer, Found, Joinable, Linked, Placeable, Placed, up_at};
+ghost use Rattle.labels.specs.steps.Trees.{Given, Trees, Found, Joinable, Linked, Placeable, Placed, up_at};
+ghost use Rattle.plane.specs.steps.Buffer.{SameBuffer};
 ghost use Rattle.labels.specs.steps.Trees.{Scanned, RowsDone, Numberable, Numbered};
 
-// Provisional labels: the parent of each, and how many there are. A label that is its own parent is the root of its tree.
+use plane::size::Mask;
+
+// Provisional labels: the parent of each, and how many there are. A label that is its own parent is the root of its tree. The trees
+// are indices into a lent buffer: no memory is reserved, so no label has nodes of its own. That they are trees is a clause at each
+// method, since no ghost field may speak of what a `&mut` holds; and so is SameBuffer, which speaks of before and after.
 #[derive(Drop)]
 struct LabelTrees<'a> {
     parents: &'a mut [u32],
@@ -77,7 +83,8 @@ impl LabelTrees<'_> {
     }
 }
 
-// The label of the pixel above pixel i; 0 for none, as in the plane of labels.
+// The label of the pixel above pixel i; 0 for none, as the plane of labels has it: an Option would be made 0 again where the label is
+// stored.
 #[tactic(auto, unfolding(crate::specs::steps::Trees::up_at))]
 fn upper(labels: &[u32], w: usize, i: usize) -> u32
     requires { i < length labels.now }
@@ -86,19 +93,22 @@ fn upper(labels: &[u32], w: usize, i: usize) -> u32
     if i < w { 0 } else { labels[i - w] }
 }
 
-// The pixels of row y get provisional labels, of which the rows before it have some already.
-fn scan_row(mask: &[u8], h: usize, w: usize, y: usize, trees: &mut LabelTrees, labels: &mut [u32])
-    requires { RowsDone mask.now labels.old trees.old.parents.now h w y trees.old.count }
-    ensures scanned { Scanned mask.now labels.new trees.new.parents.now h w (y * w + w) trees.new.count }
+// The pixels of row y get provisional labels, of which the rows before it have some already. The loop goes by index: after a `zip` of
+// `iter_mut` no proof knows what was written, and a pixel needs the label above it.
+fn scan_row(mask: Mask, y: usize, trees: &mut LabelTrees, labels: &mut [u32])
+    requires { RowsDone mask labels.old trees.old.parents.now y trees.old.count }
+    ensures scanned { let m = mask.entry in
+        Scanned m.pixels.now labels.new trees.new.parents.now m.size.h m.size.w (y * m.size.w + m.size.w) trees.new.count }
     ensures same_buffer { SameBuffer trees.old.parents trees.new.parents }
 {
+    let w = mask.size.w;
     let start = y * w;
     let mut left = 0;
     let mut diag = 0;
     for x in 0..w {
         let i = start + x;
         let up = upper(labels, w, i);
-        let l = trees.place(mask[i], left, up, diag);
+        let l = trees.place(mask.pixels[i], left, up, diag);
         labels[i] = l;
         left = l;
         diag = up;
@@ -106,14 +116,15 @@ fn scan_row(mask: &[u8], h: usize, w: usize, y: usize, trees: &mut LabelTrees, l
 }
 
 // Every pixel gets a provisional label; how many labels there are.
-fn scan(mask: &[u8], h: usize, w: usize, parents: &mut [u32], labels: &mut [u32]) -> u32
-    requires { Given mask.now parents.old labels.old h w }
-    ensures { Scanned mask.now labels.new parents.new h w (h * w) result }
+fn scan(mask: Mask, parents: &mut [u32], labels: &mut [u32]) -> u32
+    requires { Given parents.old labels.old (mask.size.h * mask.size.w) }
+    ensures { let m = mask.entry in
+        Scanned m.pixels.now labels.new parents.new m.size.h m.size.w (m.size.h * m.size.w) result }
 {
     parents[0] = 0;
     let mut trees = LabelTrees { parents, count: 0 };
-    for y in 0..h {
-        scan_row(mask, h, w, y, &mut trees, labels);
+    for y in 0..mask.size.h {
+        scan_row(mask, y, &mut trees, labels);
     }
     trees.count
 }
@@ -135,10 +146,10 @@ fn number(parents: &mut [u32], k: usize, n: u32) -> u32
     }
 }
 
-// The labels from 1 to m get the numbers of their roots, in the roots' order; how many roots there are.
+// The labels from 1 to m get the numbers of their roots, in the roots' order; how many roots there are. By index: a label's number stands
+// at its parent's place in the same buffer.
 fn flatten(parents: &mut [u32], m: u32) -> u32
-    requires trees { Trees parents.old m }
-    requires m_bound { m < 4294967296 }
+    requires { Trees parents.old m }
     ensures { Numbered parents.old parents.new m (m + 1) result }
 {
     let mut n = 0u32;
@@ -160,13 +171,13 @@ fn rename(numbers: &[u32], labels: &mut [u32])
 }
 
 // Each pixel's label, 0 where the mask is off, and the number of labels (label4). Where all labels are roots, they stay.
-// Work space: `parents`, h * w + 1 numbers.
-pub fn label(mask: &[u8], h: usize, w: usize, parents: &mut [u32], labels: &mut [u32]) -> u32
-    requires { Given mask.now parents.old labels.old h w }
-    ensures value { result ≡ parts mask.now h w }
-    ensures labels_after { labels.new ≡ labels_plane mask.now h w }
+// Work space: `parents`, a number more than there are pixels.
+pub fn label(mask: Mask, parents: &mut [u32], labels: &mut [u32]) -> u32
+    requires { Given parents.old labels.old (mask.size.h * mask.size.w) }
+    ensures value { let m = mask.entry in result ≡ parts m.pixels.now m.size.h m.size.w }
+    ensures labels_after { let m = mask.entry in labels.new ≡ labels_plane m.pixels.now m.size.h m.size.w }
 {
-    let m = scan(mask, h, w, parents, labels);
+    let m = scan(mask, parents, labels);
     let n = flatten(parents, m);
     if n == m {
         return n;

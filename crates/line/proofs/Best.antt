@@ -10,7 +10,7 @@ use lib.ListN.{length, get_or}
 use borrow.Author.Tests.{le-leb, lt-leb}
 use Rattle.line.specs.steps.Line.{most_cost, Site, value_at, offer, best, place_of, line_of}
 use Rattle.line.specs.steps.Envelope.{Leads}
-use Rattle.plane.proofs.Search.{which}
+use Rattle.std.proofs.lemmas.Bool.{cases_lt}
 use Rattle.plane.proofs.Plane.{table_at, table_is}
 use Rattle.line.proofs.Walk.{clash, same, walk_is}
 
@@ -39,7 +39,7 @@ module _ (costs : List ℕ) where
       ⊎_elim {C = (Site costs j) × (w ≡ value_at costs x j)}
       (λ (h : most_cost < get_or costs j 0). clash (offer costs x j) w (offer-none x j h) e)
       (λ (h : get_or costs j 0 ≤ most_cost). (h, same (offer costs x j) w (value_at costs x j) e (offer-site x j h)))
-      (which most_cost (get_or costs j 0))
+      (cases_lt most_cost (get_or costs j 0))
 
   -- the leader is the best
   pub leader : (x i : ℕ) → Leads costs (length costs) x i → best costs x ≡ some i
@@ -62,4 +62,4 @@ module _ (costs : List ℕ) where
       walk_is (offer costs x) (length costs) none
       (λ j l.
       offer-none x j
-      (⊎_elim (λ (z : most_cost < get_or costs j 0). z) (λ (z : Site costs j). absurd (h j l z)) (which most_cost (get_or costs j 0))))
+      (⊎_elim (λ (z : most_cost < get_or costs j 0). z) (λ (z : Site costs j). absurd (h j l z)) (cases_lt most_cost (get_or costs j 0))))

@@ -15,7 +15,7 @@ use Rattle.line.specs.steps.Line.{value_at, offer, best}
 use Rattle.line.specs.steps.Columns.{attach, chosen, Encodes}
 use Rattle.line.specs.Grid.{value_of, walk, upto, grid, plus}
 use Rattle.plane.specs.Plane.{apart}
-use Rattle.plane.proofs.Search.{which}
+use Rattle.std.proofs.lemmas.Bool.{cases_lt}
 use Rattle.line.proofs.Best.{offer-site, offer-none}
 
 -- the second where it is strictly better, else the first
@@ -43,12 +43,12 @@ module _ {P : Type 0} (f : P → Option ℕ) where
       ⊎_elim
       (λ (h : w < v). (let t = lt-ltb w v h in simp (ea, ev, ew, t)))
       (λ (h : v ≤ w). (let t = le-ltb w v h in simp (ea, ev, ew, t)))
-      (which w v)
+      (cases_lt w v)
   regroup b p c (some a) (some v) none ea ev ew =
       ⊎_elim
       (λ (h : v < a). (let t = lt-ltb v a h in simp (ea, ev, ew, t)))
       (λ (h : a ≤ v). (let t = le-ltb v a h in simp (ea, ev, ew, t)))
-      (which v a)
+      (cases_lt v a)
   regroup b p c (some a) (some v) (some w) ea ev ew =
       ⊎_elim
       (λ (h : v < a).
@@ -56,14 +56,14 @@ module _ {P : Type 0} (f : P → Option ℕ) where
       ⊎_elim
       (λ (g : w < v). (let q = lt-ltb w v g in let r = lt-ltb w a (omega arith) in simp (ea, ev, ew, t, q, r)))
       (λ (g : v ≤ w). (let q = le-ltb w v g in simp (ea, ev, ew, t, q)))
-      (which w v))
+      (cases_lt w v))
       (λ (h : a ≤ v).
       let t = le-ltb v a h in
       ⊎_elim
       (λ (g : w < v). (let q = lt-ltb w v g in simp (ea, ev, ew, t, q)))
       (λ (g : v ≤ w). (let q = le-ltb w v g in let r = le-ltb w a (omega arith) in simp (ea, ev, ew, t, q, r)))
-      (which w v))
-      (which v a)
+      (cases_lt w v))
+      (cases_lt v a)
 
   -- a walk from b is b, or what the walk from nothing gives where that is strictly better
   walk_from : (b : Option P) (ps : List P) → walk f b ps ≡ better f b (walk f none ps)
@@ -152,7 +152,7 @@ plus-lower k (some a) (some b) =
     ⊎_elim
     (λ (h : a < b). lt-ltb (a + k) (b + k) (omega arith) ∙ sym (lt-ltb a b h))
     (λ (h : b ≤ a). le-ltb (a + k) (b + k) (omega arith) ∙ sym (le-ltb a b h))
-    (which a b)
+    (cases_lt a b)
 
 walk-plus : {P : Type 0} (f : P → Option ℕ) (k : ℕ) (b : Option P) (ps : List P) → walk (λ (p : P). plus k (f p)) b ps ≡ walk f b ps
 unfolding walk

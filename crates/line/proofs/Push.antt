@@ -10,7 +10,7 @@ use native.Mathlib.Omega.{arith}
 use lib.ListN.{length, get_or, set}
 use lib.Seq.{get_or-set_same, get_or-set_other}
 use borrow.Author.Count.{below_more}
-use Rattle.plane.proofs.Search.{which}
+use Rattle.std.proofs.lemmas.Bool.{cases_lt}
 use Rattle.line.specs.steps.Line.{most_cost, Site, value_at}
 use Rattle.line.specs.steps.Envelope.{Leads, Stack, Ready, height, Stays, Dropped, takeover_at, Placed, Skips}
 use Rattle.line.proofs.Squares.{balance, beats, holds, heights, before, after}
@@ -32,7 +32,7 @@ module _ {costs : List ℕ} {u x : ℕ} where
   leads-far l none h = record {
     inside = omega (arith, h.inside);
     site = h.site;
-    least = λ j g k. ⊎_elim (λ (a : j < u). h.least j a k) (λ (a : u ≤ j). absurd (none j a g k)) (which j u);
+    least = λ j g k. ⊎_elim (λ (a : j < u). h.least j a k) (λ (a : u ≤ j). absurd (none j a g k)) (cases_lt j u);
     first = h.first;
   }
 
@@ -86,7 +86,7 @@ module _ {costs : List ℕ} {s t : ℕ → ℕ} {u count : ℕ} (st : Stack cost
   skipped : (v : ℕ) → u ≤ v → ((j : ℕ) → u ≤ j → j < v → Site costs j → ⊥) → Stack costs s t v count
   skipped v l none = record {
     small = omega (arith, st.small);
-    empty = λ e j g k. ⊎_elim (λ (a : j < u). st.empty e j a k) (λ (a : u ≤ j). none j a g k) (which j u);
+    empty = λ e j g k. ⊎_elim (λ (a : j < u). st.empty e j a k) (λ (a : u ≤ j). none j a g k) (cases_lt j u);
     start = st.start;
     inside = st.inside;
     rises = st.rises;
@@ -97,7 +97,7 @@ module _ {costs : List ℕ} {s t : ℕ → ℕ} {u count : ℕ} (st : Stack cost
     worse : (q : ℕ) → r ≤ q → q < count → value_at costs (t q) u < value_at costs (t q) (s q)
     worse q a b =
         ⊎_elim (λ (l : value_at costs (t q) u < value_at costs (t q) (s q)). l) (λ (l : Even costs s t u q). absurd (d.worse q a b l))
-        (which (value_at costs (t q) u) (value_at costs (t q) (s q)))
+        (cases_lt (value_at costs (t q) u) (value_at costs (t q) (s q)))
 
     -- u beats every stacked site: it leads everywhere
     alone : r ≡ 0 → (x : ℕ) → x < length costs → Leads costs (u + 1) x u
@@ -105,7 +105,7 @@ module _ {costs : List ℕ} {s t : ℕ → ℕ} {u count : ℕ} (st : Stack cost
         ⊎_elim
         (λ (h : 0 < count). leads-takes site (let z = st.start h in omega arith) (at-start 0 h) (worse 0 (omega arith) h))
         (λ (h : count ≤ 0). leads-new site (λ j g k. absurd (st.empty (omega arith) j g k)))
-        (which 0 count)
+        (cases_lt 0 count)
 
   -- p is the top that stays, and w where u takes over from it
   module _ (site : Site costs u) (p : ℕ) (d : Dropped (Even costs s t u) count (p + 1)) where
@@ -128,7 +128,7 @@ module _ {costs : List ℕ} {s t : ℕ → ℕ} {u count : ℕ} (st : Stack cost
     later : t p < w
     later =
         ⊎_elim (λ (h : t p < w). h) (λ (h : w ≤ t p). (let z = after costs (s p) u (t p) left h in let y = even in absurd (omega arith)))
-        (which (t p) w)
+        (cases_lt (t p) w)
 
     no-later : p + 1 < count → w ≤ t (p + 1)
     no-later g =
@@ -137,7 +137,7 @@ module _ {costs : List ℕ} {s t : ℕ → ℕ} {u count : ℕ} (st : Stack cost
         ⊎_elim
         (λ (h : t (p + 1) < w). (let z = before costs (s p) u (t (p + 1)) left no-higher h in absurd (omega arith)))
         (λ (h : w ≤ t (p + 1)). h)
-        (which (t (p + 1)) w)
+        (cases_lt (t (p + 1)) w)
 
     -- the segments that stay: the top leads up to the takeover
     segment : Lead-to costs s t (u + 1) (p + 1) w
@@ -157,7 +157,7 @@ module _ {costs : List ℕ} {s t : ℕ → ℕ} {u count : ℕ} (st : Stack cost
         let even-here : Site costs u → value_at costs x (s p) ≤ value_at costs x u = λ y. before costs (s p) u x left no-higher m in
         subst (λ (y : ℕ). t y ≤ x → Leads costs (u + 1) x (s y)) e
         (λ c. leads_stays (st.leads p low x c b (λ y. (let n = no-later y in omega arith))) even-here) a)
-        (which q p)
+        (cases_lt q p)
 
     -- from the takeover on u leads
     new-leads : (x : ℕ) → w ≤ x → x < length costs → Leads costs (u + 1) x u
@@ -169,9 +169,9 @@ module _ {costs : List ℕ} {s t : ℕ → ℕ} {u count : ℕ} (st : Stack cost
         ⊎_elim
         (λ (z : w < t (p + 1)). from-top (λ y. z))
         (λ (z : t (p + 1) ≤ w). leads-takes site (omega arith) (at-start (p + 1) g) (worse site d (p + 1) (omega arith) g))
-        (which w (t (p + 1))))
+        (cases_lt w (t (p + 1))))
         (λ (g : count ≤ p + 1). from-top (λ y. absurd (omega arith)))
-        (which (p + 1) count)
+        (cases_lt (p + 1) count)
 
     -- u is better nowhere on the line
     push-none : length costs ≤ w → Stack costs s t (u + 1) (p + 1)
@@ -233,7 +233,7 @@ module _ (out stack : List ℕ) (k u w : ℕ) (low : k < length out) (room : k <
         ⊎_elim
         (λ (h : 0 < k). same_start 0 h ∙ st.start (omega arith))
         (λ (h : k ≤ 0). (let e : k ≡ 0 = omega arith in subst (λ (m : ℕ). t' m ≡ w) e new-start ∙ first e))
-        (which 0 k)
+        (cases_lt 0 k)
 
     rises : (q : ℕ) → q + 1 < k + 1 → t' q < t' (q + 1)
     rises q h =
@@ -244,7 +244,7 @@ module _ (out stack : List ℕ) (k u w : ℕ) (low : k < length out) (room : k <
         let b : t' (q + 1) ≡ w = ap t' (omega arith) ∙ new-start in
         let z = rise q (omega arith) in
         omega arith)
-        (which (q + 1) k)
+        (cases_lt (q + 1) k)
 
     leads : (q : ℕ) → q < k + 1 → (x : ℕ) → t' q ≤ x → x < length costs → (q + 1 < k + 1 → x < t' (q + 1))
         → Leads costs (u + 1) x (s' q)
@@ -260,7 +260,7 @@ module _ (out stack : List ℕ) (k u w : ℕ) (low : k < length out) (room : k <
         let e : k ≡ q = omega arith in
         subst (λ (m : ℕ). t' m ≤ x → Leads costs (u + 1) x (s' m)) e
         (λ c. rw new-site (new x (let z = new-start in omega arith) b)) a)
-        (which q k)
+        (cases_lt q k)
 
     pushed : Stack costs s' t' (u + 1) (k + 1)
     pushed = record {
@@ -324,7 +324,7 @@ module _ {out costs stack : List ℕ} {count u : ℕ} (ready : Ready out costs s
         (λ (k : ℕ). Lead-to costs (slice_index stack) (slice_index out) (u + 1) k (takeover_at costs (slice_index stack (r - 1)) u))
         (omega arith) (segment ready.whole ready.cost (r - 1) (top (r - 1) is))))
         (λ (h : r ≤ 0). (λ q g. absurd (omega arith)))
-        (which 0 r)
+        (cases_lt 0 r)
 
     -- and from w on u does
     new : (x : ℕ) → w ≤ x → x < length costs → Leads costs (u + 1) x u
@@ -334,13 +334,13 @@ module _ {out costs stack : List ℕ} {count u : ℕ} (ready : Ready out costs s
         let is : r ≡ r - 1 + 1 = omega arith in
         new-leads ready.whole ready.cost (r - 1) (top (r - 1) is) x (let e = at.over (r - 1) is in omega arith) b)
         (λ (h : r ≤ 0). alone ready.whole ready.cost d (omega arith) x b)
-        (which 0 r)
+        (cases_lt 0 r)
 
     -- it leads before the line ends
     pub pushed-over : w < length costs → Stack costs (slice_index (set stack r u)) (slice_index (set out r w)) (u + 1) (r + 1)
     pushed-over l =
         let f = top_in in
-        pushed out stack r u w (omega (arith, ready.out_long)) (omega (arith, ready.stack_long)) ready.whole at.dropped.fewer l at.alone
+        pushed out stack r u w (omega (arith, ready.lent.out_long)) (omega (arith, ready.lent.stack_long)) ready.whole at.dropped.fewer l at.alone
         rise old new
 
     -- it leads nowhere
@@ -348,7 +348,7 @@ module _ {out costs stack : List ℕ} {count u : ℕ} (ready : Ready out costs s
     pushed-none g =
         let f = ready.inside in
         let some : 0 < r =
-        ⊎_elim (λ (h : 0 < r). h) (λ (h : r ≤ 0). (let z = at.alone (omega arith) in absurd (omega arith))) (which 0 r) in
+        ⊎_elim (λ (h : 0 < r). h) (λ (h : r ≤ 0). (let z = at.alone (omega arith) in absurd (omega arith))) (cases_lt 0 r) in
         let is : r ≡ r - 1 + 1 = omega arith in
         subst (λ (k : ℕ). Stack costs (slice_index stack) (slice_index out) (u + 1) k) (omega arith)
         (push-none ready.whole ready.cost (r - 1) (top (r - 1) is) (let z = at.over (r - 1) is in omega arith))
@@ -361,4 +361,4 @@ skipped-to {costs} {s} {t} {u} st g v k =
     (λ j a b h.
     ⊎_elim (λ (l : u < j). (let z = k.none j (omega arith) b in omega arith))
     (λ (l : j ≤ u). (let e : u ≡ j = omega arith in let z = subst (λ (i : ℕ). most_cost < get_or costs i 0) e g in omega arith))
-    (which u j))
+    (cases_lt u j))

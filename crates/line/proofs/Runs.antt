@@ -13,7 +13,7 @@ use lib.ListN.{length, get_or, set}
 use lib.Seq.{get_or-set_same, get_or-set_other}
 use borrow.Author.Count.{below_more}
 use Rattle.plane.specs.Plane.{apart}
-use Rattle.plane.proofs.Search.{which}
+use Rattle.std.proofs.lemmas.Bool.{cases_lt}
 use Rattle.line.specs.steps.FirstLeast.{Answers}
 use Rattle.line.specs.steps.Line.{most_length, no_place, Site, value_at, offer, best, place_of, line_of}
 use Rattle.line.specs.steps.Envelope.{Leads, Stack, Segments, InSegment}
@@ -83,7 +83,7 @@ module _ (costs : List ℕ) (x : ℕ) where
       ⊎_elim
       (λ (p : 0 < apart x j). (let s = square-lt p in omega arith))
       (λ (p : apart x j ≤ 0). (let q = subst (λ (i : ℕ). get_or costs i 0 ≡ 0 → ⊥) (sym (apart-zero x j (omega arith))) n in omega arith))
-      (which 0 (apart x j))
+      (cases_lt 0 (apart x j))
 
   -- and at the place behind it, where that has a cost
   left-place : 0 < x → x < length costs → get_or costs (x - 1) 0 ≡ 0 → (get_or costs x 0 ≡ 0 → ⊥) → best costs x ≡ some (x - 1)
@@ -175,9 +175,9 @@ module _ (costs : List ℕ) (a k : ℕ) (within : a + k ≤ length costs) (left 
                 ⊎_elim
                 (λ (g : j < a). (let m = before-run j g in omega arith))
                 (λ (g : a ≤ j).
-                ⊎_elim (λ (f : j < a + k). among j g f s) (λ (f : a + k ≤ j). (let m = behind-run j f l in omega arith)) (which j (a + k)))
-                (which j a);
-            first = λ j l s. ⊎_elim (λ (g : j < a). before-run j g) (λ (g : a ≤ j). among_first j g l s) (which j a);
+                ⊎_elim (λ (f : j < a + k). among j g f s) (λ (f : a + k ≤ j). (let m = behind-run j f l in omega arith)) (cases_lt j (a + k)))
+                (cases_lt j a);
+            first = λ j l s. ⊎_elim (λ (g : j < a). before-run j g) (λ (g : a ≤ j). among_first j g l s) (cases_lt j a);
           }
 
     -- a run with no site is the whole line
@@ -187,10 +187,10 @@ module _ (costs : List ℕ) (a k : ℕ) (within : a + k ≤ length costs) (left 
         let off : (i : ℕ) → a ≤ i → i < a + k → Site costs i → ⊥ =
         shifted (λ (i : ℕ). Site costs i → ⊥) a k (λ i g t. n i (omega arith) (let c = part_at costs a k i 0 g in omega arith)) in
         let start =
-        ⊎_elim (λ (p : 0 < a). absurd (off a (omega arith) (omega arith) (let z = left p in omega arith))) (λ (p : a ≤ 0). p) (which 0 a) in
+        ⊎_elim (λ (p : 0 < a). absurd (off a (omega arith) (omega arith) (let z = left p in omega arith))) (λ (p : a ≤ 0). p) (cases_lt 0 a) in
         let end =
         ⊎_elim (λ (p : a + k < length costs). absurd (off (a + k - 1) (omega arith) (omega arith) (let z = right p in omega arith)))
-        (λ (p : length costs ≤ a + k). p) (which (a + k) (length costs)) in
+        (λ (p : length costs ≤ a + k). p) (cases_lt (a + k) (length costs)) in
         off j (omega arith) (omega arith)
 
     run-from : (b : Option ℕ) → best run y ≡ b → place_from a b ≡ place_of (best costs (a + y))
@@ -295,6 +295,6 @@ module _ {costs out : List ℕ} {x : ℕ} (size : length out ≡ length costs) (
                   (λ (z : a ≤ i).
                   shifted (λ (m : ℕ). get_or (put_mid a (e - a) out new) m 0 ≡ place_of (best costs m)) a (e - a) run-answers i z
                   (omega arith))
-                  (which i a);
+                  (cases_lt i a);
               bound = λ _ q. inl (ends.bound q);
             }

@@ -8,7 +8,7 @@ use native.Mathlib.Nat.{mul-add, add-mul, one-mul, mul-one, mul_comm, mul_left_c
 use native.Mathlib.Nat.{le-div_iff_mul-le, div-lt_iff_lt-mul}
 use native.Mathlib.Omega.{arith}
 use Rattle.plane.specs.Plane.{apart}
-use Rattle.plane.proofs.Search.{which}
+use Rattle.std.proofs.lemmas.Bool.{cases_lt}
 use Rattle.line.specs.steps.Line.{value_at}
 use Rattle.line.specs.steps.Envelope.{height, takeover_at}
 
@@ -37,7 +37,7 @@ square-apart x i =
     let s : d * d + 2 * (i * x) ≡ i * i + x * x = rw e at (square-sum i d) in
     let m : x * i ≡ i * x = mul_comm x i in
     rw z (omega arith))
-    (which x i)
+    (cases_lt x i)
 
 module _ (costs : List ℕ) where
   -- the one equation: at x the values of i and u differ by what is linear in x
@@ -125,7 +125,7 @@ square-lt {a} {b} h =
     omega (arith, rw (add-mul, mul-add, one-mul, mul-one) at m)
 
 pub root-le : (a b : ℕ) → a * a ≤ b * b → a ≤ b
-root-le a b h = ⊎_elim (λ (l : b < a). (let z = square-lt l in absurd (omega arith))) (λ (l : a ≤ b). l) (which b a)
+root-le a b h = ⊎_elim (λ (l : b < a). (let z = square-lt l in absurd (omega arith))) (λ (l : a ≤ b). l) (cases_lt b a)
 
 pub root-lt : (a b : ℕ) → a * a < b * b → a < b
-root-lt a b h = ⊎_elim (λ (l : a < b). l) (λ (l : b ≤ a). (let z = square_le l in absurd (omega arith))) (which a b)
+root-lt a b h = ⊎_elim (λ (l : a < b). l) (λ (l : b ≤ a). (let z = square_le l in absurd (omega arith))) (cases_lt a b)

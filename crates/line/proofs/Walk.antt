@@ -12,7 +12,8 @@ use borrow.Author.Tests.{lt-ltb, le-ltb}
 use Rattle.line.specs.steps.FirstLeast.{first_least, First, Answers}
 use Rattle.line.specs.Walk.{lower}
 use Rattle.line.specs.Grid.{value_of}
-use Rattle.plane.proofs.Search.{which, below_suc}
+use Rattle.plane.proofs.Search.{below_suc}
+use Rattle.std.proofs.lemmas.Bool.{cases_lt}
 
 -- no place holds a number and none at once
 pub clash : {R : Type 0} (v : Option ℕ) (a : ℕ) → v ≡ none → v ≡ some a → R
@@ -64,7 +65,7 @@ module _ (f : ℕ → Option ℕ) where
       rw (less w h.0 l) (w, takes n w e (λ j x g q. (let z = h.1.least j x g q in omega arith))))
       (λ (l : h.0 ≤ w).
       rw (no_less w h.0 l) (h.0, stays n i h.0 h.1 (λ x q. (let z = same (f n) w x e q in omega arith))))
-      (which w h.0))
+      (cases_lt w h.0))
 
   -- what the walk answers is so
   pub walk-answers : (n : ℕ) → Answers f n (first_least f n)
@@ -87,8 +88,8 @@ module _ (f : ℕ → Option ℕ) where
       ⊎_elim
       (λ (g : j < i). (let z = p.1.first j q.0 g q.1.here in absurd (omega arith)))
       (λ (g : i ≤ j). omega arith)
-      (which j i))
-      (which i j) in
+      (cases_lt j i))
+      (cases_lt i j) in
       ap {B = Option ℕ} some e
 
   -- and nothing else is

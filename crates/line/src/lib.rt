@@ -1,14 +1,17 @@
 // The line pass of an exact Euclidean feature transform: for each place of a line the first site with the least cost + (x - i)².
 // The stack has two numbers for each of its sites: the site itself, in the slice stack, and the place where it starts to lead, in
 // the slice of the answers, out. No answer is written over a start that is still needed: site q does not start to lead before place q.
+// The slices stay three parameters: a call that is lent a struct of several `&mut` gets no proof.
+// The loops over the stack go by index: a step reads two slices at one place, and in `answer` the loop writes a part of one of them.
 #![tactic(auto)]
 
 ghost use Rattle.std.specs.Prelude.{◌≡◌, ℕ, ◌+◌, ◌*◌, ◌-◌, ◌/◌, ◌<◌, ◌≤◌, length, slice_index, IsTrue};
 ghost use Rattle.line.specs.steps.Line.{most_cost, most_length, line_of};
+ghost use Rattle.line.specs.steps.Lent.{Lent};
 ghost use Rattle.line.specs.steps.Envelope.{Stack, Placed, Ready, Skips, Segments, InSegment};
 ghost use Rattle.line.specs.steps.Run.{Ends, Lone, Ran};
 
-// A place whose cost is above this has no site: 65,535².
+// A place whose cost is above this has no site: 65,535². A number and no Option, since the costs are lent numbers.
 pub const MAX_COST: u32 = 4294836225;
 
 // What is written where the line has no site. A number and no Option, since the answers are lent numbers.
@@ -20,7 +23,7 @@ fn high(cost: u32, i: usize) -> u64
     ensures { result ≡ cost + i * i }
 {
     let d = i as u64;
-    cost as u64 + d * d
+    u64::from(cost) + d * d
 }
 
 // The first x at which a site is strictly better than one that lies step places to its left and is lower by rise.
@@ -39,7 +42,7 @@ fn takeover(rise: usize, step: usize) -> usize
 }
 
 // Where a site goes on the stack: how many sites stay below it, and the place where it starts to lead.
-#[derive(Drop)]
+#[derive(Clone, Copy)]
 struct Spot {
     stay: usize,
     from: usize,
@@ -72,18 +75,18 @@ fn push_site(out: &mut [u32], costs: &[u32], stack: &mut [u32], count: usize, u:
     requires { Ready out.old costs.now stack.old count u }
     ensures { Stack costs.now (slice_index stack.new) (slice_index out.new) (u + 1) result }
 {
-    let spot = find_spot(out, costs, stack, count, u);
-    let k = spot.stay;
-    let from = spot.from;
+    let Spot { stay, from } = find_spot(out, costs, stack, count, u);
     if from < costs.len() {
-        stack[k] = u as u32;
-        out[k] = from as u32;
-        return k + 1;
+        stack[stay] = u as u32;
+        out[stay] = from as u32;
+        return stay + 1;
     }
-    k
+    stay
 }
 
 // The next place from x on that has a site; the end of the line where there is none.
+// This and run_end are loops of their own: both as one function over a closure, or by `position`, were tried, and then the pass takes a
+// tenth longer where every pixel or every second one is on.
 fn next_site(costs: &[u32], x: usize) -> usize
     requires { x ≤ length costs.now }
     ensures { Skips costs.now x result }
@@ -98,9 +101,7 @@ fn next_site(costs: &[u32], x: usize) -> usize
 
 // The stack of the whole line; the number of its sites.
 fn build(out: &mut [u32], costs: &[u32], stack: &mut [u32]) -> usize
-    requires short { length costs.now ≤ most_length }
-    requires out_long { length out.old ≡ length costs.now }
-    requires stack_long { length costs.now ≤ length stack.old }
+    requires { Lent out.old costs.now stack.old }
     ensures { Stack costs.now (slice_index stack.new) (slice_index out.new) (length costs.now) result }
 {
     let mut count = 0;
@@ -133,9 +134,7 @@ fn answer(out: &mut [u32], stack: &[u32], count: usize, base: usize)
 
 // The line pass over a part of the line that starts at base.
 fn run(out: &mut [u32], costs: &[u32], stack: &mut [u32], base: usize)
-    requires short { length costs.now ≤ most_length }
-    requires out_long { length out.old ≡ length costs.now }
-    requires stack_long { length costs.now ≤ length stack.old }
+    requires lent { Lent out.old costs.now stack.old }
     requires low { base ≤ most_length }
     ensures { Ran out.new costs.now base }
 {
@@ -172,9 +171,7 @@ fn lone(costs: &[u32], x: usize) -> bool
 // A place of cost 0 is its own answer, and the answer of a place behind it that has a cost;
 // sites beyond it do not count on this side of it. So the line is done run by run: a run starts at the place before x.
 pub fn line(out: &mut [u32], costs: &[u32], stack: &mut [u32])
-    requires short { length costs.now ≤ most_length }
-    requires out_long { length out.old ≡ length costs.now }
-    requires stack_long { length costs.now ≤ length stack.old }
+    requires { Lent out.old costs.now stack.old }
     ensures { out.new ≡ line_of costs.now }
 {
     let mut x = 0;

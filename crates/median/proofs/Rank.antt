@@ -9,7 +9,7 @@ use native.Mathlib.Nat.{le_refl, le_trans, le_antisymm, le_of_lt, le_of_suc-le-s
 use native.Mathlib.Omega.{arith}
 use lib.Dec.{ltb, leb, leb-suc-suc}
 use lib.ListN.{length, get_or}
-use Rattle.plane.proofs.Search.{which}
+use Rattle.std.proofs.lemmas.Bool.{cases_lt}
 use borrow.Author.Tests.{lt-ltb, le-ltb, le-leb, lt-leb, ltb-true, ltb-false, leb-true, leb-false}
 
 -- insertion sort
@@ -205,4 +205,4 @@ next_place b l k h u =
         (⊎_elim
         (λ (g : y < least_n b x l). absurd (omega (arith, gap-count b x y l up g)))
         (λ (g : least_n b x l ≤ y). g)
-        (which y (least_n b x l)))
+        (cases_lt y (least_n b x l)))

@@ -14,7 +14,7 @@ use lib.Ieee.Bits.{of_bits-to_bits, of_bits-fits, nan_bits_is}
 use lib.Ieee.Scale.{finite}
 use borrow.Author.Tests.{eqb-true, eqb-false}
 use Rattle.plane.proofs.Plane.{table-length, table_at}
-use Rattle.plane.proofs.Search.{either}
+use Rattle.std.proofs.lemmas.Bool.{cases_Bool}
 use Rattle.colour.specs.Number.{Binary64}
 use Rattle.colour.specs.Colour.{colour_ok, colours_ok}
 use Rattle.colour.proofs.Range.{is, ok-finite, colours-at}
@@ -96,7 +96,7 @@ module _ (v : List ℕ) (k low high : ℕ) (h : k < length (floats_of v)) where
           ⊎_elim {C = float_at written i ≡ get_or (set (floats_of v) k x) i nan}
           (λ (z : eqb i k ≡ true). rw (eqb-true i k z) here)
           (λ (z : eqb i k ≡ false). apart i m (eqb-false i k z))
-          (either (eqb i k))
+          (cases_Bool (eqb i k))
 
 -- ---- the first n numbers
 pub floats-take : (v : List ℕ) (n : ℕ) → n ≤ length (floats_of v) → floats_of (take (2 * n) v) ≡ take n (floats_of v)

@@ -14,7 +14,7 @@ use Rattle.nearest.specs.steps.Indices.{indices_plane}
 use Rattle.nearest.proofs.Laws.{nearest-some}
 
 -- the index of an answer lies in the plane
-index-inside : (mask : List ℕ) (h w y x : ℕ) (r : Option (ℕ × ℕ)) → 0 < h * w → nearest mask h w y x ≡ r → index_of w r < h * w
+pub index-inside : (mask : List ℕ) (h w y x : ℕ) (r : Option (ℕ × ℕ)) → 0 < h * w → nearest mask h w y x ≡ r → index_of w r < h * w
 unfolding index_of
 index-inside mask h w y x none p e = p
 index-inside mask h w y x (some q) p e =

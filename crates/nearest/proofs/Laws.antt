@@ -9,7 +9,8 @@ use Prim.Native.Nat.{ℕ, suc, ◌+◌, ◌*◌, ◌-◌, ◌≤◌, ◌<◌}
 use native.Mathlib.Omega.{arith}
 use borrow.Author.Tests.{lt-ltb, le-ltb}
 use Rattle.plane.specs.Plane.{on_at, apart}
-use Rattle.plane.proofs.Search.{which, either, not-both}
+use Rattle.plane.proofs.Search.{not-both}
+use Rattle.std.proofs.lemmas.Bool.{cases_Bool, cases_lt}
 use Rattle.line.specs.steps.FirstLeast.{first_least, First, Answers}
 use Rattle.line.specs.steps.Columns.{attach, chosen}
 use Rattle.line.specs.Grid.{value_of, upto, plus}
@@ -38,14 +39,14 @@ module _ (mask : List ℕ) (h w y x : ℕ) where
       ⊎_elim {C = (on_at mask w j i ≡ true) × (v ≡ away y x j i)}
       (λ (t : on_at mask w j i ≡ true). (t, same (far i j) v (away y x j i) e (on-far i j t)))
       (λ (t : on_at mask w j i ≡ false). clash (far i j) v (off-far i j t) e)
-      (either (on_at mask w j i))
+      (cases_Bool (on_at mask w j i))
 
   far-off : (i j : ℕ) → far i j ≡ none → on_at mask w j i ≡ false
   far-off i j e =
       ⊎_elim {C = on_at mask w j i ≡ false}
       (λ (t : on_at mask w j i ≡ true). clash (far i j) (away y x j i) e (on-far i j t))
       (λ (t : on_at mask w j i ≡ false). t)
-      (either (on_at mask w j i))
+      (cases_Bool (on_at mask w j i))
 
   -- what an answer says
   Good : Option (ℕ × ℕ) → Type 0
@@ -114,12 +115,12 @@ module _ (mask : List ℕ) (h w y x : ℕ) where
   column-le : {i j k l : ℕ} → IsNearest mask h w y x i j → IsNearest mask h w y x k l → i ≤ k
   column-le {i} {j} {k} {l} p q =
       let m = q.least j i p.row_inside p.column_inside p.pixel_on in
-      ⊎_elim (λ (g : k < i). (let z = p.first_column l k q.row_inside g q.pixel_on in absurd (omega arith))) (λ g. g) (which k i)
+      ⊎_elim (λ (g : k < i). (let z = p.first_column l k q.row_inside g q.pixel_on in absurd (omega arith))) (λ g. g) (cases_lt k i)
 
   row-le : {i j l : ℕ} → IsNearest mask h w y x i j → IsNearest mask h w y x i l → j ≤ l
   row-le {i} {j} {l} p q =
       let m = q.least j i p.row_inside p.column_inside p.pixel_on in
-      ⊎_elim (λ (g : l < j). (let z = p.first_row l g q.pixel_on in absurd (omega arith))) (λ g. g) (which l j)
+      ⊎_elim (λ (g : l < j). (let z = p.first_row l g q.pixel_on in absurd (omega arith))) (λ g. g) (cases_lt l j)
 
   one : (i j k l : ℕ) → IsNearest mask h w y x i j → IsNearest mask h w y x k l → (i ≡ k) × (j ≡ l)
   one i j k l p q =
@@ -165,8 +166,8 @@ towards-by P j y a b c =
     (λ (l : j < y). rw (lt-ltb j y l) (a l))
     (λ (l : y ≤ j).
     rw (le-ltb j y l)
-    (⊎_elim (λ (m : y < j). rw (lt-ltb y j m) (b m)) (λ (m : j ≤ y). rw (le-ltb y j m) (c (omega arith))) (which y j)))
-    (which j y)
+    (⊎_elim (λ (m : y < j). rw (lt-ltb y j m) (b m)) (λ (m : j ≤ y). rw (le-ltb y j m) (c (omega arith))) (cases_lt y j)))
+    (cases_lt j y)
 
 pub towards-inside : (n j y : ℕ) → j < n → y < n → towards j y < n
 towards-inside n j y a b = towards-by (λ (t : ℕ). t < n) j y (λ l. omega arith) (λ l. omega arith) (λ e. a)
@@ -194,8 +195,8 @@ step-nearer y x j i n =
     ⊎_elim
     (λ (m : 0 < apart x i). (let s = square-lt {a = apart x i - 1} {b = apart x i} (omega arith) in omega arith))
     (λ (m : apart x i ≤ 0). absurd (n (apart-zero y j (omega arith), apart-zero x i (omega arith))))
-    (which 0 (apart x i)))
-    (which 0 (apart y j)))
+    (cases_lt 0 (apart x i)))
+    (cases_lt 0 (apart y j)))
 
 module _ (mask : List ℕ) (h w y x : ℕ) (row : y < h) (column : x < w) where
   -- so that pixel is off
@@ -209,7 +210,7 @@ module _ (mask : List ℕ) (h w y x : ℕ) (row : y < h) (column : x < w) where
       (λ (t : on_at mask w (towards j y) (towards i x) ≡ true).
       (let l = p.least (towards j y) (towards i x) j' i' t in absurd (omega arith)))
       (λ t. t)
-      (either (on_at mask w (towards j y) (towards i x)))
+      (cases_Bool (on_at mask w (towards j y) (towards i x)))
 
 -- ---- distances
 

@@ -13,7 +13,7 @@ use lib.ListN.{length, get_or, take, drop}
 use lib.Seq.{get_or-take, get_or-drop}
 use borrow.Author.Tests.{lt-ltb, le-ltb}
 use Rattle.plane.specs.Plane.{on, on_at, apart}
-use Rattle.plane.proofs.Search.{which}
+use Rattle.std.proofs.lemmas.Bool.{cases_lt}
 use Rattle.plane.proofs.Plane.{row_in, pixel-in}
 use Rattle.line.specs.steps.FirstLeast.{first_least, Answers}
 use Rattle.line.specs.steps.Line.{most_cost, most_length, no_place, offer, best, place_of, line_of}
@@ -64,14 +64,14 @@ module _ (mask : List ℕ) (h w : ℕ) where
       (here x g
       ∙ ap (cond (on (get_or mask (y * w + x) 0)) y) (ap (λ (i : ℕ). get_or old i 0) next ∙ before (y + 1) x (omega arith) (omega arith) g)
       ∙ sym (below-own y x l)))
-      (which y j)
+      (cases_lt y j)
 
   -- the plane is the front of the buffer, and the line behind it is that of the nearest on-rows
-  pub swept-start : (work : List ℕ) → BelowFrom mask h w 0 work → Swept mask h w 0 (take (h * w) work) (take w (drop (h * w) work))
+  pub swept-start : (work : List ℕ) → BelowFrom mask h w 0 work → Swept mask h w 0 (take (h * w) work) (drop (h * w) work)
   unfolding above_at
   swept-start work b = record {
     above = λ x g.
-        get_or-take w (drop (h * w) work) x 0 g ∙ get_or-drop (h * w) work x 0 ∙ b h x (omega arith) (omega arith) g ∙ below_none x;
+        get_or-drop (h * w) work x 0 ∙ b h x (omega arith) (omega arith) g ∙ below_none x;
     below = λ j x a l g. get_or-take (h * w) work (j * w + x) 0 (pixel-in j x h w l g) ∙ b j x a (omega arith) g;
   }
 
@@ -92,7 +92,7 @@ module _ (mask : List ℕ) (h w : ℕ) where
 
   -- a row or no_row
   low : (a : ℕ) → h ≤ most_length → (h ≤ a → a ≡ no_row) → a ≤ no_row
-  low a short e = ⊎_elim (λ (l : a < h). omega arith) (λ (l : h ≤ a). (let z = e l in omega arith)) (which a h)
+  low a short e = ⊎_elim (λ (l : a < h). omega arith) (λ (l : h ≤ a). (let z = e l in omega arith)) (cases_lt a h)
 
   -- the nearest on-row of row y from that of the row above
   near_step : (y x : ℕ) → y < h → h ≤ most_length → near_at mask h w y x ≡ nearer y (below_at mask h w y x) (above_at mask h w y x)
@@ -220,9 +220,9 @@ module _ (mask : List ℕ) (h w : ℕ) where
               omega arith
 
           -- its cost gives the distance
-          pub distance_is : distance_in costs y x place ≡ distance mask h w y x
+          pub chosen-distance : distance_in costs y x place ≡ distance mask h w y x
           unfolding distance_in away square_cost pixel_in
-          distance_is =
+          chosen-distance =
               ⊎_elim
               (λ (l : place < w).
               let z = chosen-row (omega arith) in
@@ -232,4 +232,4 @@ module _ (mask : List ℕ) (h w : ℕ) where
               (λ (l : w ≤ place).
               rw (le-ltb place (length costs) (omega arith))
               (sym (distance_none mask h w y x (sym pixel ∙ rw (le-ltb place (length near') (omega arith))))))
-              (which place w)
+              (cases_lt place w)

@@ -9,7 +9,8 @@ use native.Mathlib.Omega.{arith}
 use lib.Dec.{ltb}
 use borrow.Author.Tests.{lt-ltb, le-ltb, ne_eqb}
 use Rattle.plane.specs.Plane.{apart}
-use Rattle.plane.proofs.Search.{which, either, not-both}
+use Rattle.plane.proofs.Search.{not-both}
+use Rattle.std.proofs.lemmas.Bool.{cases_Bool, cases_lt}
 use Rattle.line.specs.steps.FirstLeast.{first_least, Answers}
 use Rattle.line.specs.steps.Line.{most_length}
 use Rattle.line.proofs.Squares.{apart-left, apart-right, square_le, square-lt, root-le, root-lt}
@@ -33,7 +34,7 @@ module _ (p : ℕ → Bool) where
       ⊎_elim {C = (p j ≡ true) × (v ≡ apart y j * apart y j)}
       (λ (t : p j ≡ true). (t, same (row_number y j) v (apart y j * apart y j) e (on-number y j t)))
       (λ (t : p j ≡ false). clash (row_number y j) v (off-number y j t) e)
-      (either (p j))
+      (cases_Bool (p j))
 
   -- ---- the nearest on-row
 
@@ -91,9 +92,9 @@ module _ (p : ℕ → Bool) where
         )))
         (λ (l : h ≤ b).
         let off : (k : ℕ) → k < h → row_number y k ≡ none = λ k g.
-        ⊎_elim (λ (t : p k ≡ true). (let m = (n.least k g t).0 in absurd (omega arith))) (λ t. off-number y k t) (either (p k)) in
+        ⊎_elim (λ (t : p k ≡ true). (let m = (n.least k g t).0 in absurd (omega arith))) (λ t. off-number y k t) (cases_Bool (p k)) in
         ap row_code (walk_is (row_number y) h none off) ∙ (let e = n.missing l in omega arith))
-        (which b h)
+        (cases_lt b h)
 
   -- ---- the first on-row at or below
 
@@ -108,7 +109,7 @@ module _ (p : ℕ → Bool) where
     missing = r.missing;
     here = λ l. (let z = r.here l in (omega arith, z.1));
     first = λ k g l q.
-        ⊎_elim (λ (m : y < k). r.first k m l q) (λ (m : k ≤ y). (let e : k ≡ y = omega arith in not-both (p k) q (rw e t))) (which y k);
+        ⊎_elim (λ (m : y < k). r.first k m l q) (λ (m : k ≤ y). (let e : k ≡ y = omega arith in not-both (p k) q (rw e t))) (cases_lt y k);
   }
 
   pub first-from : (n y h : ℕ) → h ≤ no_row → y + n ≡ h → FirstFrom y h (first_from p y n)
@@ -120,7 +121,7 @@ module _ (p : ℕ → Bool) where
       (λ (t : p y ≡ true).
       rw t (record { missing = λ l. absurd (omega arith); here = λ l. (omega arith, t); first = λ k g l q. g }))
       (λ (t : p y ≡ false). rw t (from-off y h (first_from p (suc y) n) t (first-from n (suc y) h m (omega arith))))
-      (either (p y))
+      (cases_Bool (p y))
 
   -- one row further up
   pub first_step : (y h : ℕ) → y < h → first_from p y (h - y) ≡ cond (p y) y (first_from p (y + 1) (h - (y + 1)))
@@ -161,11 +162,11 @@ module _ (p : ℕ → Bool) where
         ⊎_elim {C = Up k ⊎ Down k}
         (λ (g : k < suc z). inl (apart-left (suc z) k (omega arith), apart-left z k (omega arith)))
         (λ (g : suc z ≤ k). inr (apart-right (suc z) k g, apart-right z k (omega arith)))
-        (which k (suc z))
+        (cases_lt k (suc z))
 
     takes-a : a + b < 2 * suc z → Near h (suc z) a
     takes-a t =
-        let low : a < h = ⊎_elim (λ (l : a < h). l) (λ (l : h ≤ a). (let e = f.missing l in absurd (omega arith))) (which a h) in
+        let low : a < h = ⊎_elim (λ (l : a < h). l) (λ (l : h ≤ a). (let e = f.missing l in absurd (omega arith))) (cases_lt a h) in
         let from = (f.here low).0 in
         let ea = apart-right (suc z) a from in
         let eb = apart-left z b (omega arith) in
@@ -207,4 +208,4 @@ module _ (p : ℕ → Bool) where
         (⊎_elim {C = Near h (suc z) (cond (ltb (a + b) (2 * suc z)) a b)}
         (λ (t : a + b < 2 * suc z). rw (lt-ltb (a + b) (2 * suc z) t) (takes-a t))
         (λ (t : 2 * suc z ≤ a + b). rw (le-ltb (a + b) (2 * suc z) t) (takes-b t))
-        (which (a + b) (2 * suc z)))
+        (cases_lt (a + b) (2 * suc z)))

@@ -1,4 +1,3 @@
 pub mod Stages
 pub mod Indices
-pub mod Room
 pub mod Towards

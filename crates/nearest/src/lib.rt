@@ -2,15 +2,21 @@
 // First stage: the nearest on-row of each column, in two sweeps over the rows. Second stage: the line pass along each row.
 // What stands between the stages is kept in one lent buffer: h rows of w numbers, and behind them three lines of w numbers:
 // the nearest on-rows of the row at hand, their costs, and the sites of the line pass's stack.
+// The loops that write a line, or lines of a plane, go by index: behind an adapter of `iter_mut` or `chunks_mut` nothing is known of what was
+// written. That a line is short stays a clause: it is said of near, of costs and of cols, and cols is written, so that one type would not
+// do. What is said of two slices at once (equal lengths, IsRow) is no ghost field of one,
+// nor is how much room is lent, since what is lent is written.
 #![tactic(auto)]
 
-ghost use Rattle.std.specs.Prelude.{◌≡◌, cond, List, ℕ, ◌+◌, ◌*◌, ◌<◌, ◌≤◌, pos, length, take, slice_index, slice_index_or, EachIndex};
+ghost use Rattle.std.specs.Prelude.{◌≡◌, cond, List, ℕ, ◌+◌, ◌*◌, ◌<◌, ◌≤◌, pos, length, take};
+ghost use Rattle.std.specs.Prelude.{slice_index, slice_index_or, EachIndex};
 ghost use Rattle.plane.specs.Plane.{on, index_of};
 ghost use Rattle.line.specs.steps.Line.{most_length};
 ghost use Rattle.nearest.specs.Nearest.{row_of, column_of, rows_plane, columns_plane, distance_plane};
-ghost use Rattle.nearest.specs.steps.Room.{Room, IndexRoom, DistanceRoom};
-ghost use Rattle.nearest.specs.steps.Stages.{no_row, nearer, square_cost, BelowFrom, pixel_in, IsRow, distance_in};
+ghost use Rattle.nearest.specs.steps.Stages.{no_row, nearer, square_cost, BelowFrom, Swept, pixel_in, IsRow, distance_in, Passed};
 ghost use Rattle.nearest.specs.steps.Indices.{indices_plane};
+
+use plane::size::Mask;
 
 // Stands for the row of a column that has no on-pixel. A number and no Option, since it stands in the lent buffer of numbers.
 const NO_ROW: u32 = 1073741824;
@@ -45,67 +51,126 @@ fn below_line(mask: &[u8], y: u32, row: &mut [u32], next: &[u32])
 // below the last row, and is the line from which the second sweep starts.
 // It goes from row to row by a subtraction that ends at 0 and not by a product: of products the compiler knows that the rows go
 // backwards, and then it does not test whether what is read and what is written lie apart, but goes on number by number.
-fn below(mask: &[u8], h: usize, w: usize, work: &mut [u32])
-    requires { IndexRoom h w mask.now work.old }
-    ensures { BelowFrom mask.now h w 0 work.new }
+fn below(mask: Mask, work: &mut [u32])
+    requires { mask.size.h * mask.size.w + mask.size.w ≤ length work.old }
+    ensures { BelowFrom mask.entry.pixels.now mask.entry.size.h mask.entry.size.w 0 work.new }
 {
-    let n = h * w;
-    work[n..n + w].fill(NO_ROW);
-    let mut at = n;
-    for y in (0..h).rev() {
+    let w = mask.size.w;
+    let mut at = mask.size.area();
+    work[at..at + w].fill(NO_ROW);
+    for y in (0..mask.size.h).rev() {
         at = at.saturating_sub(w);
         let (_, rows) = work.split_at_mut(at);
         let (row, rest) = rows.split_at_mut(w);
-        below_line(&mask[at..at + w], y as u32, row, &rest[..w]);
+        below_line(&mask.pixels[at..at + w], y as u32, row, &rest[..w]);
     }
 }
 
-// Of a, the first on-row at or below row y, and b, the nearest of the row above: the nearer to y; b where they are equally near.
-// No row is above row 0.
-#[tactic(auto, unfolding(crate::specs::steps::Stages::nearer))]
-fn nearer_row(y: u32, a: u32, b: u32) -> u32
-    requires { (y < most_length) × (a ≤ no_row) × (b ≤ no_row) }
-    ensures { result ≡ nearer y a b }
-{
-    if (y == 0) | (a + b < 2 * y) { a } else { b }
+// The row at hand: how far rows, columns and pixels are from it.
+#[derive(Clone, Copy)]
+struct Row {
+    y: u32,
+    ghost inside: { y < most_length },
 }
 
-// For each column the nearest on-row of row y; near has it for the row above, and row the first on-row at or below.
-fn nearer_line(y: u32, row: &[u32], near: &mut [u32])
-    requires row_in { y < most_length }
-    requires row_long { length row.now ≡ length near.old }
-    requires row_low { EachIndex row.now (λ x. slice_index row.now x ≤ no_row) }
-    requires near_low { EachIndex near.old (λ x. slice_index near.old x ≤ no_row) }
-    ensures { EachIndex near.new
-        (λ x. slice_index near.new x ≡ nearer y (slice_index row.now x) (slice_index near.old x)) }
-{
-    for x in 0..near.len() {
-        near[x] = nearer_row(y, row[x], near[x]);
+impl Row {
+    // Of a, the first on-row at or below row y, and b, the nearest of the row above: the nearer to y; b where they are equally near.
+    // No row is above row 0.
+    #[tactic(auto, unfolding(crate::specs::steps::Stages::nearer))]
+    fn nearer(self, a: u32, b: u32) -> u32
+        requires { (a ≤ no_row) × (b ≤ no_row) }
+        ensures { result ≡ nearer self.y a b }
+    {
+        let y = self.y;
+        if (y == 0) | (a + b < 2 * y) { a } else { b }
+    }
+
+    // For each column the nearest on-row of row y; near has it for the row above, and row the first on-row at or below.
+    fn nearer_line(self, row: &[u32], near: &mut [u32])
+        requires row_long { length row.now ≡ length near.old }
+        requires row_low { EachIndex row.now (λ x. slice_index row.now x ≤ no_row) }
+        requires near_low { EachIndex near.old (λ x. slice_index near.old x ≤ no_row) }
+        ensures { EachIndex near.new
+            (λ x. slice_index near.new x ≡ nearer self.y (slice_index row.now x) (slice_index near.old x)) }
+    {
+        for x in 0..near.len() {
+            near[x] = self.nearer(row[x], near[x]);
+        }
+    }
+
+    // The square of the distance to row r; NO_COST where r is no row.
+    #[tactic(auto, unfolding(crate::specs::steps::Stages::square_cost, plane::specs::Plane::apart))]
+    fn cost(self, r: u32) -> u32
+        ensures { result ≡ square_cost self.y r }
+    {
+        let d = self.y.abs_diff(r);
+        if r < MOST_ROWS { d * d } else { NO_COST }
+    }
+
+    // What each column costs, seen from row y.
+    fn costs_line(self, near: &[u32], costs: &mut [u32])
+        requires { length near.now ≡ length costs.old }
+        ensures { EachIndex costs.new (λ x. slice_index costs.new x ≡ square_cost self.y (slice_index near.now x)) }
+    {
+        for x in 0..costs.len() {
+            costs[x] = self.cost(near[x]);
+        }
+    }
+
+    // The squared distance of place x to column i's on-pixel, which costs[i] lies from row y; with no such column, to row -1 and column 0.
+    #[tactic(auto, unfolding(crate::specs::steps::Stages::distance_in, plane::specs::Plane::apart))]
+    fn distance(self, costs: &[u32], x: usize, i: usize) -> u32
+        requires short { length costs.now ≤ most_length }
+        requires column_in { x < most_length }
+        requires low { distance_in costs.now self.y x i ≤ 4294967295 }
+        ensures { result ≡ distance_in costs.now self.y x i }
+    {
+        if i < costs.len() {
+            let d = x.abs_diff(i);
+            (costs[i] as usize + d * d) as u32
+        } else {
+            let s = self.y as usize + 1;
+            (s * s + x * x) as u32
+        }
+    }
+
+    // The squared distance of each place to its chosen column's on-pixel.
+    fn distances_line(self, places: &[u32], costs: &[u32], out: &mut [u32])
+        requires short { length costs.now ≤ most_length }
+        requires places_long { length places.now ≡ length costs.now }
+        requires out_long { length out.old ≡ length costs.now }
+        requires low { EachIndex places.now (λ x. distance_in costs.now self.y x (slice_index places.now x) ≤ 4294967295) }
+        ensures { EachIndex out.new
+            (λ x. slice_index out.new x ≡ distance_in costs.now self.y x (slice_index places.now x)) }
+    {
+        for x in 0..out.len() {
+            out[x] = self.distance(costs, x, places[x] as usize);
+        }
     }
 }
 
-// The square of the distance between two rows; NO_COST where r is no row.
-#[tactic(auto, unfolding(crate::specs::steps::Stages::square_cost, plane::specs::Plane::apart))]
-fn cost(y: u32, r: u32) -> u32
-    requires { y < most_length }
-    ensures { result ≡ square_cost y r }
+// The chosen column of each place of row y, that of its nearest on-pixel. They are written to the plane from `at` on, where nothing is
+// needed any more. Then the first line has the nearest on-rows of row y, and the second what their columns cost.
+fn choose(mask: Mask, y: usize, at: usize, plane: &mut [u32], lines: &mut [u32])
+    requires row_in { y < mask.size.h }
+    requires at_passed { at ≤ y * mask.size.w }
+    requires plane_long { length plane.old ≡ mask.size.h * mask.size.w }
+    requires lines_long { 3 * mask.size.w ≤ length lines.old }
+    requires swept { Swept mask.pixels.now mask.size.h mask.size.w y plane.old lines.old }
+    ensures { Passed mask.entry.pixels.now mask.entry.size.h mask.entry.size.w y at plane.old plane.new lines.new }
 {
-    let d = y.abs_diff(r);
-    if r < MOST_ROWS { d * d } else { NO_COST }
+    let w = mask.size.w;
+    let row = Row { y: y as u32 };
+    let start = y * w;
+    let (near, others) = lines.split_at_mut(w);
+    let (costs, stack) = others.split_at_mut(w);
+    row.nearer_line(&plane[start..start + w], near);
+    row.costs_line(near, costs);
+    line::line(&mut plane[at..at + w], costs, stack);
 }
 
-// What each column costs, seen from row y.
-fn costs_line(y: u32, near: &[u32], costs: &mut [u32])
-    requires row_in { y < most_length }
-    requires near_long { length near.now ≡ length costs.old }
-    ensures { EachIndex costs.new (λ x. slice_index costs.new x ≡ square_cost y (slice_index near.now x)) }
-{
-    for x in 0..costs.len() {
-        costs[x] = cost(y, near[x]);
-    }
-}
-
-// The row of column i; -1 where there is no such column.
+// The row of column i; -1 where there is no such column. That is an index past the end here, in what follows and in `Row::distance`, and no
+// Option: the chosen columns stand in the lent buffer of numbers.
 #[tactic(auto, unfolding(crate::specs::steps::Stages::pixel_in, crate::specs::Nearest::row_of))]
 fn row_at(near: &[u32], i: usize) -> i32
     requires { IsRow near.now i }
@@ -152,32 +217,25 @@ fn columns_line(places: &[u32], cols: &mut [i32])
 
 // Row and column of the nearest on-pixel of each pixel: the least dy² + dx², among equals the least column and then the least row.
 // With nothing on, row -1 and column 0. The chosen columns of each row stand in the buffer's first row, which is no longer needed.
-// This, nearest_indices and nearest_distances are no function over a closure: they differ also in where the chosen columns stand, and a
-// closure's clauses would have to say again all that a row's loops say.
-pub fn nearest_planes(
-    mask: &[u8],
-    h: usize,
-    w: usize,
-    work: &mut [u32],
-    rows: &mut [i32],
-    cols: &mut [i32],
-)
-    requires { Room h w mask.now work.old rows.old cols.old }
-    ensures rows_after { rows.new ≡ rows_plane mask.now h w }
-    ensures cols_after { cols.new ≡ columns_plane mask.now h w }
+// This, nearest_indices and nearest_distances are no function over a closure: its clauses would have to say again what the calls behind
+// choose say.
+pub fn nearest_planes(mask: Mask, work: &mut [u32], rows: &mut [i32], cols: &mut [i32])
+    requires room { mask.size.h * mask.size.w + 3 * mask.size.w ≤ length work.old }
+    requires rows_long { length rows.old ≡ mask.size.h * mask.size.w }
+    requires cols_long { length cols.old ≡ mask.size.h * mask.size.w }
+    ensures rows_after { rows.new ≡ rows_plane mask.entry.pixels.now mask.entry.size.h mask.entry.size.w }
+    ensures cols_after { cols.new ≡ columns_plane mask.entry.pixels.now mask.entry.size.h mask.entry.size.w }
 {
-    below(mask, h, w, work);
-    let (plane, lines) = work.split_at_mut(h * w);
-    let (near, others) = lines.split_at_mut(w);
-    let (costs, stack) = others.split_at_mut(w);
-    for y in 0..h {
-        let at = y * w;
-        nearer_line(y as u32, &plane[at..at + w], near);
-        costs_line(y as u32, near, costs);
-        let places = &mut plane[..w];
-        line::line(places, costs, stack);
-        rows_line(places, near, &mut rows[at..at + w]);
-        columns_line(places, &mut cols[at..at + w]);
+    below(mask, work);
+    let w = mask.size.w;
+    let (plane, lines) = work.split_at_mut(mask.size.area());
+    for y in 0..mask.size.h {
+        choose(mask, y, 0, plane, lines);
+        let places = &plane[..w];
+        let start = y * w;
+        // One call for each plane of answers; a plane of squared distances would be a third.
+        rows_line(places, &lines[..w], &mut rows[start..start + w]);
+        columns_line(places, &mut cols[start..start + w]);
     }
 }
 
@@ -202,78 +260,40 @@ fn index_line(row: &mut [u32], near: &[u32])
     ensures { EachIndex row.new
         (λ x. slice_index row.new x ≡ index_of (length near.now) (pixel_in near.now (slice_index row.old x))) }
 {
-    for x in 0..row.len() {
-        row[x] = index_at(near, row[x] as usize);
+    for place in row.iter_mut() {
+        *place = index_at(near, *place as usize);
     }
 }
 
 // The index of the nearest on-pixel of each pixel, in the first h * w numbers of the buffer; 0 where nothing is on.
-pub fn nearest_indices(mask: &[u8], h: usize, w: usize, work: &mut [u32])
-    requires { IndexRoom h w mask.now work.old }
-    ensures { take (h * w) work.new ≡ indices_plane mask.now h w }
+pub fn nearest_indices(mask: Mask, work: &mut [u32])
+    requires { mask.size.h * mask.size.w + 3 * mask.size.w ≤ length work.old }
+    ensures { let size = mask.entry.size in take (size.h * size.w) work.new ≡ indices_plane mask.entry.pixels.now size.h size.w }
 {
-    below(mask, h, w, work);
-    let (plane, lines) = work.split_at_mut(h * w);
-    let (near, others) = lines.split_at_mut(w);
-    let (costs, stack) = others.split_at_mut(w);
-    for y in 0..h {
-        let at = y * w;
-        let row = &mut plane[at..at + w];
-        nearer_line(y as u32, row, near);
-        costs_line(y as u32, near, costs);
-        line::line(row, costs, stack);
-        index_line(row, near);
-    }
-}
-
-// The squared distance of (y, x) to column i's on-pixel, which costs[i] lies from row y; with no such column, to row -1 and column 0.
-#[tactic(auto, unfolding(crate::specs::steps::Stages::distance_in, plane::specs::Plane::apart))]
-fn distance_at(costs: &[u32], y: usize, x: usize, i: usize) -> u32
-    requires short { length costs.now ≤ most_length }
-    requires row_in { y < most_length }
-    requires column_in { x < most_length }
-    requires low { distance_in costs.now y x i ≤ 4294967295 }
-    ensures { result ≡ distance_in costs.now y x i }
-{
-    if i < costs.len() {
-        let d = x.abs_diff(i);
-        (costs[i] as usize + d * d) as u32
-    } else {
-        let s = y + 1;
-        (s * s + x * x) as u32
-    }
-}
-
-// The squared distance of each place of row y to its chosen column's on-pixel.
-fn distances_line(places: &[u32], costs: &[u32], y: usize, out: &mut [u32])
-    requires short { length costs.now ≤ most_length }
-    requires row_in { y < most_length }
-    requires places_long { length places.now ≡ length costs.now }
-    requires out_long { length out.old ≡ length costs.now }
-    requires low { EachIndex places.now (λ x. distance_in costs.now y x (slice_index places.now x) ≤ 4294967295) }
-    ensures { EachIndex out.new
-        (λ x. slice_index out.new x ≡ distance_in costs.now y x (slice_index places.now x)) }
-{
-    for x in 0..out.len() {
-        out[x] = distance_at(costs, y, x, places[x] as usize);
+    below(mask, work);
+    let w = mask.size.w;
+    let (plane, lines) = work.split_at_mut(mask.size.area());
+    for y in 0..mask.size.h {
+        let start = y * w;
+        choose(mask, y, start, plane, lines);
+        index_line(&mut plane[start..start + w], &lines[..w]);
     }
 }
 
 // The squared distance of each pixel to its nearest on-pixel; with nothing on, to row -1 and column 0.
-pub fn nearest_distances(mask: &[u8], h: usize, w: usize, work: &mut [u32], out: &mut [u32])
-    requires { DistanceRoom h w mask.now work.old out.old }
-    ensures { out.new ≡ distance_plane mask.now h w }
+pub fn nearest_distances(mask: Mask, work: &mut [u32], out: &mut [u32])
+    requires room { mask.size.h * mask.size.w + 3 * mask.size.w ≤ length work.old }
+    requires out_long { length out.old ≡ mask.size.h * mask.size.w }
+    requires low { mask.size.h * mask.size.h + mask.size.w * mask.size.w ≤ 4294967295 }
+    ensures { out.new ≡ distance_plane mask.entry.pixels.now mask.entry.size.h mask.entry.size.w }
 {
-    below(mask, h, w, work);
-    let (plane, lines) = work.split_at_mut(h * w);
-    let (near, others) = lines.split_at_mut(w);
-    let (costs, stack) = others.split_at_mut(w);
-    for y in 0..h {
-        let at = y * w;
-        nearer_line(y as u32, &plane[at..at + w], near);
-        costs_line(y as u32, near, costs);
-        let places = &mut plane[..w];
-        line::line(places, costs, stack);
-        distances_line(places, costs, y, &mut out[at..at + w]);
+    below(mask, work);
+    let w = mask.size.w;
+    let (plane, lines) = work.split_at_mut(mask.size.area());
+    for y in 0..mask.size.h {
+        choose(mask, y, 0, plane, lines);
+        let start = y * w;
+        let row = Row { y: y as u32 };
+        row.distances_line(&plane[..w], &lines[w..2 * w], &mut out[start..start + w]);
     }
 }

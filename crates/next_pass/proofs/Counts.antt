@@ -11,7 +11,8 @@ use lib.Dec.{eqb}
 use lib.ListN.{length, get_or, take, drop}
 use borrow.Author.Tests.{ne_eqb}
 use Rattle.plane.specs.Search.{some_below, count_below}
-use Rattle.plane.proofs.Search.{either, or_no, or_right, count_most, count_same}
+use Rattle.plane.proofs.Search.{or_no, count_most, count_same}
+use Rattle.std.proofs.lemmas.Bool.{cases_Bool, or_right}
 use Rattle.std.specs.Int.{from_bool}
 use Rattle.plane.specs.Plane.{bit}
 use Rattle.plane.specs.Mask.{is_on}
@@ -40,7 +41,7 @@ count-zero p (suc n) =
     ⊎_elim {C = eqb (count_below n p + cond (p n) 1 0) 0 ≡ not (some_below n p || p n)}
     (λ (a : p n ≡ true). rw (a, ne_eqb (count_below n p + 1) 0 (λ z. absurd (omega arith)), or_right (some_below n p) true refl))
     (λ (a : p n ≡ false). rw (a, or_no, add-zero) (count-zero p n))
-    (either (p n))
+    (cases_Bool (p n))
 
 -- a count up to m, and one of the n numbers from there on
 count-then : (p : ℕ → Bool) (m n : ℕ) → count_below m p + count_below n (λ (i : ℕ). p (m + i)) ≡ count_below (m + n) p

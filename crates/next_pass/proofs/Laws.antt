@@ -10,8 +10,8 @@ use lib.ListN.{length}
 use lib.Ieee.{Float}
 use borrow.Author.Tests.{not-true, eq-eqb}
 use Rattle.plane.specs.Search.{some_below, count_below}
-use Rattle.plane.proofs.Search.{either, count_same, none_found, or_no}
-use Rattle.plane.proofs.Refusal.{and-true}
+use Rattle.plane.proofs.Search.{count_same, none_found, or_no}
+use Rattle.std.proofs.lemmas.Bool.{and_parts, cases_Bool}
 use Rattle.plane.specs.Mask.{is_on, mask_of}
 use Rattle.plane.proofs.Mask.{mask-on, mask-same, mask-again}
 use Rattle.colour.specs.declared.Rgb.{Rgb}
@@ -55,7 +55,7 @@ module _ (colours : List Float) (reference : Rgb) (h w : ℕ) (back : List ℕ) 
       growth-ended colours reference h w 1 back e
       ∙ mask-same (h * w) (is_on back) (λ (i : ℕ). is_on back i || joining i)
       (λ i l. rw (none_found joining (h * w) e i l, or_no)))
-      (either some-joins)
+      (cases_Bool some-joins)
 
   pub next-length : length next ≡ h * w
   unfolding next_background
@@ -66,7 +66,7 @@ module _ (colours : List Float) (reference : Rgb) (h w : ℕ) (back : List ℕ) 
   newly i l = rw (next-pass, pass_on colours reference h w back i l) (at (is_on back i) (joining i) off)
     where
       off : joining i ≡ true → not (is_on back i) ≡ true
-      off e = unfold is_edge in (and-true (not (is_on back i)) (near_ground back h w 1 i) (joins-edge colours reference h w back i e)).0
+      off e = unfold is_edge in (and_parts (not (is_on back i)) (near_ground back h w 1 i) (joins-edge colours reference h w back i e)).0
 
       at : (b j : Bool) → (j ≡ true → not b ≡ true) → (b || j) && not b ≡ j
       at true true k = k refl

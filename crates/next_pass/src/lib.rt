@@ -7,7 +7,8 @@ ghost use Rattle.next_pass.specs.NextPass.{newly_on};
 // How many pixels are counted at a time: not more than a byte can count.
 const BLOCK: usize = 240;
 
-// How many pixels of a block are on in `after` and off in `before`.
+// How many pixels of a block are on in `after` and off in `before`. By an index: over `zip` it did not prove that the two bytes of a
+// step stand at one place.
 fn block(before: &[u8], after: &[u8]) -> u8
     requires after_len { length after.now ≡ length before.now }
     requires before_len_bound { length before.now ≤ 255 }
@@ -20,7 +21,7 @@ fn block(before: &[u8], after: &[u8]) -> u8
     n
 }
 
-// How many pixels are on in `after` and off in `before`.
+// How many pixels are on in `after` and off in `before`. By an index for the same reason: two `chunks` side by side.
 pub fn newly_on(before: &[u8], after: &[u8]) -> u64
     requires { length after.now ≡ length before.now }
     ensures { result ≡ newly_on (length before.now) before.now after.now }

@@ -12,8 +12,8 @@ use borrow.Author.Tests.{not-false}
 use Rattle.plane.specs.Plane.{on_at, index_of}
 use Rattle.plane.specs.Search.{some_below}
 use Rattle.plane.proofs.Plane.{pixel-in, row_of, column-of, index-of, apart-back}
-use Rattle.plane.proofs.Search.{either, not-both, some-found, and_no}
-use Rattle.plane.proofs.Refusal.{and-true}
+use Rattle.plane.proofs.Search.{not-both, some-found, and_no}
+use Rattle.std.proofs.lemmas.Bool.{and_parts, cases_Bool}
 use Rattle.plane.specs.Mask.{is_on, mask_of}
 use Rattle.labels.proofs.Steps.{row_is, column-is}
 use Rattle.nearest.specs.Nearest.{nearest}
@@ -80,12 +80,12 @@ module _ (back : List ℕ) (h w : ℕ) (wide : 0 < w) where
       ⊎_elim {C = Within back h w 1 i}
       (λ (a : is_on back i ≡ true). within-self l a)
       (λ (a : is_on back i ≡ false). near-found (not-false (near_ground back h w 1 i) (rw a at e)))
-      (either (is_on back i))
+      (cases_Bool (is_on back i))
 
   module _ (i : ℕ) (l : i < h * w) (edge : is_edge back h w i ≡ true) where
     edge-near : near_ground back h w 1 i ≡ true
     unfolding is_edge
-    edge-near = (and-true (not (is_on back i)) (near_ground back h w 1 i) edge).1
+    edge-near = (and_parts (not (is_on back i)) (near_ground back h w 1 i) edge).1
 
     -- an edge pixel is within 1 of the background,
     pub edge-within : Within back h w 1 i

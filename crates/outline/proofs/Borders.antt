@@ -13,7 +13,8 @@ use lib.Ieee.{Float, nan}
 use borrow.Author.Tests.{eqb-true, eq-eqb}
 use Rattle.plane.specs.Plane.{table}
 use Rattle.plane.proofs.Plane.{pixel-in}
-use Rattle.plane.proofs.Search.{not-both, or_left, or_right, or-true}
+use Rattle.plane.proofs.Search.{not-both}
+use Rattle.std.proofs.lemmas.Bool.{or_cases, or_left, or_right}
 use Rattle.plane.specs.Mask.{is_on}
 use Rattle.colour.proofs.Zero.{Alike}
 use Rattle.colour.proofs.Same.{SameColour}
@@ -35,7 +36,7 @@ in_either {R} i (j ∷ l) m f g e =
     ⊎_elim {C = R}
     (λ (a : eqb i j ≡ true). f (or_left (eqb i j) (listed i l) a))
     (in_either i l m (λ b. f (or_right (eqb i j) (listed i l) b)) g)
-    (or-true (eqb i j) (listed i (l ++ m)) e)
+    (or_cases (eqb i j) (listed i (l ++ m)) e)
 
 -- every entry of a list is in it
 pub listed_at : (l : List ℕ) (k : ℕ) → k < length l → listed (get_or l k 0) l ≡ true
@@ -53,7 +54,7 @@ listed-table f i k (suc n) e =
     (λ (a : eqb i (f k) ≡ true). (k, omega arith, omega arith, eqb-true i (f k) a))
     (λ (a : listed i (table f (suc k) n) ≡ true).
     (let z = listed-table f i (suc k) n a in (z.0, omega (arith, z.1), omega (arith, z.2), z.3)))
-    (or-true (eqb i (f k)) (listed i (table f (suc k) n)) e)
+    (or_cases (eqb i (f k)) (listed i (table f (suc k) n)) e)
 
 -- ---- the border lies in the plane
 

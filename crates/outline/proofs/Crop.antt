@@ -11,7 +11,8 @@ use Rattle.plane.specs.Plane.{on_at}
 use Rattle.plane.specs.Mask.{is_on, some_off}
 use Rattle.plane.specs.declared.Box.{Box}
 use Rattle.plane.specs.Box.{box_of, whole_of}
-use Rattle.plane.proofs.Search.{either, some-found}
+use Rattle.plane.proofs.Search.{some-found}
+use Rattle.std.proofs.lemmas.Bool.{cases_Bool}
 use Rattle.plane.proofs.Plane.{row_of, column-of}
 use Rattle.plane.proofs.Mask.{index_on}
 use Rattle.bounds.proofs.Laws.{BoxIn, Has, box-has, box_in}
@@ -30,7 +31,7 @@ module _ (mask : List ℕ) (h w added : ℕ) where
       ⊎_elim {C = P (crop_of mask h w added cropping)}
       (λ (c : cropping && some_off mask (h * w) ≡ true). rw c a)
       (λ (c : cropping && some_off mask (h * w) ≡ false). rw c b)
-      (either (cropping && some_off mask (h * w)))
+      (cases_Bool (cropping && some_off mask (h * w)))
 
   -- so it has every pixel of the mask, and is one of the picture where there is such a pixel
   pub crop-has : (cropping : Bool) (y x : ℕ) → y < h → x < w → on_at mask w y x ≡ true → Has (crop_of mask h w added cropping) y x

@@ -11,9 +11,10 @@ use lib.Ieee.{Float}
 use borrow.Author.Tests.{eqb-true, leb-true}
 use Rattle.plane.specs.steps.Sides.{Sides}
 use Rattle.plane.specs.Search.{some_below}
-use Rattle.plane.proofs.Search.{either, some_same}
+use Rattle.plane.proofs.Search.{some_same}
+use Rattle.std.proofs.lemmas.Bool.{and_parts, cases_Bool}
 use Rattle.plane.specs.Refusal.{room_for}
-use Rattle.plane.proofs.Refusal.{and-true, passed, sides-are}
+use Rattle.plane.proofs.Refusal.{passed, sides-are}
 use Rattle.plane.specs.Mask.{is_on, mask_of, some_off}
 use Rattle.colour.specs.declared.Rgb.{Rgb}
 use Rattle.colour.specs.declared.Settings.{Settings}
@@ -88,9 +89,9 @@ module _ (colours : List Float) (alpha : List ℕ) (h w : ℕ) (reference : Rgb)
   unfolding is_keyed grown_ground is_found found_from ground_of
   grown-off e =
       let close = close_plane colours h w reference s.key_bg_tolerance in
-      let found = (and-true (is_sought alpha (h * w) s) _ e).1 in
+      let found = (and_parts (is_sought alpha (h * w) s) _ e).1 in
       growth-leaves colours reference h w (passes_of s) ground
-      (and-true (leb (9 * length (border_list h w)) (10 * count_on close (border_list h w))) _ found).1
+      (and_parts (leb (9 * length (border_list h w)) (10 * count_on close (border_list h w))) _ found).1
 
   -- so the mask of every accepted cut has a pixel on
   pub mask-not-empty : (card : Card) (b : Buffers) → refusal_in colours alpha h w card s b ≡ 0 → some-on ≡ true
@@ -99,4 +100,4 @@ module _ (colours : List Float) (alpha : List ℕ) (h w : ℕ) (reference : Rgb)
       ⊎_elim {C = some-on ≡ true}
       (λ (k : keyed ≡ true). rw k (some_same (is_on (mask_of (h * w) left)) left (h * w) (mask-on (h * w) left) ∙ grown-off k))
       (λ (k : keyed ≡ false). rw k (taken colours alpha h w card s b e).some_alpha)
-      (either keyed)
+      (cases_Bool keyed)

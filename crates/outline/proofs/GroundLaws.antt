@@ -11,8 +11,8 @@ use lib.ListN.{length}
 use lib.Ieee.{Float}
 use borrow.Author.Tests.{eqb-true, eq-eqb}
 use Rattle.plane.specs.Search.{some_below}
-use Rattle.plane.proofs.Search.{some-found, some_is, and_is}
-use Rattle.plane.proofs.Refusal.{and-true}
+use Rattle.plane.proofs.Search.{some-found, some_is}
+use Rattle.std.proofs.lemmas.Bool.{and_from, and_parts}
 use Rattle.plane.specs.Mask.{is_on, mask_of}
 use Rattle.labels.specs.Labels.{beside, Joined, same, onward, first_pixel}
 use Rattle.labels.proofs.Joined.{start-on, end_on, spreads}
@@ -49,7 +49,7 @@ module _ (close : List ℕ) (h w : ℕ) where
   -- the ground is close
   pub ground-close : (i : ℕ) → is_on (ground_from close h w) i ≡ true → is_on close i ≡ true
   unfolding is_ground
-  ground-close i e = (and-true (is_on close i) _ (ground-holds i e)).0
+  ground-close i e = (and_parts (is_on close i) _ (ground-holds i e)).0
 
   -- whether pixel j is a close border pixel of the part of pixel i
   abbrev meets : ℕ → ℕ → Bool
@@ -60,10 +60,10 @@ module _ (close : List ℕ) (h w : ℕ) where
     pub ground-joined : (i : ℕ) → ground i ≡ true → Source close h w i
     unfolding is_ground
     ground-joined i e =
-        let z = and-true (is_on close i) (some_below (h * w) (meets i)) (ground-holds i e) in
+        let z = and_parts (is_on close i) (some_below (h * w) (meets i)) (ground-holds i e) in
         let f = some-found (meets i) (h * w) z.1 in
-        let a = and-true (on_border h w f.0 && is_on close f.0) (eqb (first_pixel close h w f.0) (first_pixel close h w i)) f.2 in
-        let b = and-true (on_border h w f.0) (is_on close f.0) a.0 in
+        let a = and_parts (on_border h w f.0 && is_on close f.0) (eqb (first_pixel close h w f.0) (first_pixel close h w i)) f.2 in
+        let b = and_parts (on_border h w f.0) (is_on close f.0) a.0 in
         (f.0, f.1, b.0, same_first close h w fits f.0 i b.1 z.0 (eqb-true _ _ a.1))
 
     -- and what is joined to a close border pixel is ground
@@ -72,10 +72,10 @@ module _ (close : List ℕ) (h w : ℕ) where
     joined-ground j i b l r =
         let lit : is_on close i ≡ true = end_on r in
         ground-on i (omega (arith, on-inside close i lit))
-        ∙ and_is (is_on close i) (some_below (h * w) (meets i)) lit
+        ∙ and_from (is_on close i) (some_below (h * w) (meets i)) lit
         (some_is (meets i) (h * w) j l
-        (and_is (on_border h w j && is_on close j) (eqb (first_pixel close h w j) (first_pixel close h w i))
-        (and_is (on_border h w j) (is_on close j) b (start-on r)) (eq-eqb _ _ (first_same close h w fits r))))
+        (and_from (on_border h w j && is_on close j) (eqb (first_pixel close h w j) (first_pixel close h w i))
+        (and_from (on_border h w j) (is_on close j) b (start-on r)) (eq-eqb _ _ (first_same close h w fits r))))
 
     -- it has every close border pixel,
     pub ground-border : (i : ℕ) → i < h * w → on_border h w i ≡ true → is_on close i ≡ true → is_on (ground_from close h w) i ≡ true

@@ -11,8 +11,8 @@ use lib.ListN.{length}
 use lib.Ieee.{Float}
 use borrow.Author.Tests.{not-true}
 use Rattle.plane.specs.Search.{some_below}
-use Rattle.plane.proofs.Search.{either, some-found, some_is, some_same, or_left, or-true, and_no}
-use Rattle.plane.proofs.Refusal.{and-true}
+use Rattle.plane.proofs.Search.{some-found, some_is, some_same, and_no}
+use Rattle.std.proofs.lemmas.Bool.{and_parts, cases_Bool, or_cases, or_left}
 use Rattle.plane.specs.Mask.{is_on, mask_of, some_off}
 use Rattle.colour.specs.declared.Rgb.{Rgb}
 use Rattle.outline.specs.Growth.{near_ground, is_edge, is_shallow, is_deep, joins_from, is_joining, pass_of, growth_of}
@@ -42,7 +42,7 @@ module _ (colours : List Float) (reference : Rgb) (h w : ℕ) where
   -- what joins is edge, so it is off the background and within 1 of it
   pub joins-edge : (back : List ℕ) (i : ℕ) → joining back i ≡ true → is_edge back h w i ≡ true
   unfolding is_joining joins_from
-  joins-edge back i e = (and-true (is_edge back h w i) _ (and-true (some_below (h * w) (is_shallow back h w)) _ e).1).0
+  joins-edge back i e = (and_parts (is_edge back h w i) _ (and_parts (some_below (h * w) (is_shallow back h w)) _ e).1).0
 
   pub pass_on : (back : List ℕ) (i : ℕ) → i < h * w → is_on (passed back) i ≡ is_on back i || joining back i
   unfolding pass_of
@@ -59,8 +59,8 @@ module _ (colours : List Float) (reference : Rgb) (h w : ℕ) where
       let l = mask-inside (h * w) (after back) i e in
       ⊎_elim {C = Within back h w 1 i}
       (λ (o : is_on back i ≡ true). within-self l o)
-      (λ (j : joining back i ≡ true). near-found (and-true (not (is_on back i)) (near_ground back h w 1 i) (joins-edge back i j)).1)
-      (or-true (is_on back i) (joining back i) (sym (pass_on back i l) ∙ e))
+      (λ (j : joining back i ≡ true). near-found (and_parts (not (is_on back i)) (near_ground back h w 1 i) (joins-edge back i j)).1)
+      (or_cases (is_on back i) (joining back i) (sym (pass_on back i l) ∙ e))
 
   -- ---- growth, unfolded
 
@@ -88,7 +88,7 @@ module _ (colours : List Float) (reference : Rgb) (h w : ℕ) where
       ⊎_elim {C = P (suc p) back}
       (λ (e : some-joins back ≡ true). c p back e (growth-induction P a b c p (passed back)))
       (b p back)
-      (either (some-joins back))
+      (cases_Bool (some-joins back))
 
   -- ---- what growth writes
 
@@ -122,9 +122,9 @@ module _ (colours : List Float) (reference : Rgb) (h w : ℕ) where
   unfolding some_off is_shallow is_edge is_joining joins_from
   pass-leaves back e =
       let j = some-found (joining back) (h * w) e in
-      let s = some-found (is_shallow back h w) (h * w) (and-true (some_below (h * w) (is_shallow back h w)) _ j.2).0 in
+      let s = some-found (is_shallow back h w) (h * w) (and_parts (some_below (h * w) (is_shallow back h w)) _ j.2).0 in
       let i = s.0 in
-      let z = and-true (not (is_on back i)) (not (near_ground back h w 1 i)) s.2 in
+      let z = and_parts (not (is_on back i)) (not (near_ground back h w 1 i)) s.2 in
       let off : is_on back i ≡ false = not-true (is_on back i) z.0 in
       let far : near_ground back h w 1 i ≡ false = not-true (near_ground back h w 1 i) z.1 in
       some_is (λ (k : ℕ). not (is_on (passed back) k)) (h * w) i s.1 (rw (pass_on back i s.1, off, far, and_no))

@@ -17,8 +17,8 @@ use Rattle.plane.specs.Plane.{on, bit, on_at, apart, within, table}
 use Rattle.plane.specs.Search.{some_below}
 use Rattle.plane.specs.Mask.{is_on, mask_of}
 use Rattle.plane.specs.Refusal.{refusal_of}
-use Rattle.plane.proofs.Refusal.{and-true}
-use Rattle.plane.proofs.Search.{none_found, or-true, not-both}
+use Rattle.std.proofs.lemmas.Bool.{and_parts, or_cases}
+use Rattle.plane.proofs.Search.{none_found, not-both}
 use Rattle.squares.specs.Squares.{in_square}
 use Rattle.colour.specs.declared.Settings.{Settings}
 use Rattle.card.specs.Card.{Border}
@@ -131,9 +131,9 @@ agrees i l t =
     ⊎_elim {C = AgreeAt one two i}
     (λ (e : same_colour (colour_at one i) (colour_at two i) ≡ true). e)
     (λ (e : not (on_border side side i) && not (near_ground close side side (reach_of settings) i) ≡ true).
-    let z = and-true _ _ e in
+    let z = and_parts _ _ e in
     ⊎_elim {C = AgreeAt one two i} (λ b. not-both _ b (not-true _ z.0)) (λ b. not-both _ b (not-true _ z.1)) t)
-    (or-true (same_colour (colour_at one i) (colour_at two i)) _
+    (or_cases (same_colour (colour_at one i) (colour_at two i)) _
     (not-false (apart_at i) (none_found (λ (k : ℕ). not (apart_at k)) (side * side) all_apart i l)))
 
 agree : Agree one two side side Border settings

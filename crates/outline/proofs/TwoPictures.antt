@@ -11,8 +11,8 @@ use lib.Dec.{T}
 use lib.ListN.{length}
 use lib.Ieee.{Float, nan, inf, fin, binary64, eq, is_nan, fits}
 use lib.Ieee.Scale.{finite}
-use Rattle.plane.proofs.Search.{or-true, not-both}
-use Rattle.plane.proofs.Refusal.{and-true}
+use Rattle.plane.proofs.Search.{not-both}
+use Rattle.std.proofs.lemmas.Bool.{and_parts, or_cases}
 use Rattle.colour.specs.declared.Rgb.{Rgb}
 use Rattle.colour.specs.declared.Settings.{Settings}
 use Rattle.colour.specs.Number.{Binary64}
@@ -46,8 +46,8 @@ same_cases : {C : Type 0} (t u : Float) → (eq t u ≡ true → C) → (t ≡ u
 unfolding same_tolerance
 same_cases {C} t u f g e =
     ⊎_elim {C = C} f
-    (λ (q : is_nan t && is_nan u ≡ true). (let z = and-true _ _ q in g (no_number t z.0 ∙ sym (no_number u z.1))))
-    (or-true (eq t u) (is_nan t && is_nan u) e)
+    (λ (q : is_nan t && is_nan u ≡ true). (let z = and_parts _ _ q in g (no_number t z.0 ∙ sym (no_number u z.1))))
+    (or_cases (eq t u) (is_nan t && is_nan u) e)
 
 -- held as binary64 numbers they are the same number, up to the sign of a zero
 tolerance-alike : (t u : Float) → T (fits binary64 t) → T (fits binary64 u) → same_tolerance t u ≡ true → Alike t u

@@ -3,7 +3,7 @@
 #![tactic(auto)]
 
 // What an accepted cut answers beside its mask and weights: whether it was keyed, and the crop box.
-#[derive(Clone, Copy)]
+#[derive(Clone, Copy, Debug, PartialEq, Eq)]
 pub struct Outcome {
     pub keyed: bool,
     pub crop: plane::Box,

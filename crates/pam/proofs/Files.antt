@@ -13,7 +13,7 @@ use lib.Seq.{length-take-le}
 use borrow.Author.Tests.{ne_eqb, leb-true, eqb-true}
 use Rattle.std.proofs.Common.{Option, Some, None}
 use Rattle.plane.specs.Refusal.{refusal_of}
-use Rattle.plane.proofs.Search.{either}
+use Rattle.std.proofs.lemmas.Bool.{cases_Bool}
 use Rattle.plane.proofs.Refusal.{passed}
 use Rattle.pam_header.specs.declared.Header.{Header}
 use Rattle.pam_header.specs.Header.{header_of}
@@ -70,7 +70,7 @@ long-by (Some header) input f =
     let few = leb-true (pixels_of header) most_pixels t in
     rw (ne_eqb (length input) (header.body + 4 * pixels_of header) (λ e. omega (arith, few, f header refl e))))
     (λ (t : leb (pixels_of header) most_pixels ≡ false). rw t)
-    (either (leb (pixels_of header) most_pixels))
+    (cases_Bool (leb (pixels_of header) most_pixels))
 
 long-number : (input : List ℕ) → most_input ≤ length input → file_refusal (header_of input) input ≡ long_refusal (header_of input)
 long-number input l = long-by (header_of input) input (λ h e n. omega (arith, n, (header-small input h e).body_most))

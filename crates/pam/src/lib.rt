@@ -43,7 +43,9 @@ pub fn read(input: &[u8]) -> Result<Header, Refusal>
     Ok(header)
 }
 
-// The colours of n pixels that stand from a place on.
+// The colours of n pixels that stand from a place on. By the place and not as the slice behind it: where a file is too short, 0 is
+// read, as the definitions do. This loop and the next write by an index: after `iter_mut().enumerate()` it is
+// not known what was written.
 pub fn colours(input: &[u8], body: usize, n: usize, out: &mut [f64])
     requires { (body ≤ most_header) × (n ≤ most_pixels) × (length out.old ≡ 3 * n) }
     ensures out_after { out.new ≡ colours_from input.now body n }
@@ -55,7 +57,7 @@ pub fn colours(input: &[u8], body: usize, n: usize, out: &mut [f64])
     }
 }
 
-// Their alpha.
+// Their alpha. It differs from the colours in what it reads and in the type that it writes.
 pub fn alpha(input: &[u8], body: usize, n: usize, out: &mut [u8])
     requires { (body ≤ most_header) × (n ≤ most_pixels) × (length out.old ≡ n) }
     ensures { out.new ≡ alpha_from input.now body n }

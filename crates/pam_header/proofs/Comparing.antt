@@ -14,8 +14,7 @@ use borrow.Author.Tests.{eq-eqb, ne_eqb, eqb-true, eqb-false, not-true}
 use Rattle.std.specs.Str.{bytes_eq}
 use Rattle.std.specs.Cmp.Lexicographic.{pointwise}
 use Rattle.std.proofs.lemmas.Slice.Eq.{bytes_eq-Decides}
-use Rattle.plane.proofs.Search.{which, and_is}
-use Rattle.plane.proofs.Refusal.{and-true}
+use Rattle.std.proofs.lemmas.Bool.{and_from, and_parts, cases_lt}
 use Rattle.pam_header.specs.Header.{starts_at, is_text}
 
 -- ---- what stands at a place
@@ -52,7 +51,7 @@ module _ (input : List ℕ) where
       ⊎_elim {C = at < length input}
       (λ (l : at < length input). l)
       (λ (l : length input ≤ at). absurd (z (sym e ∙ get_or-eq_default input 0 l)))
-      (which at (length input))
+      (cases_lt at (length input))
 
   -- a text that stands at a place, and what follows it
   pub starts-split : (text : List ℕ) (at : ℕ) → no_zero text ≡ true → starts_at input at text ≡ true
@@ -60,8 +59,8 @@ module _ (input : List ℕ) where
   unfolding no_zero starts_at
   starts-split [] at t e = ap (λ (k : ℕ). drop k input) (sym (add-zero at))
   starts-split (b ∷ text) at t e =
-      let z = and-true (not (eqb b 0)) (no_zero text) t in
-      let a = and-true (eqb (get_or input at 0) b) (starts_at input (suc at) text) e in
+      let z = and_parts (not (eqb b 0)) (no_zero text) t in
+      let a = and_parts (eqb (get_or input at 0) b) (starts_at input (suc at) text) e in
       let i = eqb-true (get_or input at 0) b a.0 in
       let s : suc at + length text ≡ at + suc (length text) = omega arith in
       drop-cons input at 0 (inside at b i (eqb-false b 0 (not-true (eqb b 0) z.0)))
@@ -78,11 +77,11 @@ unfolding starts_at
 starts-bytes line [] at e i l = absurd (omega arith)
 starts-bytes line (b ∷ text) at e zero l =
     ap (λ (k : ℕ). get_or line k 0) (add-zero at)
-    ∙ eqb-true (get_or line at 0) b (and-true (eqb (get_or line at 0) b) (starts_at line (suc at) text) e).0
+    ∙ eqb-true (get_or line at 0) b (and_parts (eqb (get_or line at 0) b) (starts_at line (suc at) text) e).0
 starts-bytes line (b ∷ text) at e (suc i) l =
     let k : at + suc i ≡ suc at + i = omega arith in
     ap (λ (n : ℕ). get_or line n 0) k
-    ∙ starts-bytes line text (suc at) (and-true (eqb (get_or line at 0) b) (starts_at line (suc at) text) e).1 i (omega arith)
+    ∙ starts-bytes line text (suc at) (and_parts (eqb (get_or line at 0) b) (starts_at line (suc at) text) e).1 i (omega arith)
 
 -- a text that begins a line, where the line is as long, is its front
 pub starts-front : (line text : List ℕ) → starts_at line 0 text ≡ true → length text ≤ length line → take (length text) line ≡ text
@@ -96,14 +95,14 @@ starts-front line text e l =
 
 pub text-long : (text line : List ℕ) → is_text text line ≡ true → length line ≡ length text
 unfolding is_text
-text-long text line t = eqb-true _ _ (and-true (starts_at line 0 text) (eqb (length line) (length text)) t).1
+text-long text line t = eqb-true _ _ (and_parts (starts_at line 0 text) (eqb (length line) (length text)) t).1
 
 pub text-is : (text line : List ℕ) → is_text text line ≡ true → line ≡ text
 unfolding is_text
 text-is text line t =
     let n = text-long text line t in
     sym (take_all (length text) line (omega arith))
-    ∙ starts-front line text (and-true (starts_at line 0 text) (eqb (length line) (length text)) t).0 (omega arith)
+    ∙ starts-front line text (and_parts (starts_at line 0 text) (eqb (length line) (length text)) t).0 (omega arith)
 
 -- ---- std's comparisons
 
@@ -121,7 +120,7 @@ text_same text line r e =
     ∙ same_test (bytes_eq line text) (is_text text line)
     (λ t.
     let l = same.0 t in
-    and_is _ _ (starts_is line text [] 0 (l ∙ sym (append-nil text))) (eq-eqb _ _ (ap length l)))
+    and_from _ _ (starts_is line text [] 0 (l ∙ sym (append-nil text))) (eq-eqb _ _ (ap length l)))
     (λ t. same.1 (text-is text line t))
 
 -- a text of one byte begins a line that has it first
@@ -129,5 +128,5 @@ pub first_same : (b : ℕ) (line : List ℕ) → (b ≡ 0 → ⊥) → pointwise
 first_same b [] z = sym (ne_eqb 0 b (λ e. z (sym e)))
 first_same b (a ∷ line) z =
     same_test (eqb b a && true) (eqb a b)
-    (λ t. eq-eqb a b (sym (eqb-true b a (and-true (eqb b a) true t).0)))
-    (λ t. and_is (eqb b a) true (eq-eqb b a (sym (eqb-true a b t))) refl)
+    (λ t. eq-eqb a b (sym (eqb-true b a (and_parts (eqb b a) true t).0)))
+    (λ t. and_from (eqb b a) true (eq-eqb b a (sym (eqb-true a b t))) refl)

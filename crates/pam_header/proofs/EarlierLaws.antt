@@ -11,8 +11,8 @@ use lib.ListN.{length, get_or, take, drop, length-append, take-append-drop, leng
 use lib.Seq.{drop-drop, length-take-le}
 use borrow.Author.Tests.{ne_eqb, le-leb, leb-true}
 use Rattle.std.specs.Option.{IsSome}
-use Rattle.plane.proofs.Search.{either, not-both, and_is, not_is, or_right}
-use Rattle.plane.proofs.Refusal.{and-true}
+use Rattle.plane.proofs.Search.{not-both}
+use Rattle.std.proofs.lemmas.Bool.{and_from, and_parts, cases_Bool, not_from_false, or_right}
 use Rattle.text.specs.Decimal.{is_digit, all_digits, value_of, number_upto}
 use Rattle.text.proofs.Decimal.{digit-is, digits-most, stand}
 use Rattle.pam_header.specs.Header.{count_of, starts_at, most_digits, is_text, is_numeral, is_side, is_skipped, is_other}
@@ -43,10 +43,10 @@ parts input e =
     let m = starts_at input (middle_at input) height_text in
     let h = is_number input (height_at input) in
     let t = starts_at input (tail_at input) tail_text in
-    let a = and-true (s && w && m && h) t e in
-    let b = and-true (s && w && m) h a.0 in
-    let c = and-true (s && w) m b.0 in
-    let d = and-true s w c.0 in
+    let a = and_parts (s && w && m && h) t e in
+    let b = and_parts (s && w && m) h a.0 in
+    let c = and_parts (s && w) m b.0 in
+    let d = and_parts s w c.0 in
     record { text_first = d.0; width_there = d.1; middle_text = c.1; height_there = b.1; last_text = a.1 }
 
 module _ (input : List ℕ) where
@@ -72,7 +72,7 @@ module _ (input : List ℕ) where
   there-is : (at : ℕ) → is_number input at ≡ true → There at
   unfolding is_number is_numeral there
   there-is at e =
-      let a = and-true (leb 1 (digits_at input at)) (not (eqb (get_or input at 0) 48)) e in
+      let a = and_parts (leb 1 (digits_at input at)) (not (eqb (get_or input at 0) 48)) e in
       let n = leb-true 1 (digits_at input at) a.0 in
       let m = there-long at n in
       let first = ap (λ (q : List ℕ). get_or q 0 0) (there-split at) ∙ get_or-append (there at) _ 0 0 (omega (arith, m, n)) in
@@ -146,9 +146,9 @@ module _ (w h : List ℕ) (m : is_numeral w ≡ true) (n : is_numeral h ≡ true
   unfolding all_digits is_plain
   digits-plain [] d = refl
   digits-plain (b ∷ l) d =
-      let a = and-true (is_digit b) (all_digits l) d in
+      let a = and_parts (is_digit b) (all_digits l) d in
       let k = digit-is b a.0 in
-      and_is _ _ (not_is _ (ne_eqb b 10 (λ e. omega (arith, k.least)))) (digits-plain l a.1)
+      and_from _ _ (not_from_false _ (ne_eqb b 10 (λ e. omega (arith, k.least)))) (digits-plain l a.1)
 
   lines-plain : all_plain lines ≡ true
   unfolding all_plain is_plain lines
@@ -215,4 +215,4 @@ earlier-same input o =
     ∙ header-accepted w h _ e.rest (lines-header w h e.width_numeral e.height_numeral)
     ∙ rw (t, e.width_is, e.height_is, e.body_is, same))
     (λ (t : earlier_ok input ≡ false). let z : false ≡ true = rw t at o in not-both false z refl)
-    (either (earlier_ok input))
+    (cases_Bool (earlier_ok input))

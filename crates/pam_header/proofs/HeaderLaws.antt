@@ -13,8 +13,8 @@ use lib.Seq.{drop_at, take-append-add}
 use borrow.Author.Tests.{le-leb, not-true}
 use Rattle.std.proofs.Common.{Some}
 use Rattle.std.specs.Option.{IsSome}
-use Rattle.plane.proofs.Search.{either, not-both, and_is}
-use Rattle.plane.proofs.Refusal.{and-true}
+use Rattle.plane.proofs.Search.{not-both}
+use Rattle.std.proofs.lemmas.Bool.{and_from, and_parts, cases_Bool}
 use Rattle.text.specs.Decimal.{value_of}
 use Rattle.pam_header.specs.Header.{in_front, lines_of, count_of, starts_at, is_text, is_numeral, is_side, is_skipped, is_other}
 use Rattle.pam_header.specs.Header.{first_text, width_name, height_name, end_text}
@@ -38,14 +38,14 @@ line_first : (line rest : List ℕ) → is_plain line ≡ true → lines_of (lin
 unfolding lines_of in_front is_plain
 line_first [] rest e = refl
 line_first (b ∷ line) rest e =
-    let a = and-true (not (eqb b 10)) (is_plain line) e in
+    let a = and_parts (not (eqb b 10)) (is_plain line) e in
     rw (not-true (eqb b 10) a.0, line_first line rest a.1)
 
 text-lines : (lines : List (List ℕ)) (rest : List ℕ) → all_plain lines ≡ true → lines_of (text_of lines ++ rest) ≡ lines ++ lines_of rest
 unfolding text_of all_plain
 text-lines [] rest e = refl
 text-lines (line ∷ lines) rest e =
-    let a = and-true (is_plain line) (all_plain lines) e in
+    let a = and_parts (is_plain line) (all_plain lines) e in
     ap lines_of (append_assoc line (10 ∷ text_of lines) rest)
     ∙ line_first line (text_of lines ++ rest) a.0
     ∙ ap (λ (ls : List (List ℕ)). line ∷ ls) (text-lines lines rest a.1)
@@ -58,7 +58,7 @@ lines-plain (b ∷ text) =
     ⊎_elim {C = all_plain (lines_of (b ∷ text)) ≡ true}
     (λ (t : eqb b 10 ≡ true). rw t (lines-plain text))
     (λ (t : eqb b 10 ≡ false). rw t (in-front b (lines_of text) t (lines-plain text)))
-    (either (eqb b 10))
+    (cases_Bool (eqb b 10))
   where
     in-front : (b : ℕ) (lines : List (List ℕ)) → eqb b 10 ≡ false → all_plain lines ≡ true → all_plain (in_front b lines) ≡ true
     in-front b [] t e = refl
@@ -68,15 +68,15 @@ plain-front : (a b : List (List ℕ)) → all_plain (a ++ b) ≡ true → all_pl
 unfolding all_plain
 plain-front [] b e = refl
 plain-front (line ∷ a) b e =
-    let p = and-true (is_plain line) (all_plain (a ++ b)) e in
-    and_is (is_plain line) (all_plain a) p.0 (plain-front a b p.1)
+    let p = and_parts (is_plain line) (all_plain (a ++ b)) e in
+    and_from (is_plain line) (all_plain a) p.0 (plain-front a b p.1)
 
 plain-with : (a b : List (List ℕ)) → all_plain a ≡ true → all_plain b ≡ true → all_plain (a ++ b) ≡ true
 unfolding all_plain
 plain-with [] b e f = f
 plain-with (line ∷ a) b e f =
-    let p = and-true (is_plain line) (all_plain a) e in
-    and_is (is_plain line) (all_plain (a ++ b)) p.0 (plain-with a b p.1 f)
+    let p = and_parts (is_plain line) (all_plain a) e in
+    and_from (is_plain line) (all_plain (a ++ b)) p.0 (plain-with a b p.1 f)
 
 bytes-text : (lines : List (List ℕ)) → bytes_of lines ≡ length (text_of lines)
 unfolding bytes_of text_of
@@ -102,7 +102,7 @@ fields-all (line ∷ lines) more e =
     (λ (t : is_text end_text line ≡ false).
     let z : cond (is_other line) 1 0 + count_of is_other lines ≡ 0 = e in
     rw t (ap (λ (ls : List (List ℕ)). line ∷ ls) (fields-all lines more (omega arith))))
-    (either (is_text end_text line))
+    (cases_Bool (is_text end_text line))
 
 -- some line passes a test
 count-some : (test : List ℕ → Bool) (before : List (List ℕ)) (line : List ℕ) (after : List (List ℕ)) → test line ≡ true
@@ -122,7 +122,7 @@ end-found (line ∷ lines) l =
     let m : 1 ≤ 0 + count_of (is_text end_text) lines = rw t at l in
     let r = end-found lines (omega arith) in
     rw t (r.0, ap (λ (ls : List (List ℕ)). line ∷ ls) r.1))
-    (either (is_text end_text line))
+    (cases_Bool (is_text end_text line))
 
 -- ---- the sides
 
@@ -136,7 +136,7 @@ module _ (name : List ℕ) where
       (λ (t : is_side name line ≡ false).
       let z : 0 + count_of (is_side name) lines ≡ 0 = rw t at e in
       rw t (side-none lines v (omega arith)))
-      (either (is_side name line))
+      (cases_Bool (is_side name line))
 
   -- the only line that gives it decides
   side-is : (before : List (List ℕ)) (digits : List ℕ) (after : List (List ℕ)) (v : ℕ) → is_numeral digits ≡ true
@@ -158,7 +158,7 @@ module _ (name : List ℕ) where
       let z : 0 + count_of (is_side name) all ≡ 1 = rw t at e in
       let s : side_from name v line ≡ v = rw t in
       ap (λ (k : ℕ). side_in name k all) s ∙ side-is before digits after v n (omega arith))
-      (either (is_side name line))
+      (cases_Bool (is_side name line))
 
   side-found : (lines : List (List ℕ)) → 1 ≤ count_of (is_side name) lines → (digits : List ℕ) × Stands name digits lines
   unfolding count_of is_side
@@ -172,7 +172,7 @@ module _ (name : List ℕ) where
           before = [];
           after = lines;
           lines_are = ap (λ (x : List ℕ). x ∷ lines) (sym (side-line name line t));
-          number = (and-true (starts_at line 0 name) (is_numeral digits) t).1;
+          number = (and_parts (starts_at line 0 name) (is_numeral digits) t).1;
         },
       ))
       (λ (t : is_side name line ≡ false).
@@ -187,7 +187,7 @@ module _ (name : List ℕ) where
           number = s.number;
         },
       ))
-      (either (is_side name line))
+      (cases_Bool (is_side name line))
 
   side-stands : (digits : List ℕ) (lines : List (List ℕ)) → Stands name digits lines → count_of (is_side name) lines ≡ 1
       → side_in name 0 lines ≡ value_of digits
@@ -252,7 +252,7 @@ header-lines input o =
     ⊎_elim {C = are_lines_ok lines ≡ true}
     (λ (t : are_lines_ok lines ≡ true). t)
     (λ (t : are_lines_ok lines ≡ false). let z : false ≡ true = rw t at o in not-both false z refl)
-    (either (are_lines_ok lines))
+    (cases_Bool (are_lines_ok lines))
 
 pub header-means : (input : List ℕ) → IsSome (header_of input) → HasHeader input
 unfolding header_text all_plain
@@ -280,7 +280,7 @@ header-means input o =
     let long : length front ≤ most_header = rw length-take (omega arith) in
     let made : Lines w.0 h.0 lines =
     record {
-      plain = plain-front lines (end_text ∷ []) (plain-front (lines ++ (end_text ∷ [])) more (and-true (is_plain first_text) _ plain).1);
+      plain = plain-front lines (end_text ∷ []) (plain-front (lines ++ (end_text ∷ [])) more (and_parts (is_plain first_text) _ plain).1);
       fields = ok.fields_are_ok;
       short = omega (arith, long, ap length front-is ∙ length-append (header_text lines) after);
       width_stands = w.1;

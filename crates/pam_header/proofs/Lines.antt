@@ -17,8 +17,8 @@ use Rattle.std.specs.Option.{is_some, unwrap_or}
 use Rattle.std.specs.List.{position, position_or_len}
 use Rattle.std.specs.Cmp.Lexicographic.{pointwise}
 use Rattle.std.proofs.lemmas.Slice.Eq.{bytes_eq-Decides}
-use Rattle.plane.proofs.Search.{which, either, not-both, and_no}
-use Rattle.plane.proofs.Refusal.{and-true}
+use Rattle.plane.proofs.Search.{not-both, and_no}
+use Rattle.std.proofs.lemmas.Bool.{and_parts, cases_Bool, cases_lt}
 use Rattle.text.specs.Decimal.{value_of}
 use Rattle.pam_header.specs.declared.Header.{Header}
 use Rattle.pam_header.specs.declared.Fields.{Fields}
@@ -55,7 +55,7 @@ lines_none (b ∷ text) e =
     (λ (t : eqb b 10 ≡ false).
     let z : suc (line_long text) ≡ suc (length text) = rw t at e in
     rw (t, lines_none text (omega arith)))
-    (either (eqb b 10))
+    (cases_Bool (eqb b 10))
 
 -- else the bytes before the newline are the first line, and those after it give the others
 lines-some : (text : List ℕ) → line_long text < length text
@@ -68,7 +68,7 @@ lines-some (b ∷ text) l =
     (λ (t : eqb b 10 ≡ false).
     let z : suc (line_long text) < suc (length text) = rw t at l in
     rw (t, lines-some text (omega arith)))
-    (either (eqb b 10))
+    (cases_Bool (eqb b 10))
 
 -- ---- where the first line ends
 
@@ -79,7 +79,7 @@ line_is (b ∷ text) =
     ⊎_elim {C = position_or_len is_newline (b ∷ text) ≡ line_long (b ∷ text)}
     (λ (t : eqb b 10 ≡ true). rw t)
     (λ (t : eqb b 10 ≡ false). rw (t, line_is text) (omega arith))
-    (either (eqb b 10))
+    (cases_Bool (eqb b 10))
 
 module _ (text : List ℕ) where
   -- no newline: no line
@@ -89,7 +89,7 @@ module _ (text : List ℕ) where
       ⊎_elim {C = lines_of text ≡ []}
       (λ (l : n < length text). let z : ◌≡◌ {A = Option ℕ} (Some n) None = rw (lt-ltb n (length text) l) at e in cc)
       (λ (l : length text ≤ n). lines_none text (omega (arith, line_is text, long-most text)))
-      (which n (length text))
+      (cases_lt n (length text))
 
   -- a newline: the bytes before it are the first line
   pub record Ends (end : ℕ) : Type 0 where
@@ -106,7 +106,7 @@ module _ (text : List ℕ) where
       let long : line_long text ≡ end = sym (line_is text) ∙ same in
       record { inside = omega arith; lines_are = rw (← long) (lines-some text (omega (arith, long)) ∙ ap (λ (k : ℕ). take (line_long text) text ∷ lines_of (drop k text)) (sym (add-one (line_long text)))) })
       (λ (l : length text ≤ n). let z : ◌≡◌ {A = Option ℕ} None (Some end) = rw (le-ltb n (length text) l) at e in cc)
-      (which n (length text))
+      (cases_lt n (length text))
 
 -- ---- what a line is
 
@@ -124,8 +124,8 @@ module _ (line : List ℕ) (b : ℕ) (e : get_or line 0 0 ≡ b) where
 side-first : (first : ℕ) (name line : List ℕ) → is_side (first ∷ name) line ≡ true → get_or line 0 0 ≡ first
 unfolding is_side starts_at
 side-first first name line t =
-    let a = and-true _ (is_numeral (drop (length (first ∷ name)) line)) t in
-    eqb-true (get_or line 0 0) first (and-true (eqb (get_or line 0 0) first) (starts_at line 1 name) a.0).0
+    let a = and_parts _ (is_numeral (drop (length (first ∷ name)) line)) t in
+    eqb-true (get_or line 0 0) first (and_parts (eqb (get_or line 0 0) first) (starts_at line 1 name) a.0).0
 
 -- ---- what lines give
 
@@ -158,11 +158,11 @@ not-fits s lines f =
     let t = eqb (cond s.tupltype 1 0 + count_of (is_text tupltype_text) lines) 1 in
     ⊎_elim {C = fits s lines ≡ false}
     (λ (e : fits s lines ≡ true).
-    let o5 = and-true (w && h && d && m && t) (eqb (count_of is_other lines) 0) e in
-    let o4 = and-true (w && h && d && m) t o5.0 in
-    let o3 = and-true (w && h && d) m o4.0 in
-    let o2 = and-true (w && h) d o3.0 in
-    let o1 = and-true w h o2.0 in
+    let o5 = and_parts (w && h && d && m && t) (eqb (count_of is_other lines) 0) e in
+    let o4 = and_parts (w && h && d && m) t o5.0 in
+    let o3 = and_parts (w && h && d) m o4.0 in
+    let o2 = and_parts (w && h) d o3.0 in
+    let o1 = and_parts w h o2.0 in
     absurd
     (f
     (record {
@@ -174,7 +174,7 @@ not-fits s lines f =
       no_other = eqb-true _ _ o5.1;
     })))
     (λ (e : fits s lines ≡ false). e)
-    (either (fits s lines))
+    (cases_Bool (fits s lines))
 
 -- what the tests say of a line
 record Tests (line : List ℕ) (w h d m t o : Bool) : Type 0 where
@@ -198,7 +198,7 @@ skipped-tests line e =
     (λ (t : eqb (length line) 0 ≡ true). by 0 (get_or-eq_default line 0 (omega (arith, eqb-true (length line) 0 t))) refl refl refl refl refl)
     (λ (t : eqb (length line) 0 ≡ false).
     let first : eqb (get_or line 0 0) 35 ≡ true = rw t at e in by 35 (eqb-true (get_or line 0 0) 35 first) refl refl refl refl refl)
-    (either (eqb (length line) 0))
+    (cases_Bool (eqb (length line) 0))
   where
     by : (b : ℕ) → get_or line 0 0 ≡ b → eqb b 87 ≡ false → eqb b 72 ≡ false → eqb b 68 ≡ false → eqb b 77 ≡ false → eqb b 84 ≡ false
         → Tests line false false false false false false
@@ -362,6 +362,13 @@ module _ (s : Fields) (line : List ℕ) where
 abbrev pub no_fields : Fields
 no_fields = record { width = None; height = None; depth = false; maxval = false; tupltype = false }
 
+-- the derived Default
+pub nothing-seen : (s : Fields) → (s.width ≡ None) × ((s.height ≡ None) × ((s.depth ≡ false) × ((s.maxval ≡ false) × (s.tupltype ≡ false))))
+    → s ≡ no_fields
+nothing-seen s e =
+    let whole : s ≡ record { width = s.width; height = s.height; depth = s.depth; maxval = s.maxval; tupltype = s.tupltype } = refl in
+    whole ∙ rw (e.0, e.1.0, e.1.1.0, e.1.1.1.0, e.1.1.1.1)
+
 -- the header whose further lines are these, the first of them at a place
 unfoldable pub read_from : Option Fields → ℕ → List (List ℕ) → Option Header
 read_from None at lines = None
@@ -420,7 +427,7 @@ read_is s at (line ∷ lines) =
     (λ (t : is_text end_text line ≡ false).
     rw (t, zero-add (count_of (is_text end_text) lines))
     (further s at line lines (λ s'. read_is s' (at + length line + 1) lines) (with_line s line) (step s line)))
-    (either (is_text end_text line))
+    (cases_Bool (is_text end_text line))
 
 -- lines of which the first is P7 give the header of the definition
 header_read : (rest : List (List ℕ)) → read_from (Some no_fields) 3 rest ≡ header_by (first_text ∷ rest)
@@ -475,7 +482,7 @@ lines-text (b ∷ text) =
     ⊎_elim {C = (tail : List ℕ) × (b ∷ text ≡ text_of (lines_of (b ∷ text)) ++ tail)}
     (λ (t : eqb b 10 ≡ true). rw t (r.0, rw (eqb-true b 10 t) (ap (λ (l : List ℕ). 10 ∷ l) r.1)))
     (λ (t : eqb b 10 ≡ false). rw t (in-front b text (lines_of text) r.0 r.1))
-    (either (eqb b 10))
+    (cases_Bool (eqb b 10))
   where
     in-front : (b : ℕ) (text : List ℕ) (lines : List (List ℕ)) (tail : List ℕ) → text ≡ text_of lines ++ tail
         → (tail' : List ℕ) × (b ∷ text ≡ text_of (in_front b lines) ++ tail')
@@ -513,4 +520,4 @@ module _ (front : List ℕ) where
       let begins : take 3 front ≡ p7 = ap (take 3) split in
       not-both _ ((bytes_eq-Decides (take 3 front) p7).1 begins) e)
       (λ (t : is_text first_text (get_or lines 0 []) ≡ false). rw t)
-      (either (is_text first_text (get_or lines 0 [])))
+      (cases_Bool (is_text first_text (get_or lines 0 [])))

@@ -13,8 +13,7 @@ use lib.Seq.{take-length}
 use borrow.Author.Tests.{ne_eqb, le-leb, leb-true, eqb-true, eqb-false, not-true}
 use Rattle.std.specs.Char.{is_ascii_digit}
 use Rattle.std.specs.List.{list_all}
-use Rattle.plane.proofs.Search.{either}
-use Rattle.plane.proofs.Refusal.{and-true}
+use Rattle.std.proofs.lemmas.Bool.{and_parts, cases_Bool}
 use Rattle.text.specs.Decimal.{is_digit, all_digits, value_from, value_of, digits_upto, number_upto}
 use Rattle.text.proofs.Decimal.{digit-is, value-below}
 use Rattle.pam_header.specs.Header.{most_digits, is_numeral}
@@ -31,7 +30,7 @@ module _ (input : List ℕ) where
   digits_are (suc k) [] rest at e d f z = rw (byte-first input at ∙ ap (λ (q : List ℕ). get_or q 0 0) e, z)
   digits_are zero (b ∷ l) rest at e d f z = absurd (omega arith)
   digits_are (suc k) (b ∷ l) rest at e d f z =
-      let a = and-true (is_digit b) (all_digits l) d in
+      let a = and_parts (is_digit b) (all_digits l) d in
       rw (byte-is input at b (l ++ rest) e, a.0)
       (ap suc (digits_are k l rest (suc at) (drop-one input at b (l ++ rest) e) a.1 (omega arith) z))
 
@@ -55,9 +54,9 @@ pub record Numeral (l : List ℕ) : Type 0 where
 pub numeral : (l : List ℕ) → is_numeral l ≡ true → Numeral l
 unfolding is_numeral
 numeral l e =
-    let a = and-true (all_digits l && leb (length l) most_digits && leb 1 (length l)) (not (eqb (get_or l 0 0) 48)) e in
-    let b = and-true (all_digits l && leb (length l) most_digits) (leb 1 (length l)) a.0 in
-    let c = and-true (all_digits l) (leb (length l) most_digits) b.0 in
+    let a = and_parts (all_digits l && leb (length l) most_digits && leb 1 (length l)) (not (eqb (get_or l 0 0) 48)) e in
+    let b = and_parts (all_digits l && leb (length l) most_digits) (leb 1 (length l)) a.0 in
+    let c = and_parts (all_digits l) (leb (length l) most_digits) b.0 in
     record {
       digits = c.0;
       few = leb-true (length l) most_digits c.1;
@@ -93,11 +92,11 @@ pub value-some : (l : List ℕ) → Numeral l → 1 ≤ value_of l
 unfolding value_from all_digits
 value-some [] m = absurd (omega (arith, m.some))
 value-some (b ∷ l) m =
-    let d = digit-is b (and-true (is_digit b) (all_digits l) m.digits).0 in
+    let d = digit-is b (and_parts (is_digit b) (all_digits l) m.digits).0 in
     ⊎_elim {C = 1 ≤ value_of (b ∷ l)}
     (λ (t : eqb b 48 ≡ true). absurd (m.first (eqb-true b 48 t)))
     (λ (t : eqb b 48 ≡ false). omega (arith, d.least, eqb-false b 48 t, value_grows (10 * 0 + (b - 48)) l))
-    (either (eqb b 48))
+    (cases_Bool (eqb b 48))
 
 pub value-most : (l : List ℕ) → Numeral l → value_of l ≤ 99999
 value-most l m =

@@ -11,8 +11,8 @@ use lib.Dec.{eqb}
 use lib.Seq.{drop_at, take_at}
 use Rattle.std.specs.Cmp.Lexicographic.{pointwise}
 use Rattle.std.proofs.lemmas.Slice.Eq.{bytes_eq-Decides}
-use Rattle.plane.proofs.Search.{either, not-both, and_is}
-use Rattle.plane.proofs.Refusal.{and-true}
+use Rattle.plane.proofs.Search.{not-both}
+use Rattle.std.proofs.lemmas.Bool.{and_from, and_parts, cases_Bool}
 use Rattle.pam_header.specs.Header.{starts_at, is_numeral, is_side}
 use Rattle.pam_header.proofs.Comparing.{starts_is, starts-front}
 use Rattle.pam_header.proofs.Numbers.{numeral}
@@ -22,13 +22,13 @@ module _ (name : List ℕ) where
   pub side-given : (digits : List ℕ) → is_numeral digits ≡ true → is_side name (name ++ digits) ≡ true
   unfolding is_side
   side-given digits e =
-      and_is _ _ (starts_is (name ++ digits) name digits 0 refl) (ap is_numeral (drop_at name digits (length name) refl) ∙ e)
+      and_from _ _ (starts_is (name ++ digits) name digits 0 refl) (ap is_numeral (drop_at name digits (length name) refl) ∙ e)
 
   -- a line that gives it is the name and a number
   pub side-line : (line : List ℕ) → is_side name line ≡ true → name ++ drop (length name) line ≡ line
   unfolding is_side
   side-line line t =
-      let a = and-true (starts_at line 0 name) (is_numeral (drop (length name) line)) t in
+      let a = and_parts (starts_at line 0 name) (is_numeral (drop (length name) line)) t in
       let some = (numeral (drop (length name) line) a.1).some in
       let l : length name ≤ length line = omega (arith, some, length-drop (length name) line) in
       ap (λ (x : List ℕ). x ++ drop (length name) line) (sym (starts-front line name a.0 l))
@@ -36,7 +36,7 @@ module _ (name : List ℕ) where
 
   pub side-number : (line : List ℕ) → is_side name line ≡ true → is_numeral (drop (length name) line) ≡ true
   unfolding is_side
-  side-number line t = (and-true (starts_at line 0 name) (is_numeral (drop (length name) line)) t).1
+  side-number line t = (and_parts (starts_at line 0 name) (is_numeral (drop (length name) line)) t).1
 
   -- what std says of a line that does not begin with the name, and of one that does
   pub side-not : (line : List ℕ) → pointwise eqb (take (length name) line) name ≡ false → is_side name line ≡ false
@@ -47,7 +47,7 @@ module _ (name : List ℕ) where
       sym (ap (take (length name)) (side-line line t)) ∙ take_at name (drop (length name) line) (length name) refl in
       not-both _ ((bytes_eq-Decides (take (length name) line) name).1 front) f)
       (λ (t : is_side name line ≡ false). t)
-      (either (is_side name line))
+      (cases_Bool (is_side name line))
 
   pub side-front : (line : List ℕ) → pointwise eqb (take (length name) line) name ≡ true
       → is_side name line ≡ is_numeral (drop (length name) line)

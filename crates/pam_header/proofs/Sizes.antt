@@ -11,8 +11,8 @@ use lib.ListN.{length, get_or, take, drop, length-take}
 use lib.Seq.{take-take}
 use borrow.Author.Tests.{leb-true, eqb-true}
 use Rattle.std.proofs.Common.{Option, Some, None}
-use Rattle.plane.proofs.Search.{either, not-both}
-use Rattle.plane.proofs.Refusal.{and-true}
+use Rattle.plane.proofs.Search.{not-both}
+use Rattle.std.proofs.lemmas.Bool.{and_parts, cases_Bool}
 use Rattle.text.specs.Decimal.{value_of}
 use Rattle.pam_header.specs.declared.Header.{Header}
 use Rattle.pam_header.specs.Header.{in_front, lines_of, count_of, starts_at, is_text, is_side, is_other}
@@ -37,7 +37,7 @@ module _ (name : List ℕ) where
       (λ (t : is_side name line ≡ false).
       let m : 1 ≤ v + (0 + count_of (is_side name) lines) = rw t at l in
       rw t (side-some lines v (omega arith)))
-      (either (is_side name line))
+      (cases_Bool (is_side name line))
 
   side-most : (lines : List (List ℕ)) (v : ℕ) → v ≤ 99999 → side_in name v lines ≤ 99999
   unfolding side_in side_from
@@ -47,7 +47,7 @@ module _ (name : List ℕ) where
       (λ (t : is_side name line ≡ true).
       rw t (side-most lines _ (value-most (drop (length name) line) (numeral _ (side-number name line t)))))
       (λ (t : is_side name line ≡ false). rw t (side-most lines v l))
-      (either (is_side name line))
+      (cases_Bool (is_side name line))
 
 -- ---- how long the header is
 
@@ -64,7 +64,7 @@ bytes_most (b ∷ text) =
     ⊎_elim {C = bytes_of (lines_of (b ∷ text)) ≤ suc (length text)}
     (λ (t : eqb b 10 ≡ true). rw t (omega (arith, bytes_most text)))
     (λ (t : eqb b 10 ≡ false). rw t (omega (arith, bytes_most text, bytes-front b (lines_of text))))
-    (either (eqb b 10))
+    (cases_Bool (eqb b 10))
 
 -- ENDHDR is one of the lines that come after the fields
 field-bytes : (lines : List (List ℕ)) → 1 ≤ count_of (is_text end_text) lines → bytes_of (field_lines lines) + 7 ≤ bytes_of lines
@@ -76,7 +76,7 @@ field-bytes (line ∷ lines) l =
     (λ (t : is_text end_text line ≡ false).
     let m : 1 ≤ 0 + count_of (is_text end_text) lines = rw t at l in
     rw t (omega (arith, field-bytes lines (omega arith))))
-    (either (is_text end_text line))
+    (cases_Bool (is_text end_text line))
 
 -- ---- a header
 
@@ -91,8 +91,8 @@ unfolding are_lines_ok
 lines_ok lines e =
     let f = is_text first_text (get_or lines 0 []) in
     let g = leb 1 (count_of (is_text end_text) (drop 1 lines)) in
-    let a = and-true (f && g) (fields_ok (field_lines (drop 1 lines))) e in
-    let b = and-true f g a.0 in
+    let a = and_parts (f && g) (fields_ok (field_lines (drop 1 lines))) e in
+    let b = and_parts f g a.0 in
     record { first_is = b.0; end_stands = leb-true _ _ b.1; fields_are_ok = a.1 }
 
 pub record FieldsOk (lines : List (List ℕ)) : Type 0 where
@@ -111,11 +111,11 @@ fields-are lines e =
     let d = eqb (count_of (is_text depth_text) lines) 1 in
     let m = eqb (count_of (is_text maxval_text) lines) 1 in
     let t = eqb (count_of (is_text tupltype_text) lines) 1 in
-    let o5 = and-true (w && h && d && m && t) (eqb (count_of is_other lines) 0) e in
-    let o4 = and-true (w && h && d && m) t o5.0 in
-    let o3 = and-true (w && h && d) m o4.0 in
-    let o2 = and-true (w && h) d o3.0 in
-    let o1 = and-true w h o2.0 in
+    let o5 = and_parts (w && h && d && m && t) (eqb (count_of is_other lines) 0) e in
+    let o4 = and_parts (w && h && d && m) t o5.0 in
+    let o3 = and_parts (w && h && d) m o4.0 in
+    let o2 = and_parts (w && h) d o3.0 in
+    let o1 = and_parts w h o2.0 in
     record {
       one_width = eqb-true _ _ o1.0;
       one_height = eqb-true _ _ o1.1;
@@ -153,7 +153,7 @@ small_by lines l header e =
     let same : header_with fields ≡ header = cc in
     rw same at small)
     (λ (t : are_lines_ok lines ≡ false). let z : ◌≡◌ {A = Option Header} None (Some header) = rw t at e in cc)
-    (either (are_lines_ok lines))
+    (cases_Bool (are_lines_ok lines))
   where
     header_with : List (List ℕ) → Header
     header_with fields =

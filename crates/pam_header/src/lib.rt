@@ -14,7 +14,7 @@ const MOST_HEADER: usize = 4096;
 const MOST_DIGITS: usize = 5;
 
 // What a header says: the sides, and where the pixels stand.
-#[derive(Clone, Copy)]
+#[derive(Clone, Copy, Debug, PartialEq, Eq)]
 pub struct Header {
     pub height: usize,
     pub width: usize,
@@ -33,7 +33,7 @@ enum Line {
 }
 
 // The fields on the lines so far: the sides, and which of the others were seen.
-#[derive(Clone, Copy)]
+#[derive(Clone, Copy, Default)]
 struct Fields {
     width: Option<usize>,
     height: Option<usize>,
@@ -176,14 +176,8 @@ fn header_in(front: &[u8]) -> Option<Header>
     ensures { result ≡ header_by (lines_of front.now) }
 {
     let mut rest = front.strip_prefix(b"P7\n")?;
-    let mut seen = Fields {
-        width: None,
-        height: None,
-        depth: false,
-        maxval: false,
-        tupltype: false,
-    };
-    // A while: its step is the length of the line.
+    let mut seen = Fields::default();
+    // A while: its step is the length of the line. `split` would also give the bytes behind the last newline.
     while let Some(end) = line_end(rest) {
         let line = &rest[..end];
         let more = &rest[end + 1..];

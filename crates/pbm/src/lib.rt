@@ -22,6 +22,7 @@ fn pair(page: &mut Page<'_>, a: usize, b: usize)
     page.number(b as u64);
 }
 
+// The digit of a bit: '1' for on, '0' for off.
 fn bit_byte(t: bool) -> u8
     ensures { result ≡ bit_byte t }
 {
@@ -47,7 +48,8 @@ fn pixel(page: &mut Page<'_>, mask: &[u8], w: usize, i: usize)
     }
 }
 
-// All pixels of a mask.
+// All pixels of a mask, by their index, which also says where a line ends. That a row is not empty stands in three clauses: a type of such
+// widths would hold nothing else.
 fn pixels(page: &mut Page<'_>, mask: &[u8], w: usize)
     requires { (0 < w) × HasRoom page.old (2 * length mask.now) }
     ensures { Writes (pixels_text mask.now w (length mask.now)) page.old page.new }
@@ -79,7 +81,7 @@ fn crop_lines(page: &mut Page<'_>, crop: Box, keyed: bool)
     keyed_end(page, keyed);
 }
 
-// Width and height.
+// Width and height, flat as `write_mask` takes them.
 fn size_line(page: &mut Page<'_>, h: usize, w: usize)
     requires { HasRoom page.old (length (size_line h w)) }
     ensures { Writes (size_line h w) page.old page.new }
@@ -88,7 +90,9 @@ fn size_line(page: &mut Page<'_>, h: usize, w: usize)
     page.put(b'\n');
 }
 
-// A mask with its crop box and keyed flag, from the front of the buffer, which has room for two bytes a pixel.
+// A mask with its crop box and keyed flag, from the front of the buffer, which has room for two bytes a pixel. The mask and its sides
+// are no `Mask`: that asks for sides up to the longest that the proofs take, and this only for a width. The box
+// and the flag are no `Outcome`, which is of a crate that this one does not see.
 pub fn write_mask(out: &mut [u8], mask: &[u8], h: usize, w: usize, crop: Box, keyed: bool) -> usize
     requires mask_len { (0 < w) × (length mask.now ≡ h * w) }
     requires out_len { length (crop_lines crop keyed) + length (size_line h w) + 2 * (h * w) ≤ length out.old }
@@ -101,7 +105,7 @@ pub fn write_mask(out: &mut [u8], mask: &[u8], h: usize, w: usize, crop: Box, ke
     page.at
 }
 
-// A refusal by its number, from the front of the buffer.
+// A refusal by its number, from the front of the buffer. Any number has a text, so it takes no Refusal.
 pub fn write_refusal(out: &mut [u8], n: u32) -> usize
     requires { length (refusal_text n) ≤ length out.old }
     ensures { Wrote (refusal_text n) out.old out.new 0 result }

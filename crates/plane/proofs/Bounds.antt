@@ -1,12 +1,16 @@
--- Laws of the first and the last number below n of which p holds.
+-- Laws of the first and the last number below n of which p holds, and of the lesser of two numbers.
 -- Assumes nothing.
 use mathlib.Core.Path.{◌≡◌, refl, sym, ap, ◌∙◌}
 use mathlib.Core.Bool.{Bool, true, false, cond, ◌||◌}
 use mathlib.Core.Logic.{⊎_elim}
-use Prim.Native.Nat.{ℕ, zero, suc, ◌+◌, ◌-◌, ◌≤◌, ◌<◌}
+use Prim.Native.Nat.{ℕ, zero, suc, min, ◌+◌, ◌-◌, ◌≤◌, ◌<◌}
 use native.Mathlib.Omega.{arith}
+use lib.Dec.{leb}
+use borrow.Author.Tests.{leb-true, leb-false}
 use Rattle.plane.specs.Search.{some_below, first_below, last_below}
-use Rattle.plane.proofs.Search.{which, either, not-both, or_left, or_right, some_is, some_same, none_found, none_is}
+use Rattle.plane.specs.Box.{lesser_of}
+use Rattle.plane.proofs.Search.{not-both, some_is, some_same, none_found, none_is}
+use Rattle.std.proofs.lemmas.Bool.{cases_Bool, cases_lt, or_left, or_right}
 
 -- i is the first of them, and the last
 pub record First (n : ℕ) (p : ℕ → Bool) (i : ℕ) : Type 0 where
@@ -31,7 +35,7 @@ module _ (p : ℕ → Bool) where
       (λ (a : some_below n p ≡ false). (
       let b : p n ≡ true = rw a at e in
       rw (a, b) (record { inside = omega arith; holds = b; before = none_found p n a })))
-      (either (some_below n p))
+      (cases_Bool (some_below n p))
 
   pub last-below : (n : ℕ) → some_below n p ≡ true → Last n p (last_below n p)
   unfolding some_below last_below
@@ -48,9 +52,9 @@ module _ (p : ℕ → Bool) where
             ⊎_elim {C = p k ≡ false}
             (λ (b : k < n). f.after k l b)
             (λ (b : n ≤ k). (let q : k ≡ n = omega arith in ap p q ∙ a))
-            (which k n);
+            (cases_lt k n);
       })))
-      (either (p n))
+      (cases_Bool (p n))
     where
       or_off : (s t : Bool) → t ≡ false → s || t ≡ true → s ≡ true
       or_off true t a b = refl
@@ -66,8 +70,8 @@ module _ (p : ℕ → Bool) where
       ⊎_elim {C = first_below n p ≡ i}
       (λ (m : i < first_below n p). not-both (p i) f.holds (g.before i m))
       (λ (m : first_below n p ≤ i). omega arith)
-      (which i (first_below n p)))
-      (which (first_below n p) i)
+      (cases_lt i (first_below n p)))
+      (cases_lt (first_below n p) i)
 
   pub last-is : (n i : ℕ) → Last n p i → last_below n p ≡ i
   last-is n i f =
@@ -78,8 +82,8 @@ module _ (p : ℕ → Bool) where
       ⊎_elim {C = last_below n p ≡ i}
       (λ (m : i < last_below n p). not-both (p (last_below n p)) g.holds (f.after (last_below n p) m g.inside))
       (λ (m : last_below n p ≤ i). omega arith)
-      (which i (last_below n p)))
-      (which (last_below n p) i)
+      (cases_lt i (last_below n p)))
+      (cases_lt (last_below n p) i)
 
   -- where p holds of none they are n and 0
   pub first-none : (n : ℕ) → ((k : ℕ) → k < n → p k ≡ false) → first_below n p ≡ n
@@ -98,14 +102,14 @@ module _ (p : ℕ → Bool) where
       ⊎_elim {C = first_below n p ≤ n}
       (λ (a : some_below n p ≡ true). omega (arith, (first_below_lem n a).inside))
       (λ (a : some_below n p ≡ false). omega (arith, first-none n (none_found p n a)))
-      (either (some_below n p))
+      (cases_Bool (some_below n p))
 
   pub last-most : (n : ℕ) → last_below n p ≤ n
   last-most n =
       ⊎_elim {C = last_below n p ≤ n}
       (λ (a : some_below n p ≡ true). omega (arith, (last-below n a).inside))
       (λ (a : some_below n p ≡ false). omega (arith, last_none n (none_found p n a)))
-      (either (some_below n p))
+      (cases_Bool (some_below n p))
 
   -- what holds lies between them
   pub between : (n i : ℕ) → i < n → p i ≡ true → (first_below n p ≤ i) × (i ≤ last_below n p)
@@ -116,11 +120,11 @@ module _ (p : ℕ → Bool) where
         ⊎_elim {C = first_below n p ≤ i}
             (λ (m : i < first_below n p). not-both (p i) e (f.before i m))
             (λ (m : first_below n p ≤ i). m)
-            (which i (first_below n p)),
+            (cases_lt i (first_below n p)),
         ⊎_elim {C = i ≤ last_below n p}
             (λ (m : last_below n p < i). not-both (p i) e (g.after i m l))
             (λ (m : i ≤ last_below n p). m)
-            (which (last_below n p) i),
+            (cases_lt (last_below n p) i),
       )
 
   -- none lies before the first, and none behind the last
@@ -129,20 +133,20 @@ module _ (p : ℕ → Bool) where
       ⊎_elim {C = p k ≡ false}
       (λ (a : some_below n p ≡ true). (first_below_lem n a).before k l)
       (λ (a : some_below n p ≡ false). none_found p n a k (omega (arith, first-most n)))
-      (either (some_below n p))
+      (cases_Bool (some_below n p))
 
   pub none-behind : (n k : ℕ) → last_below n p < k → k < n → p k ≡ false
   none-behind n k l m =
       ⊎_elim {C = p k ≡ false}
       (λ (a : some_below n p ≡ true). (last-below n a).after k l m)
       (λ (a : some_below n p ≡ false). none_found p n a k m)
-      (either (some_below n p))
+      (cases_Bool (some_below n p))
 
   -- p holds of no number from i on, and not of the one before: of none from that on
   pub none_from : (n i : ℕ) → 0 < i → ((k : ℕ) → i ≤ k → k < n → p k ≡ false) → p (i - 1) ≡ false
       → (k : ℕ) → i - 1 ≤ k → k < n → p k ≡ false
   none_from n i a h e k l m =
-      ⊎_elim {C = p k ≡ false} (λ (g : k < i). (let q : k ≡ i - 1 = omega arith in ap p q ∙ e)) (λ (g : i ≤ k). h k g m) (which k i)
+      ⊎_elim {C = p k ≡ false} (λ (g : k < i). (let q : k ≡ i - 1 = omega arith in ap p q ∙ e)) (λ (g : i ≤ k). h k g m) (cases_lt k i)
 
 -- equal tests have the same first and last number
 pub first_same : (p q : ℕ → Bool) (n : ℕ) → ((i : ℕ) → i < n → p i ≡ q i) → first_below n p ≡ first_below n q
@@ -177,7 +181,7 @@ module _ (p q : ℕ → Bool) (n : ℕ) where
         before = λ k l. or-neither (p k) (q k) (none_before p n k (omega (arith, g.inside))) (g.before k l);
       }))
       (λ (a : some_below f q ≡ false). at_p (first_below f q) (first-none q f (none_found q f a)) (none_found q f a))
-      (either (some_below f q))
+      (cases_Bool (some_below f q))
     where
       at_p : (b : ℕ) → b ≡ first_below n p → ((k : ℕ) → k < first_below n p → q k ≡ false)
           → first_below n (λ (i : ℕ). p i || q i) ≡ b
@@ -197,7 +201,7 @@ module _ (p q : ℕ → Bool) (n : ℕ) where
           first-none (λ (i : ℕ). p i || q i) n
           (λ k l. or-neither (p k) (q k) (none_found p n s k l) (none k (omega arith)))
           ∙ sym (e ∙ z))
-          (either (some_below n p))
+          (cases_Bool (some_below n p))
 
   -- the last is that of q among the numbers from the last of p on
   pub last_or : last_below n (λ (i : ℕ). p i || q i) ≡ last_below n p + last_below (n - last_below n p) (λ (i : ℕ). q (last_below n p + i))
@@ -223,7 +227,7 @@ module _ (p q : ℕ → Bool) (n : ℕ) where
           (λ (a : some_below (n - b) later ≡ false).
           none-later b e (none_found later (n - b) a)
           ∙ omega (arith, last_none later (n - b) (none_found later (n - b) a)))
-          (either (some_below (n - b) later))
+          (cases_Bool (some_below (n - b) later))
         where
           none-later : (b : ℕ) → b ≡ last_below n p → ((k : ℕ) → k < n - b → q (b + k) ≡ false)
               → last_below n (λ (i : ℕ). p i || q i) ≡ b
@@ -245,4 +249,13 @@ module _ (p q : ℕ → Bool) (n : ℕ) where
               last_none (λ (i : ℕ). p i || q i) n
               (λ k l. or-neither (p k) (q k) (none_found p n s k l) (behind k (omega arith) l))
               ∙ sym (e ∙ z))
-              (either (some_below n p))
+              (cases_Bool (some_below n p))
+
+-- the lesser of two numbers is their minimum
+pub lesser-min : (a b : ℕ) → lesser_of a b ≡ min a b
+unfolding lesser_of
+lesser-min a b =
+    ⊎_elim {C = cond (leb a b) a b ≡ min a b}
+    (λ (e : leb a b ≡ true). rw e (omega (arith, leb-true a b e)))
+    (λ (e : leb a b ≡ false). rw e (omega (arith, leb-false a b e)))
+    (cases_Bool (leb a b))

@@ -10,7 +10,7 @@ use lib.ListN.{length, get_or, set, length-set}
 use lib.Seq.{get_or-set_other}
 use Rattle.plane.specs.Plane.{table}
 use Rattle.plane.proofs.Plane.{filled, table_is}
-use Rattle.plane.proofs.Search.{which}
+use Rattle.std.proofs.lemmas.Bool.{cases_lt}
 
 -- f in front of x, and from x on as it was
 module _ {A : Type 0} (d : A) (f : ℕ → A) (old : List A) where
@@ -35,7 +35,7 @@ module _ {A : Type 0} (d : A) (f : ℕ → A) (old : List A) where
       → new ≡ table f 0 (length old)
   changed-all new x p h =
       table_is f (length old) new d p.size
-      (λ i l. ⊎_elim {C = get_or new i d ≡ f i} (λ (a : i < x). p.front i a) (λ (a : x ≤ i). p.back i a ∙ h i a l) (which i x))
+      (λ i l. ⊎_elim {C = get_or new i d ≡ f i} (λ (a : i < x). p.front i a) (λ (a : x ≤ i). p.back i a ∙ h i a l) (cases_lt i x))
 
   pub changed-end : (new : List A) (x : ℕ) → Changed new x → length old ≤ x → new ≡ table f 0 (length old)
   changed-end new x p l = changed-all new x p (λ i g k. absurd (omega arith))

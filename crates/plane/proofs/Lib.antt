@@ -4,3 +4,4 @@ pub mod Mask
 pub mod InPlace
 pub mod Bounds
 pub mod Refusal
+pub mod Judged

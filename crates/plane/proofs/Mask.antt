@@ -10,7 +10,8 @@ use lib.Dec.{eqb}
 use lib.ListN.{length, get_or, get_or-eq_default}
 use Rattle.plane.specs.Plane.{on, bit, on_at}
 use Rattle.plane.specs.Mask.{is_on, mask_of}
-use Rattle.plane.proofs.Search.{which, not-both}
+use Rattle.plane.proofs.Search.{not-both}
+use Rattle.std.proofs.lemmas.Bool.{cases_lt}
 use Rattle.plane.proofs.Plane.{table-length, table_at, table_same, pixel-in, index-of, on_bit}
 
 -- a pixel that is on lies in the plane
@@ -20,7 +21,7 @@ on-inside mask i e =
     ⊎_elim {C = i < length mask}
     (λ (l : i < length mask). l)
     (λ (l : length mask ≤ i). not-both (not (eqb (get_or mask i 0) 0)) e (rw (get_or-eq_default mask 0 l)))
-    (which i (length mask))
+    (cases_lt i (length mask))
 
 -- a byte that is 0 is off
 pub off_byte : (mask : List ℕ) (i : ℕ) → eqb (get_or mask i 0) 0 ≡ not (is_on mask i)

@@ -18,7 +18,7 @@ use borrow.Author.Count.{below_more}
 use Rattle.std.specs.Int.{from_bool}
 use Rattle.plane.specs.Plane.{apart, on, bit, table, rows_upto, plane_of}
 use Rattle.plane.specs.steps.Sides.{longest_side}
-use Rattle.plane.proofs.Search.{which}
+use Rattle.std.proofs.lemmas.Bool.{cases_lt}
 
 -- ---- indices
 
@@ -65,6 +65,12 @@ pub from_bool-bit : (t : Bool) → from_bool t ≡ bit t
 unfolding bit
 from_bool-bit true = refl
 from_bool-bit false = refl
+
+-- such a byte is at most 1
+pub bit-most : (t : Bool) → bit t ≤ 1
+unfolding bit
+bit-most true = omega arith
+bit-most false = omega arith
 
 -- ---- tables
 
@@ -121,7 +127,7 @@ module _ {A : Type 0} (g : ℕ → List A) (w : ℕ) (keeps : (y : ℕ) → leng
       let e : y ≡ n = omega arith in
       let i : y * w + x ≡ length (rows_upto n g) + x = ap (λ (k : ℕ). k * w + x) e ∙ ap (λ (k : ℕ). k + x) (sym long) in
       ap (λ (k : ℕ). get_or (rows_upto n g ++ g n) k d) i ∙ get_or-append-add (rows_upto n g) (g n) x d ∙ ap (λ (k : ℕ). get_or (g k) x d) (sym e))
-      (which y n)
+      (cases_lt y n)
 
   pub rows_more : (y : ℕ) → rows_upto (y + 1) g ≡ rows_upto y g ++ g y
   rows_more y = rw (add-one y) (unfold rows_upto in refl)
@@ -185,7 +191,7 @@ module _ {A : Type 0} (h w : ℕ) (f : ℕ → ℕ → A) where
       let q : w ≡ 0 = omega arith in
       let r : h * w ≡ 0 = ap (λ (k : ℕ). h * k) q ∙ mul-zero h in
       absurd (omega arith))
-      (which 0 w))
+      (cases_lt 0 w))
 
 -- planes with equal elements are equal
 pub plane-same : {A : Type 0} (h w : ℕ) (f g : ℕ → ℕ → A) (d : A) → ((y x : ℕ) → y < h → x < w → f y x ≡ g y x)

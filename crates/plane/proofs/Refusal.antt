@@ -14,12 +14,8 @@ use Rattle.std.specs.Prelude.{Result, Ok, Err}
 use Rattle.plane.specs.declared.answer.Refusal.{Refusal}
 use Rattle.plane.specs.declared.answer.Refusal.TheVariants as refusal
 use Rattle.plane.specs.Refusal.{Test, refusal_of, after, sides_ok, room_for, number_of, refusal_by, answer_for, done_for, refusal_of_answer}
-use Rattle.plane.proofs.Search.{not-both}
 use Rattle.plane.proofs.Plane.{area-most}
-
-pub and-true : (s t : Bool) → s && t ≡ true → (s ≡ true) × (t ≡ true)
-and-true true t e = (refl, e)
-and-true false t e = not-both false e refl
+use Rattle.std.proofs.lemmas.Bool.{and_parts}
 
 -- ---- tests in order
 
@@ -42,7 +38,7 @@ pub passed : (ts : List Test) → numbered ts ≡ true → refusal_of ts ≡ 0 �
 unfolding refusal_of
 passed [] p e = tt
 passed (t ∷ ts) p e =
-    let q = and-true (leb 1 t.0) (numbered ts) p in
+    let q = and_parts (leb 1 t.0) (numbered ts) p in
     let r = one-passed t.1 t.0 (refusal_of ts) q.0 e in
     (r.0, passed ts q.1 r.1)
 
@@ -61,7 +57,7 @@ pub passed_first : (ts us : List Test) → numbered ts ≡ true → refusal_of t
 unfolding refusal_of
 passed_first [] us p e = refl
 passed_first (t ∷ ts) us p e =
-    let q = and-true (leb 1 t.0) (numbered ts) p in
+    let q = and_parts (leb 1 t.0) (numbered ts) p in
     let r = one-passed t.1 t.0 (refusal_of ts) q.0 e in
     rw r.0 (passed_first ts us q.1 r.1)
 
@@ -133,7 +129,7 @@ pub number-of-answer : {A : Type 0} (ts : List Test) (v : A) → named ts ≡ tr
 unfolding refusal_of answer_for
 number-of-answer [] v e = refl
 number-of-answer {A = A} (t ∷ ts) v e =
-    let p = and-true (eqb (number_of (refusal_by t.0)) t.0) (named ts) e in
+    let p = and_parts (eqb (number_of (refusal_by t.0)) t.0) (named ts) e in
     go t.1 (answer-number t.0 v p.0) (number-of-answer ts v p.1)
   where
     go : (b : Bool) → refusal_of_answer (answer_for t.0 v) ≡ t.0 → refusal_of_answer (answer_for (refusal_of ts) v) ≡ refusal_of ts
@@ -185,9 +181,9 @@ pub record Within (h w : ℕ) : Type 0 where
 
 pub sides-within : (h w : ℕ) → sides_ok h w ≡ true → Within h w
 sides-within h w e =
-    let a = and-true (leb 1 h && leb h most_side && leb 1 w) (leb w most_side) e in
-    let b = and-true (leb 1 h && leb h most_side) (leb 1 w) a.0 in
-    let c = and-true (leb 1 h) (leb h most_side) b.0 in
+    let a = and_parts (leb 1 h && leb h most_side && leb 1 w) (leb w most_side) e in
+    let b = and_parts (leb 1 h && leb h most_side) (leb 1 w) a.0 in
+    let c = and_parts (leb 1 h) (leb h most_side) b.0 in
     record {
       some_rows = leb-true 1 h c.0;
       some_columns = leb-true 1 w b.1;

@@ -1,33 +1,19 @@
 -- Laws of searching and counting below n.
 -- Assumes nothing.
 use mathlib.Core.Path.{◌≡◌, refl, sym, ap, ◌∙◌}
-use mathlib.Core.Bool.{Bool, true, false, cond, not, ◌&&◌, ◌||◌}
-use mathlib.Core.Logic.{◌⊎◌, inl, inr, ⊎_elim}
+use mathlib.Core.Bool.{Bool, true, false, cond, ◌&&◌, ◌||◌}
+use mathlib.Core.Logic.{⊎_elim}
 use Prim.Native.Nat.{ℕ, zero, suc, ◌+◌, ◌≤◌, ◌<◌}
 use native.Mathlib.Nat.{not-suc-le-zero}
 use native.Mathlib.Numerals.{add-one}
 use native.Mathlib.Omega.{arith}
-use lib.Dec.{ltb}
 use lib.ListN.{length, get_or, take}
 use mathlib.Core.List.{List}
 use Rattle.std.specs.List.{fold}
 use Rattle.std.proofs.lemmas.List.{take_more, take_all}
 use Rattle.std.proofs.lemmas.List.Sums.{fold_push}
-use borrow.Author.Tests.{ltb-true, ltb-false}
 use Rattle.plane.specs.Search.{some_below, count_below}
-
-which-of : (a b : ℕ) (t : Bool) → ltb a b ≡ t → (a < b) ⊎ (b ≤ a)
-which-of a b true e = inl (ltb-true a b e)
-which-of a b false e = inr (ltb-false a b e)
-
--- of two numbers the first is less, or not
-pub which : (a b : ℕ) → (a < b) ⊎ (b ≤ a)
-which a b = which-of a b (ltb a b) refl
-
--- a test is true or false
-pub either : (t : Bool) → (t ≡ true) ⊎ (t ≡ false)
-either true = inl refl
-either false = inr refl
+use Rattle.std.proofs.lemmas.Bool.{cases_Bool, cases_lt, or_cases, or_parts}
 
 -- no test is both
 pub not-both : {R : Type 0} (t : Bool) → t ≡ true → t ≡ false → R
@@ -36,20 +22,9 @@ not-both t p q = let z : ◌≡◌ {A = Bool} true false = cc in let e : ◌≡�
 -- what holds of every number below n, and of n, holds of every number below suc n
 pub below_suc : (P : ℕ → Type 0) (n : ℕ) → ((k : ℕ) → k < n → P k) → P n → (k : ℕ) → k < suc n → P k
 below_suc P n h p k l =
-    ⊎_elim {C = P k} (λ (a : k < n). h k a) (λ (a : n ≤ k). (let e : n ≡ k = omega arith in rw e at p)) (which k n)
+    ⊎_elim {C = P k} (λ (a : k < n). h k a) (λ (a : n ≤ k). (let e : n ≡ k = omega arith in rw e at p)) (cases_lt k n)
 
 -- ---- tests joined by "or" and "and"
-
-pub or-true : (s t : Bool) → s || t ≡ true → (s ≡ true) ⊎ (t ≡ true)
-or-true true t e = inl refl
-or-true false t e = inr e
-
-pub or_left : (s t : Bool) → s ≡ true → s || t ≡ true
-or_left s t e = rw e
-
-pub or_right : (s t : Bool) → t ≡ true → s || t ≡ true
-or_right true t e = refl
-or_right false t e = e
 
 pub or_no : (t : Bool) → t || false ≡ t
 or_no true = refl
@@ -59,9 +34,6 @@ pub and_no : (t : Bool) → t && false ≡ false
 and_no true = refl
 and_no false = refl
 
-pub not_is : (t : Bool) → t ≡ false → not t ≡ true
-not_is t e = rw e
-
 -- two conjunctions are equal where the first parts are, and the second parts are wherever the first hold
 pub and_same : (s t a b : Bool) → s ≡ t → (s ≡ true → a ≡ b) → s && a ≡ t && b
 and_same s t a b e h = rw (sym e) (go s h)
@@ -69,13 +41,6 @@ and_same s t a b e h = rw (sym e) (go s h)
     go : (r : Bool) → (r ≡ true → a ≡ b) → r && a ≡ r && b
     go true g = g refl
     go false g = refl
-
-pub and_is : (s t : Bool) → s ≡ true → t ≡ true → s && t ≡ true
-and_is s t p q = rw (p, q)
-
-or-false : (s t : Bool) → s || t ≡ false → (s ≡ false) × (t ≡ false)
-or-false true t e = not-both true refl e
-or-false false t e = (refl, e)
 
 -- ---- searches
 
@@ -88,14 +53,14 @@ module _ (p : ℕ → Bool) where
       ⊎_elim {C = (i : ℕ) × (i < suc n) × (p i ≡ true)}
       (λ (a : some_below n p ≡ true). (let z = some-found n a in (z.0, omega (arith, z.1), z.2)))
       (λ (a : p n ≡ true). (n, omega arith, a))
-      (or-true (some_below n p) (p n) e)
+      (or_cases (some_below n p) (p n) e)
 
   -- a search that finds nothing has no place
   pub none_found : (n : ℕ) → some_below n p ≡ false → (i : ℕ) → i < n → p i ≡ false
   unfolding some_below
   none_found zero e i l = absurd (not-suc-le-zero l)
   none_found (suc n) e i l =
-      let z = or-false (some_below n p) (p n) e in
+      let z = or_parts (some_below n p) (p n) e in
       below_suc (λ (k : ℕ). p k ≡ false) n (none_found n z.0) z.1 i l
 
   -- a place is found
@@ -104,7 +69,7 @@ module _ (p : ℕ → Bool) where
       ⊎_elim {C = some_below n p ≡ true}
       (λ (a : some_below n p ≡ true). a)
       (λ (a : some_below n p ≡ false). not-both (p i) e (none_found n a i l))
-      (either (some_below n p))
+      (cases_Bool (some_below n p))
 
   -- and where there is none, nothing is
   pub none_is : (n : ℕ) → ((i : ℕ) → i < n → p i ≡ false) → some_below n p ≡ false
@@ -112,7 +77,7 @@ module _ (p : ℕ → Bool) where
       ⊎_elim {C = some_below n p ≡ false}
       (λ (a : some_below n p ≡ true). (let z = some-found n a in not-both (p z.0) z.2 (h z.0 z.1)))
       (λ (a : some_below n p ≡ false). a)
-      (either (some_below n p))
+      (cases_Bool (some_below n p))
 
   -- a count is at most n
   pub count_most : (n : ℕ) → count_below n p ≤ n
@@ -123,7 +88,7 @@ module _ (p : ℕ → Bool) where
       ⊎_elim {C = count_below n p + cond (p n) 1 0 ≤ suc n}
       (λ (a : p n ≡ true). rw a (omega arith))
       (λ (a : p n ≡ false). rw a (omega arith))
-      (either (p n))
+      (cases_Bool (p n))
 
 -- equal tests find alike, and count alike
 pub some_same : (p q : ℕ → Bool) (n : ℕ) → ((i : ℕ) → i < n → p i ≡ q i) → some_below n p ≡ some_below n q

@@ -1,2 +1,5 @@
 pub mod Complement
 pub mod Sides
+pub mod Judged
+pub mod Buffer
+pub mod Accepted

@@ -1,6 +1,7 @@
 // What a call answers: its value, or why it declines.
 ghost use Rattle.std.specs.Prelude.{◌≡◌};
-ghost use Rattle.plane.specs.Refusal.{refusal_of_answer};
+ghost use Rattle.plane.specs.Refusal.{refusal_of, done_for, refusal_of_answer};
+ghost use Rattle.plane.specs.steps.Judged.{tests_of};
 
 // Why a call declines. Each variant has a number, by which C and the programs name it.
 #[derive(Clone, Copy, Debug, PartialEq, Eq)]
@@ -51,7 +52,7 @@ impl From<Refusal> for u32 {
     }
 }
 
-// The number of an answer: 0 where the call was accepted.
+// The number of an answer, as C and the programs hand it on: 0 where the call was accepted.
 pub fn refusal_of<T: Drop>(answer: Result<T, Refusal>) -> u32
     ensures { result ≡ refusal_of_answer answer }
 {
@@ -59,4 +60,16 @@ pub fn refusal_of<T: Drop>(answer: Result<T, Refusal>) -> u32
         Ok(_) => 0,
         Err(refusal) => u32::from(refusal),
     }
+}
+
+// Tests in order, each with the refusal of a call that fails it: what the first that fails declines by.
+pub fn judge(tests: &[(bool, Refusal)]) -> Result<(), Refusal>
+    ensures { result ≡ done_for (refusal_of (tests_of tests.now)) }
+{
+    for (holds, refusal) in tests {
+        if !*holds {
+            return Err(*refusal);
+        }
+    }
+    Ok(())
 }

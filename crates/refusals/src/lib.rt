@@ -1,17 +1,30 @@
-// What ground, growth and cut decline: the tests in order; each function returns at the first that fails, and tests with one number are
-// made at once. Sides and lengths come first, so that nothing is read behind a wrong length, and colours are read no further
-// than the first block with a wrong one. Of ground and cut the lengths are judged by one function and what stands in the buffers by
-// another, so that a text with the card's colour is read between the two.
+// What ground, growth and cut decline: the sides first, then the other tests in order. Lengths come before contents, so that nothing is
+// read behind a wrong length, and colours are read no further than the first block with a wrong one. What judges lengths takes the sides
+// flat and hands back a Size: the C interface lends numbers and slices. Each is the list of its own tests, as in geometry. Of ground and
+// cut the lengths are judged by one function and what stands in the buffers by another, so that a text with the card's colour is read
+// between the two.
 #![tactic(auto)]
 
-ghost use Rattle.std.specs.Prelude.{◌≡◌, length};
+ghost use Rattle.std.specs.Prelude.{◌≡◌, length, IfOk};
 ghost use Rattle.plane.specs.Refusal.{refusal_of, done_for};
+ghost use Rattle.plane.specs.steps.Accepted.{HasSides};
+ghost use Rattle.plane.specs.steps.Judged.{done};
 ghost use Rattle.card.specs.Card.{Border};
 ghost use Rattle.colour.specs.Colour.{rgb_ok};
-ghost use Rattle.outline.specs.Refusal.{work_tests, ground_lengths, growth_lengths, cut_lengths, picture_tests, cut_contents, growth_refusal};
+ghost use Rattle.outline.specs.Refusal.{ground_lengths, growth_lengths, cut_lengths, picture_tests, cut_contents, growth_refusal};
 
 use colour::{Rgb, Settings};
-use plane::answer::Refusal;
+use plane::answer::{self, Refusal};
+use plane::size::Size;
+
+// How many numbers the four work buffers of growth and cut hold.
+#[derive(Clone, Copy, Debug, PartialEq, Eq)]
+pub struct WorkLengths {
+    pub nearest: usize,
+    pub shallow: usize,
+    pub deep: usize,
+    pub marks: usize,
+}
 
 // Whether the three channels of a colour are from 0 to 1.
 fn rgb_ok(c: Rgb) -> bool
@@ -20,57 +33,55 @@ fn rgb_ok(c: Rgb) -> bool
     colour::colour_ok(c.r) & colour::colour_ok(c.g) & colour::colour_ok(c.b)
 }
 
-// Ground: the lengths of the colours, the output and the work buffer.
+// Ground: the sides, where the lengths of the colours, the output and the work buffer are accepted.
 pub fn ground_lengths(
     h: usize,
     w: usize,
     colours: usize,
     out: usize,
     work: usize,
-) -> Result<(), Refusal>
-    ensures { result ≡ done_for (refusal_of (ground_lengths h w colours out work)) }
+) -> Result<Size, Refusal>
+    ensures refusal { done result ≡ done_for (refusal_of (ground_lengths h w colours out work)) }
+    ensures size { IfOk result (HasSides h w) }
 {
-    if !plane::sides_ok(h, w) {
-        return Err(Refusal::Sides);
-    }
-    let n = h * w;
-    if colours != 3 * n {
-        return Err(Refusal::Inputs);
-    }
-    if (out == n) & (plane::room(h, w) <= work) {
-        return Ok(());
-    }
-    Err(Refusal::Outputs)
+    let size = Size::new(h, w)?;
+    let n = size.area();
+    answer::judge(&[
+        (colours == 3 * n, Refusal::Inputs),
+        (out == n, Refusal::Outputs),
+        (size.room() <= work, Refusal::Outputs),
+    ])?;
+    Ok(size)
 }
 
-// Growth: the lengths of the colours, the background, the output and four work buffers.
+// Growth: the sides, where the lengths of the colours, the background, the output and four work buffers are accepted.
 fn growth_lengths(
     h: usize,
     w: usize,
     colours: usize,
     back: usize,
     out: usize,
-    nearest: usize,
-    shallow: usize,
-    deep: usize,
-    marks: usize,
-) -> Result<(), Refusal>
-    ensures { result ≡ done_for (refusal_of (growth_lengths h w colours back out nearest shallow deep marks)) }
+    work: WorkLengths,
+) -> Result<Size, Refusal>
+    ensures refusal { done result ≡ done_for (refusal_of (growth_lengths h w colours back out work.nearest work.shallow work.deep work.marks)) }
+    ensures size { IfOk result (HasSides h w) }
 {
-    if !plane::sides_ok(h, w) {
-        return Err(Refusal::Sides);
-    }
-    let n = h * w;
-    if (colours == 3 * n) & (back == n) {
-        if out != n {
-            return Err(Refusal::Outputs);
-        }
-        return work_lengths(plane::room(h, w), nearest, shallow, deep, marks);
-    }
-    Err(Refusal::Inputs)
+    let size = Size::new(h, w)?;
+    let n = size.area();
+    let room = size.room();
+    answer::judge(&[
+        (colours == 3 * n, Refusal::Inputs),
+        (back == n, Refusal::Inputs),
+        (out == n, Refusal::Outputs),
+        (room <= work.nearest, Refusal::Outputs),
+        (room <= work.shallow, Refusal::Outputs),
+        (room <= work.deep, Refusal::Outputs),
+        (room <= work.marks, Refusal::Outputs),
+    ])?;
+    Ok(size)
 }
 
-// Cut: the lengths of the colours, the alpha, two outputs and four work buffers.
+// Cut: the sides, where the lengths of the colours, the alpha, two outputs and four work buffers are accepted.
 pub fn cut_lengths(
     h: usize,
     w: usize,
@@ -78,53 +89,36 @@ pub fn cut_lengths(
     alpha: usize,
     mask: usize,
     weights: usize,
-    nearest: usize,
-    shallow: usize,
-    deep: usize,
-    marks: usize,
-) -> Result<(), Refusal>
-    ensures { result ≡ done_for (refusal_of (cut_lengths h w colours alpha mask weights nearest shallow deep marks)) }
+    work: WorkLengths,
+) -> Result<Size, Refusal>
+    ensures refusal { done result ≡ done_for (refusal_of (cut_lengths h w colours alpha mask weights
+        work.nearest work.shallow work.deep work.marks)) }
+    ensures size { IfOk result (HasSides h w) }
 {
-    if !plane::sides_ok(h, w) {
-        return Err(Refusal::Sides);
-    }
-    let n = h * w;
-    if (colours == 3 * n) & (alpha == n) {
-        if (mask == n) & (weights == n) {
-            return work_lengths(plane::room(h, w), nearest, shallow, deep, marks);
-        }
-        return Err(Refusal::Outputs);
-    }
-    Err(Refusal::Inputs)
-}
-
-// Four work buffers that hold at least `least` numbers.
-fn work_lengths(
-    least: usize,
-    nearest: usize,
-    shallow: usize,
-    deep: usize,
-    marks: usize,
-) -> Result<(), Refusal>
-    ensures { result ≡ done_for (refusal_of (work_tests least nearest shallow deep marks)) }
-{
-    if (least <= nearest) & (least <= shallow) & (least <= deep) & (least <= marks) {
-        return Ok(());
-    }
-    Err(Refusal::Outputs)
+    let size = Size::new(h, w)?;
+    let n = size.area();
+    let room = size.room();
+    answer::judge(&[
+        (colours == 3 * n, Refusal::Inputs),
+        (alpha == n, Refusal::Inputs),
+        (mask == n, Refusal::Outputs),
+        (weights == n, Refusal::Outputs),
+        (room <= work.nearest, Refusal::Outputs),
+        (room <= work.shallow, Refusal::Outputs),
+        (room <= work.deep, Refusal::Outputs),
+        (room <= work.marks, Refusal::Outputs),
+    ])?;
+    Ok(size)
 }
 
 // What a picture is declined for whose card is readable: its colours, then the tolerance.
 pub fn picture_refusal(colours: &[f64], tolerance: f64) -> Result<(), Refusal>
     ensures { result ≡ done_for (refusal_of (picture_tests Border colours.now tolerance)) }
 {
-    if !colour::colours_ok(colours) {
-        return Err(Refusal::Colours);
-    }
-    if !colour::is_finite(tolerance) {
-        return Err(Refusal::Tolerance);
-    }
-    Ok(())
+    answer::judge(&[
+        (colour::colours_ok(colours), Refusal::Colours),
+        (colour::is_finite(tolerance), Refusal::Tolerance),
+    ])
 }
 
 // What a cut is declined for once its lengths are accepted: the picture, then an alpha that nowhere reaches the threshold.
@@ -132,13 +126,13 @@ pub fn cut_contents(colours: &[f64], alpha: &[u8], s: Settings) -> Result<(), Re
     ensures { result ≡ done_for (refusal_of (cut_contents Border colours.now alpha.now (length alpha.now) s)) }
 {
     picture_refusal(colours, s.key_bg_tolerance)?;
-    if !weights::some_reach(alpha, s.alpha_threshold) {
-        return Err(Refusal::Alpha);
-    }
-    Ok(())
+    answer::judge(&[(
+        weights::some_reach(alpha, s.alpha_threshold),
+        Refusal::Alpha,
+    )])
 }
 
-// What growth is declined for.
+// Growth: the sides, where its lengths are accepted, and its colours and the reference are from 0 to 1.
 pub fn growth_refusal(
     colours: &[f64],
     back: usize,
@@ -146,26 +140,16 @@ pub fn growth_refusal(
     w: usize,
     reference: Rgb,
     out: usize,
-    nearest: usize,
-    shallow: usize,
-    deep: usize,
-    marks: usize,
-) -> Result<(), Refusal>
-    ensures { result ≡ done_for (growth_refusal colours.now back h w reference out nearest shallow deep marks) }
+    work: WorkLengths,
+) -> Result<Size, Refusal>
+    ensures refusal { done result ≡ done_for (growth_refusal colours.now back h w reference out work.nearest work.shallow work.deep work.marks) }
+    ensures size { IfOk result (HasSides h w) }
 {
-    growth_lengths(
-        h,
-        w,
-        colours.len(),
-        back,
-        out,
-        nearest,
-        shallow,
-        deep,
-        marks,
-    )?;
-    if colour::colours_ok(colours) & rgb_ok(reference) {
-        return Ok(());
-    }
-    Err(Refusal::Colours)
+    let n = colours.len();
+    let size = growth_lengths(h, w, n, back, out, work)?;
+    answer::judge(&[
+        (colour::colours_ok(colours), Refusal::Colours),
+        (rgb_ok(reference), Refusal::Colours),
+    ])?;
+    Ok(size)
 }

@@ -1,9 +1,10 @@
 // What each case answers.
 use crate::calls;
 use crate::calls::{Cut, Place, Stop};
-use crate::case::{Mask, Picture, Plane, Sides, Task};
+use crate::case::{Mask, Picture, Plane, Task};
 use colour::Settings;
 use plane::answer::Refusal;
+use plane::size::Size;
 use std::alloc::{AllocError, Global};
 
 // What a case answers.
@@ -51,7 +52,7 @@ struct Comparison {
 
 impl Answer {
     // The answer to a task; a refusal is one too.
-    pub fn of(alloc: Global, task: &Task<'_>) -> Result<Self, AllocError> {
+    pub(crate) fn of(alloc: Global, task: &Task<'_>) -> Result<Self, AllocError> {
         match declinable(computed(alloc, task))? {
             Ok(answer) => Ok(answer),
             Err(refusal) => Ok(Answer::Refused(refusal)),
@@ -151,7 +152,7 @@ fn mask_or<'a>(cut: &'a Result<Cut, Refusal>, other: &'a Mask) -> &'a Mask {
     }
 }
 
-// Where two pictures agree; where no ground of the first one is found, both masks are off.
+// Where two pictures agree; where no ground of the first one is found, both masks are off, as the recorded comparison takes them.
 fn compared(
     alloc: Global,
     first: &Picture,
@@ -163,8 +164,8 @@ fn compared(
     let Ok(Some((_, ground))) = found else {
         return Ok(Comparison {
             agreement: None,
-            ground: calls::off(alloc, first.sides)?,
-            near: calls::off(alloc, first.sides)?,
+            ground: calls::off(alloc, first.size)?,
+            near: calls::off(alloc, first.size)?,
         });
     };
     let passes = colour::passes(settings);
@@ -185,11 +186,11 @@ fn compared(
 fn agree(first: &Picture, second: &Picture, near: &Mask) -> bool {
     let colours = first.colours.chunks(3).zip(second.colours.chunks(3));
     let mut pixels = colours.zip(&near.pixels).enumerate();
-    pixels.all(|(i, ((a, b), mark))| a == b || (*mark == 0 && !on_border(near.sides, i)))
+    pixels.all(|(i, ((a, b), mark))| a == b || (*mark == 0 && !on_border(near.size, i)))
 }
 
 // Whether pixel i is in the first or the last row or column.
-fn on_border(sides: Sides, i: usize) -> bool {
-    let (row, column) = (i / sides.w, i % sides.w);
-    row == 0 || row == sides.h - 1 || column == 0 || column == sides.w - 1
+fn on_border(size: Size, i: usize) -> bool {
+    let (row, column) = (i / size.w, i % size.w);
+    row == 0 || row == size.h - 1 || column == 0 || column == size.w - 1
 }

@@ -1,10 +1,12 @@
-// The public calls of geometry and keying, each with the buffers that it is lent.
+// The public calls of geometry and keying, each with the buffers that it is lent. Each reserves its own: that is a line for each buffer,
+// and the buffers are of several types. What comes out has the sides of what goes in: a clause, since it speaks of both.
 ghost use Rattle.std.specs.Prelude.{◌≡◌, IfOk, IfSome};
 
-use crate::case::{Mask, Picture, Plane, Sides};
+use crate::case::{Mask, Picture, Plane};
 use colour::{Rgb, Settings};
 use outline::Outcome;
 use plane::answer::Refusal;
+use plane::size::Size;
 use std::alloc::{AllocError, Global};
 
 // Why a call gives no answer.
@@ -28,7 +30,7 @@ impl From<AllocError> for Stop {
     }
 }
 
-// Where a pixel's nearest on-pixel is; the row is -1 where no pixel is on.
+// Where a pixel's nearest on-pixel is; the row is -1 where no pixel is on, a number as the call writes it and as it is printed.
 #[derive(Clone, Copy, Debug)]
 pub struct Place {
     pub row: i32,
@@ -53,9 +55,9 @@ struct Work {
 }
 
 impl Work {
-    // Buffers for planes with these sides.
-    fn new(alloc: Global, sides: Sides) -> Result<Self, AllocError> {
-        let room = sides.room();
+    // Buffers for planes of this size.
+    fn new(alloc: Global, size: Size) -> Result<Self, AllocError> {
+        let room = size.room();
         Ok(Work {
             nearest: vec![in alloc; 0; room]?,
             shallow: vec![in alloc; 0; room]?,
@@ -66,54 +68,47 @@ impl Work {
 }
 
 // A mask with no pixel on.
-pub fn off(alloc: Global, sides: Sides) -> Result<Mask, AllocError>
-    ensures { IfOk result (λ mask. mask.sides ≡ sides) }
+pub(crate) fn off(alloc: Global, size: Size) -> Result<Mask, AllocError>
+    ensures { IfOk result (λ mask. mask.size ≡ size) }
 {
-    let pixels = vec![in alloc; 0; sides.area()]?;
-    Ok(Plane { sides, pixels })
+    let pixels = vec![in alloc; 0; size.area()]?;
+    Ok(Plane { size, pixels })
 }
 
 // How many parts a mask has, and the label of each pixel.
-pub fn labels(alloc: Global, mask: &Mask) -> Result<(u32, Plane<u32>), Stop>
-    ensures { IfOk result (λ answer. answer.1.sides ≡ mask.now.sides) }
+pub(crate) fn labels(alloc: Global, mask: &Mask) -> Result<(u32, Plane<u32>), Stop>
+    ensures { IfOk result (λ answer. answer.1.size ≡ mask.now.size) }
 {
-    let sides = mask.sides;
-    let mut work = vec![in alloc; 0; sides.room()]?;
-    let mut pixels = vec![in alloc; 0; sides.area()]?;
-    let parts = geometry::label4(&mask.pixels, sides.h, sides.w, &mut work, &mut pixels)?;
-    Ok((parts, Plane { sides, pixels }))
+    let size = mask.size;
+    let mut work = vec![in alloc; 0; size.room()]?;
+    let mut pixels = vec![in alloc; 0; size.area()]?;
+    let parts = geometry::label4(&mask.pixels, size.h, size.w, &mut work, &mut pixels)?;
+    Ok((parts, Plane { size, pixels }))
 }
 
 // The mask with the pixels that are at most so many steps away.
-pub fn dilated(alloc: Global, mask: &Mask, steps: u64) -> Result<Mask, Stop>
-    ensures { IfOk result (λ dilated. dilated.sides ≡ mask.now.sides) }
+pub(crate) fn dilated(alloc: Global, mask: &Mask, steps: u64) -> Result<Mask, Stop>
+    ensures { IfOk result (λ dilated. dilated.size ≡ mask.now.size) }
 {
-    let sides = mask.sides;
-    let mut work = vec![in alloc; 0; sides.room()]?;
-    let mut pixels = vec![in alloc; 0; sides.area()]?;
-    geometry::binary_dilation8(
-        &mask.pixels,
-        sides.h,
-        sides.w,
-        steps,
-        &mut work,
-        &mut pixels,
-    )?;
-    Ok(Plane { sides, pixels })
+    let size = mask.size;
+    let mut work = vec![in alloc; 0; size.room()]?;
+    let mut pixels = vec![in alloc; 0; size.area()]?;
+    geometry::binary_dilation8(&mask.pixels, size.h, size.w, steps, &mut work, &mut pixels)?;
+    Ok(Plane { size, pixels })
 }
 
 // The nearest on-pixel of each pixel.
-pub fn nearest(alloc: Global, mask: &Mask) -> Result<Plane<Place>, Stop>
-    ensures { IfOk result (λ places. places.sides ≡ mask.now.sides) }
+pub(crate) fn nearest(alloc: Global, mask: &Mask) -> Result<Plane<Place>, Stop>
+    ensures { IfOk result (λ places. places.size ≡ mask.now.size) }
 {
-    let sides = mask.sides;
-    let mut work = vec![in alloc; 0; sides.room()]?;
-    let mut rows = vec![in alloc; 0; sides.area()]?;
-    let mut columns = vec![in alloc; 0; sides.area()]?;
+    let size = mask.size;
+    let mut work = vec![in alloc; 0; size.room()]?;
+    let mut rows = vec![in alloc; 0; size.area()]?;
+    let mut columns = vec![in alloc; 0; size.area()]?;
     geometry::feature_transform(
         &mask.pixels,
-        sides.h,
-        sides.w,
+        size.h,
+        size.w,
         &mut work,
         &mut rows,
         &mut columns,
@@ -125,109 +120,91 @@ pub fn nearest(alloc: Global, mask: &Mask) -> Result<Plane<Place>, Stop>
             column: *column,
         })
         .collect(alloc)?;
-    Ok(Plane { sides, pixels })
+    Ok(Plane { size, pixels })
 }
 
 // The ground and its reference colour, by the card's colour where it is given.
-pub fn ground(
+pub(crate) fn ground(
     alloc: Global,
     picture: &Picture,
     tolerance: f64,
     card: Option<&str>,
 ) -> Result<Option<(Rgb, Mask)>, Stop>
-    ensures { IfOk result (λ found. IfSome found (λ pair. pair.1.sides ≡ picture.now.sides)) }
+    ensures { IfOk result (λ found. IfSome found (λ pair. pair.1.size ≡ picture.now.size)) }
 {
-    let sides = picture.sides;
-    let Sides { h, w } = sides;
-    let mut work = vec![in alloc; 0; sides.room()]?;
-    let mut pixels = vec![in alloc; 0; sides.area()]?;
-    let answer = match card {
-        Some(text) => keying::flat_background_with_colour(
-            &picture.colours,
-            h,
-            w,
-            text.as_bytes(),
-            tolerance,
-            &mut work,
-            &mut pixels,
-        ),
-        None => keying::flat_background(&picture.colours, h, w, tolerance, &mut work, &mut pixels),
-    };
+    let size = picture.size;
+    let Size { h, w } = size;
+    let mut work = vec![in alloc; 0; size.room()]?;
+    let mut pixels = vec![in alloc; 0; size.area()]?;
+    let answer = keying::flat_background(
+        &picture.colours,
+        h,
+        w,
+        card.map(str::as_bytes),
+        tolerance,
+        &mut work,
+        &mut pixels,
+    );
     let Some(reference) = answer? else {
         return Ok(None);
     };
-    Ok(Some((reference, Plane { sides, pixels })))
+    Ok(Some((reference, Plane { size, pixels })))
 }
 
 // The cut of a picture with this alpha, by the card's colour where it is given.
-pub fn subject(
+pub(crate) fn subject(
     alloc: Global,
     picture: &Picture,
     alpha: &[u8],
     settings: Settings,
     card: Option<&str>,
 ) -> Result<Cut, Stop>
-    ensures { IfOk result (λ cut. cut.mask.sides ≡ picture.now.sides) }
+    ensures { IfOk result (λ cut. cut.mask.size ≡ picture.now.size) }
 {
-    let sides = picture.sides;
-    let Sides { h, w } = sides;
-    let mut work = Work::new(alloc, sides)?;
-    let mut pixels = vec![in alloc; 0; sides.area()]?;
-    let mut weights = vec![in alloc; 0.0; sides.area()]?;
-    let answer = match card {
-        Some(text) => keying::subject_with_colour(
-            &picture.colours,
-            alpha,
-            h,
-            w,
-            text.as_bytes(),
-            settings,
-            &mut work.nearest,
-            &mut work.shallow,
-            &mut work.deep,
-            &mut work.marks,
-            &mut pixels,
-            &mut weights,
-        ),
-        None => keying::subject(
-            &picture.colours,
-            alpha,
-            h,
-            w,
-            settings,
-            &mut work.nearest,
-            &mut work.shallow,
-            &mut work.deep,
-            &mut work.marks,
-            &mut pixels,
-            &mut weights,
-        ),
-    };
+    let size = picture.size;
+    let Size { h, w } = size;
+    let mut work = Work::new(alloc, size)?;
+    let mut pixels = vec![in alloc; 0; size.area()]?;
+    let mut weights = vec![in alloc; 0.0; size.area()]?;
+    let outcome = keying::subject(
+        &picture.colours,
+        alpha,
+        h,
+        w,
+        card.map(str::as_bytes),
+        settings,
+        &mut work.nearest,
+        &mut work.shallow,
+        &mut work.deep,
+        &mut work.marks,
+        &mut pixels,
+        &mut weights,
+    )?;
     Ok(Cut {
-        outcome: answer?,
-        mask: Plane { sides, pixels },
+        outcome,
+        mask: Plane { size, pixels },
         weights,
     })
 }
 
 // The background after so many passes of growth.
-pub fn grown(
+pub(crate) fn grown(
     alloc: Global,
     picture: &Picture,
     background: &Mask,
     reference: Rgb,
     passes: i64,
 ) -> Result<Mask, Stop>
-    ensures { IfOk result (λ grown. grown.sides ≡ picture.now.sides) }
+    ensures { IfOk result (λ grown. grown.size ≡ picture.now.size) }
 {
-    let sides = picture.sides;
-    let mut work = Work::new(alloc, sides)?;
-    let mut pixels = vec![in alloc; 0; sides.area()]?;
+    let size = picture.size;
+    let mut work = Work::new(alloc, size)?;
+    let mut pixels = vec![in alloc; 0; size.area()]?;
     keying::unmix_fringe(
         &picture.colours,
         &background.pixels,
-        sides.h,
-        sides.w,
+        size.h,
+        size.w,
         reference,
         passes,
         &mut work.nearest,
@@ -236,26 +213,26 @@ pub fn grown(
         &mut work.marks,
         &mut pixels,
     )?;
-    Ok(Plane { sides, pixels })
+    Ok(Plane { size, pixels })
 }
 
 // A look at the pass that comes after a background: how many pixels join, and the background after it.
-pub fn next_pass(
+pub(crate) fn next_pass(
     alloc: Global,
     picture: &Picture,
     background: &Mask,
     reference: Rgb,
 ) -> Result<(u64, Mask), Stop>
-    ensures { IfOk result (λ look. look.1.sides ≡ picture.now.sides) }
+    ensures { IfOk result (λ look. look.1.size ≡ picture.now.size) }
 {
-    let sides = picture.sides;
-    let mut work = Work::new(alloc, sides)?;
-    let mut pixels = vec![in alloc; 0; sides.area()]?;
+    let size = picture.size;
+    let mut work = Work::new(alloc, size)?;
+    let mut pixels = vec![in alloc; 0; size.area()]?;
     let joins = keying::next_pass(
         &picture.colours,
         &background.pixels,
-        sides.h,
-        sides.w,
+        size.h,
+        size.w,
         reference,
         &mut work.nearest,
         &mut work.shallow,
@@ -263,5 +240,5 @@ pub fn next_pass(
         &mut work.marks,
         &mut pixels,
     )?;
-    Ok((joins, Plane { sides, pixels }))
+    Ok((joins, Plane { size, pixels }))
 }

@@ -1,4 +1,5 @@
 // Why no case is read.
+use plane::answer::Refusal;
 use std::alloc::{AllocError, AllocFailed};
 use std::num::{ParseIntError, TryFromIntError};
 
@@ -19,6 +20,13 @@ impl From<ParseIntError> for Unread {
 
 impl From<TryFromIntError> for Unread {
     fn from(_error: TryFromIntError) -> Self {
+        Unread::Malformed
+    }
+}
+
+// Sides that no call accepts.
+impl From<Refusal> for Unread {
+    fn from(_refusal: Refusal) -> Self {
         Unread::Malformed
     }
 }

@@ -1,13 +1,15 @@
-// The cases of a text: each is read from its line and those after it.
+// The cases of a text: each is read from its line and those after it. That reading goes on (GoesOn) is a clause of seven functions: it
+// speaks of before and after.
 ghost use Rattle.std.specs.Prelude.{◌≡◌, length};
 ghost use Rattle.std.specs.Iterator.{at_most};
 ghost use Rattle.std.specs.Str.Iter.{lines_rest};
 ghost use Rattle.replay.specs.steps.Reading.{GoesOn};
 
-use crate::case::{Case, Mask, Picture, Plane, Sides, Task};
+use crate::case::{Case, Mask, Picture, Plane, Task};
 use crate::error::Unread;
 use crate::kind::Kind;
 use colour::Settings;
+use plane::size::Size;
 use std::alloc::{AllocError, Global};
 use std::num;
 use std::str::Lines;
@@ -44,7 +46,7 @@ impl<'a> Iterator for Cases<'a> {
 
 impl<'a> Cases<'a> {
     // All cases of a text.
-    pub fn new(alloc: Global, text: &'a str) -> Self
+    pub(crate) fn new(alloc: Global, text: &'a str) -> Self
         ensures { lines_rest result.lines ≡ text.now }
     {
         let lines = text.lines();
@@ -77,17 +79,17 @@ impl<'a> Cases<'a> {
         let [kind, h, w, count, others @ ..] = words.as_slice() else {
             return Err(Unread::Malformed);
         };
-        let sides = Sides::new(h.parse()?, w.parse()?).ok_or(Unread::Malformed)?;
+        let size = Size::new(h.parse()?, w.parse()?)?;
         let card = card(kind, others);
-        let task = self.task(kind.parse()?, sides, count.parse()?, others, card)?;
+        let task = self.task(kind.parse()?, size, count.parse()?, others, card)?;
         Ok(Case { line, task })
     }
 
-    // What the line asks for, with the planes that follow it.
+    // What the line asks for, with the planes that follow it. The parameters are the words of the line, as far as they are read.
     fn task(
         &mut self,
         kind: Kind,
-        sides: Sides,
+        size: Size,
         count: u64,
         words: &[&'a str],
         card: Option<&'a str>,
@@ -95,43 +97,44 @@ impl<'a> Cases<'a> {
         ensures { GoesOn self.old.lines self.new.lines }
     {
         match kind {
-            Kind::Labels => Ok(Task::Labels(self.mask(sides)?)),
-            Kind::Squares => Ok(Task::Squares(self.mask(sides)?, count)),
-            Kind::Nearest => Ok(Task::Nearest(self.mask(sides)?)),
+            Kind::Labels => Ok(Task::Labels(self.mask(size)?)),
+            Kind::Squares => Ok(Task::Squares(self.mask(size)?, count)),
+            Kind::Nearest => Ok(Task::Nearest(self.mask(size)?)),
             Kind::Ground => {
                 let tolerance = tolerance(words)?;
                 let palette = self.palette(count)?;
-                Ok(Task::Ground(self.picture(&palette, sides)?, tolerance, card))
+                Ok(Task::Ground(self.picture(&palette, size)?, tolerance, card))
             }
             Kind::Cut => {
                 let settings = settings(words)?;
                 let palette = self.palette(count)?;
-                Ok(Task::Cut(self.picture(&palette, sides)?, settings, card))
+                Ok(Task::Cut(self.picture(&palette, size)?, settings, card))
             }
             Kind::Pair => {
                 let settings = settings(words)?;
                 let palette = self.palette(count)?;
-                let first = self.picture(&palette, sides)?;
-                let second = self.picture(&palette, sides)?;
+                let first = self.picture(&palette, size)?;
+                let second = self.picture(&palette, size)?;
                 Ok(Task::Pair(first, second, settings, card))
             }
+            // As a cut but for the variant: with one arm for both the kind would be asked twice.
             Kind::Following => {
                 let settings = settings(words)?;
                 let palette = self.palette(count)?;
-                Ok(Task::Following(self.picture(&palette, sides)?, settings, card))
+                Ok(Task::Following(self.picture(&palette, size)?, settings, card))
             }
         }
     }
 
     // Lines of digits, 0 for off.
-    fn mask(&mut self, sides: Sides) -> Result<Mask, Unread>
+    fn mask(&mut self, size: Size) -> Result<Mask, Unread>
         ensures { GoesOn self.old.lines self.new.lines }
     {
         let mut pixels = Vec::new(self.alloc);
-        for line in &self.next_lines(sides.h)? {
+        for line in &self.next_lines(size.h)? {
             pixels.extend(line.bytes().map(|digit| u8::from(digit != b'0')))?;
         }
-        Plane::new(sides, pixels).ok_or(Unread::Malformed)
+        Plane::new(size, pixels).ok_or(Unread::Malformed)
     }
 
     // The palette of a case: the colours of so many entries, and a line of their alphas.
@@ -150,12 +153,12 @@ impl<'a> Cases<'a> {
     }
 
     // Lines of characters: `0` is the palette's first entry, and each entry has the character after the one before.
-    fn picture(&mut self, palette: &[Entry], sides: Sides) -> Result<Picture, Unread>
+    fn picture(&mut self, palette: &[Entry], size: Size) -> Result<Picture, Unread>
         ensures { GoesOn self.old.lines self.new.lines }
     {
         let mut colours = Vec::new(self.alloc);
         let mut alpha = Vec::new(self.alloc);
-        for line in &self.next_lines(sides.h)? {
+        for line in &self.next_lines(size.h)? {
             for character in line.bytes() {
                 let place = usize::from(character.wrapping_sub(b'0'));
                 let entry = palette.get(place).ok_or(Unread::Malformed)?;
@@ -163,7 +166,7 @@ impl<'a> Cases<'a> {
                 alpha.push(entry.alpha)?;
             }
         }
-        Picture::new(sides, colours, alpha).ok_or(Unread::Malformed)
+        Picture::new(size, colours, alpha).ok_or(Unread::Malformed)
     }
 }
 
@@ -189,7 +192,8 @@ fn flag(word: &str) -> Result<bool, Unread> {
     }
 }
 
-// The text of the card's colour, for a kind with a small letter: the word after those of its settings, which may be empty.
+// The text of the card's colour, for a kind with a small letter: the word after those of its settings, which may be empty. The letter is
+// asked here again, since `Kind` is one for both.
 fn card<'a>(kind: &str, words: &[&'a str]) -> Option<&'a str> {
     let place = match kind {
         "g" => 1,

@@ -17,7 +17,8 @@ struct Digits<'a>(&'a Mask);
 #[derive(Clone, Copy)]
 struct CutOrRefusal<'a>(&'a Result<Cut, Refusal>);
 
-// Why a call declines.
+// Why a call declines. A type of its own, since the enum is of another crate, as the trait is.
+// cutcard writes the same text to a page, without a heap.
 #[derive(Clone, Copy)]
 struct Refused(Refusal);
 
@@ -27,7 +28,7 @@ struct Runs<'a>(&'a [f64]);
 
 impl<T: fmt::Display> fmt::Display for Words<'_, T> {
     fn fmt<W: fmt::Write>(&self, f: &mut fmt::Formatter<W>) -> fmt::Result {
-        for row in self.0.pixels.chunks(self.0.sides.w) {
+        for row in self.0.pixels.chunks(self.0.size.w) {
             for (i, pixel) in row.iter().enumerate() {
                 if i != 0 {
                     f.write_str(" ")?;
@@ -42,7 +43,7 @@ impl<T: fmt::Display> fmt::Display for Words<'_, T> {
 
 impl fmt::Display for Digits<'_> {
     fn fmt<W: fmt::Write>(&self, f: &mut fmt::Formatter<W>) -> fmt::Result {
-        for row in self.0.pixels.chunks(self.0.sides.w) {
+        for row in self.0.pixels.chunks(self.0.size.w) {
             for pixel in row {
                 f.write_str(if *pixel == 0 { "0" } else { "1" })?;
             }

@@ -7,7 +7,8 @@ use Rattle.plane.specs.Search.{some_below, count_below}
 use Rattle.plane.specs.Plane.{on, bit, on_at, apart, table}
 use Rattle.plane.specs.Mask.{is_on, mask_of}
 use Rattle.plane.specs.Box.{lesser_of}
-use Rattle.plane.proofs.Search.{which, none_found, some_same, count_same}
+use Rattle.plane.proofs.Search.{none_found, some_same, count_same}
+use Rattle.std.proofs.lemmas.Bool.{cases_lt}
 use Rattle.std.proofs.Common.{rules, replicate}
 use Rattle.std.proofs.lemmas.List.{places, length-replicate, get_or-replicate, get_or-take}
 use Rattle.std.specs.Int.{from_bool}
@@ -17,10 +18,11 @@ use Rattle.counts.specs.Running.{window_count, enters, leaves, running}
 use Rattle.counts.specs.steps.Window.{in_window}
 use Rattle.counts.specs.steps.Parts.{full_byte, rest_of, changed, step_of, moved_line, Split}
 use Rattle.row_counts.specs.steps.Rows.{change_line, tally, ran_line, counted_part, dilated_row, Block, Steppable, Stepped}
-use Rattle.counts.proofs.Counting.{window-some, lesser-is, leaves-held, running-count}
+use Rattle.counts.proofs.Counting.{window-some, leaves-held, running-count}
 use Rattle.counts.proofs.Parts.{not-moved, moved-small, split-new, split_step, split-test}
 use Rattle.counts.proofs.Begun.{Begun, begun-none, begun-end}
 use Rattle.counts.proofs.Put.{part_at, part_length, put-length, put_front, put-part, put_back, begun-part}
+use Rattle.plane.proofs.Bounds.{lesser-min}
 
 -- ---- the steps
 
@@ -42,7 +44,7 @@ module _ (row old new : List ℕ) (a n s m change : ℕ) (fits : s + m ≤ lengt
       ∙ rw (part_at old s m (i - s) (omega arith), part_at row a n (i - s) (omega arith)) in
       rw q at z
 
-module _ {row steps : List ℕ} {k c : ℕ} (p : Steppable row k c steps) where
+module _ {row steps : List ℕ} (k : ℕ) {c : ℕ} (p : Steppable row c steps) where
   -- first the pixels that enter move the first bytes, as far as the row has pixels,
   module _ {a b : ℕ} {new : List ℕ} (start : a ≡ min (length row) (c + k)) (end : b ≡ min (length row) (c + length steps + k))
       (made : new ≡ moved_line (take (b - a) (drop a row)) 1 (take (b - a) steps)) where
@@ -68,7 +70,7 @@ module _ {row steps : List ℕ} {k c : ℕ} (p : Steppable row k c steps) where
         put_back 0 (b - a) steps new fits (moved-long row steps new a (b - a) 0 (b - a) 1 fits refl made) i (omega arith)
         ∙ p.zeros i l
         ∙ rw (le-ltb (c + i + k) (length row) (omega (arith, p.inside))) (sym (not-moved 0 1 (omega arith))))
-        (which i (b - a))
+        (cases_lt i (b - a))
 
     -- then those that leave move the last, as far as there are pixels that far back
     module _ {new' : List ℕ} {d e : ℕ} (start' : d ≡ c - (k + 1)) (end' : e ≡ c + length steps - (k + 1))
@@ -102,7 +104,7 @@ module _ {row steps : List ℕ} {k c : ℕ} (p : Steppable row k c steps) where
           let q : d + (i - s) ≡ c + i - (k + 1) = omega arith in
           let z = moved_in row one new' d (e - d) s m 255 inside rest made' i g (omega (arith, entered-length)) in
           rw (lt-ltb k (c + i) (omega arith)) (rw (q, entered i l) at z))
-          (which i s)
+          (cases_lt i s)
 
       pub ends-stepped : Stepped row k c two
       ends-stepped =
@@ -110,7 +112,7 @@ module _ {row steps : List ℕ} {k c : ℕ} (p : Steppable row k c steps) where
           record { each = λ i l. left i (omega (arith, entered-length)) }
 
 -- where a pixel enters and one leaves at each of m columns, the steps are had at once
-pub change-stepped : {row steps new : List ℕ} {k c a b m : ℕ} → Steppable row k c steps → k < c → c + m + k ≤ length row
+pub change-stepped : {row steps new : List ℕ} {k c a b m : ℕ} → Steppable row c steps → k < c → c + m + k ≤ length row
     → m ≡ length steps → a ≡ c + k → b ≡ c - k - 1
     → new ≡ change_line (take (a + m - a) (drop a row)) (take (b + m - b) (drop b row)) → Stepped row k c new
 unfolding change_line enters leaves is_on
@@ -156,12 +158,10 @@ off_zero v e = eqb-true v 0 (not-false (eqb v 0) e)
 pub block-long : {row out : List ℕ} {k c n : ℕ} → Block row k c n out → length (take (length out) (replicate {A = ℕ} 256 0)) ≡ length out
 block-long b = search (rules, places, b.short)
 
-pub block-steppable : {row out : List ℕ} {k c n : ℕ} → Block row k c n out → Steppable row k c (take (length out) (replicate 256 0))
+pub block-steppable : {row out : List ℕ} {k c n : ℕ} → Block row k c n out → Steppable row c (take (length out) (replicate 256 0))
 block-steppable {row} {out} b =
     let long = block-long b in
     record {
-      wide = b.wide;
-      near = b.near;
       inside = omega (arith, b.inside, long);
       zeros = λ i l. get_or-take (length out) _ i 0 (omega arith) ∙ get_or-replicate 256 i 0 0 (omega (arith, b.short));
     }
@@ -257,9 +257,6 @@ pub record Reached (row : List ℕ) (k c m n : ℕ) (out : List ℕ) (x : ℕ) :
   pub written : Begun (λ (i : ℕ). bit (ltb 0 (window_count (length row) k (c + i) (is_on row)))) m out x
 
 module _ {row out : List ℕ} {k c n : ℕ} where
-  pub reached-none : Block row k c n out → Reached row k c (length out) n out 0
-  reached-none b = record { value = rw add-zero b.value; written = begun-none refl }
-
   -- a byte runs through the steps from step x to step e, which is y
   pub reached-run : {steps new : List ℕ} {m v x e y : ℕ} → Stepped row k c steps → length steps ≡ m → c + m ≤ length row
       → Reached row k c m n out x → x ≤ e → e ≤ m → e - x ≤ 127 → e ≡ y
@@ -296,13 +293,13 @@ module _ {row out : List ℕ} {k n : ℕ} where
   unfolding running is_on
   written-none {first} e value size =
       let long : length (take first row) ≡ lesser_of k (length row) =
-      part_length row 0 first (omega arith) ∙ omega (arith, lesser-is k (length row)) in
+      part_length row 0 first (omega arith) ∙ omega (arith, lesser-min k (length row)) in
       record {
         value =
             value
             ∙ rw (sym long)
             (count_same (is_on (take first row)) (is_on row) (length (take first row))
-            (λ i l. ap on (get_or-take first row i 0 (omega (arith, lesser-is k (length row))))));
+            (λ i l. ap on (get_or-take first row i 0 (omega (arith, lesser-min k (length row))))));
         pixels = begun-none size;
       }
 
@@ -326,15 +323,14 @@ module _ {row out : List ℕ} {k n : ℕ} where
   written-all w e = begun-end w.pixels (omega arith)
 
 -- the row that the line pass writes, where it reads row y of a mask
-pub row_is : (mask : List ℕ) (h w k y n : ℕ) → length mask ≡ h * w → y < h → n ≡ w
-    → dilated_row (take n (drop (y * w) mask)) k ≡ table (λ (x : ℕ). bit (in_window w k x (on_at mask w y))) 0 w
+pub row_is : (mask : List ℕ) (h w k y : ℕ) → length mask ≡ h * w → y < h
+    → dilated_row (take w (drop (y * w) mask)) k ≡ table (λ (x : ℕ). bit (in_window w k x (on_at mask w y))) 0 w
 unfolding dilated_row in_window on_at is_on mask_of
-row_is mask h w k y n e l q =
+row_is mask h w k y e l =
     let row = take w (drop (y * w) mask) in
     let long : length row ≡ w = part_length mask (y * w) w (omega (arith, row_in y h w l)) in
-    rw q
-    (ap (λ (m : ℕ). mask_of m (λ (x : ℕ). in_window m k x (is_on row))) long
+    ap (λ (m : ℕ). mask_of m (λ (x : ℕ). in_window m k x (is_on row))) long
     ∙ mask-same w (λ (x : ℕ). in_window w k x (is_on row)) (λ (x : ℕ). in_window w k x (on_at mask w y))
     (λ x g.
     some_same (λ (i : ℕ). is_on row i && leb (apart x i) k) (λ (i : ℕ). on_at mask w y i && leb (apart x i) k) w
-    (λ i m. ap (λ (v : ℕ). on v && leb (apart x i) k) (part_at mask (y * w) w i m))))
+    (λ i m. ap (λ (v : ℕ). on v && leb (apart x i) k) (part_at mask (y * w) w i m)))

@@ -1,7 +1,7 @@
 -- Laws of squares, over the definitions alone.
 -- Assumes nothing.
-use mathlib.Core.Path.{◌≡◌, refl, sym, ◌∙◌}
-use mathlib.Core.Bool.{Bool, true, false, ◌&&◌}
+use mathlib.Core.Path.{◌≡◌, refl, sym}
+use mathlib.Core.Bool.{Bool, true, false, cond, ◌&&◌}
 use mathlib.Core.List.{List}
 use mathlib.Core.Logic.{⊎_elim}
 use Prim.Native.Nat.{ℕ, min, max, ◌+◌, ◌*◌, ◌≤◌, ◌<◌}
@@ -11,36 +11,23 @@ use lib.ListN.{length}
 use borrow.Author.Tests.{leb-true, le-leb, lt-leb, ne_eqb}
 use Rattle.plane.specs.Search.{some_below}
 use Rattle.plane.specs.Plane.{bit, on_at, apart, within}
-use Rattle.plane.proofs.Search.{which, some-found, some_is, and_is}
+use Rattle.plane.proofs.Search.{some-found, some_is}
+use Rattle.std.proofs.lemmas.Bool.{and_from, and_parts, cases_lt}
 use Rattle.plane.proofs.Plane.{plane-length}
-use Rattle.plane.proofs.Refusal.{and-true}
+use Rattle.plane.specs.steps.Sides.{longest_side, Sides}
 use Rattle.squares.specs.Squares.{larger, reach, in_square, squares_plane}
 use Rattle.squares.specs.steps.Radius.{radius_of}
 
 -- ---- the larger side and the k that is used
 
-pub larger-wide : (h w : ℕ) → h ≤ w → larger h w ≡ w
+-- the larger side is the maximum, and the k that is used is at most that
+pub larger-max : (h w : ℕ) → larger h w ≡ max h w
 unfolding larger
-larger-wide h w a = rw (le-leb h w a)
-
-pub larger-tall : (h w : ℕ) → w < h → larger h w ≡ h
-unfolding larger
-larger-tall h w a = rw (lt-leb h w a)
-
--- the larger side is a side, and neither is larger
-pub larger-most : (h w : ℕ) → (h ≤ larger h w) × (w ≤ larger h w)
-larger-most h w =
-    ⊎_elim {C = (h ≤ larger h w) × (w ≤ larger h w)}
-    (λ (a : w < h). (let e = larger-tall h w a in (omega arith, omega arith)))
-    (λ (a : h ≤ w). (let e = larger-wide h w a in (omega arith, omega arith)))
-    (which w h)
-
-pub larger-least : (h w m : ℕ) → h ≤ m → w ≤ m → larger h w ≤ m
-larger-least h w m p q =
-    ⊎_elim {C = larger h w ≤ m}
-    (λ (a : w < h). omega (arith, larger-tall h w a))
-    (λ (a : h ≤ w). omega (arith, larger-wide h w a))
-    (which w h)
+larger-max h w =
+    ⊎_elim {C = cond (leb h w) w h ≡ max h w}
+    (λ (a : w < h). rw (lt-leb h w a) (omega arith))
+    (λ (a : h ≤ w). rw (le-leb h w a) (omega arith))
+    (cases_lt w h)
 
 pub reach-none : (h w : ℕ) → reach h w 0 ≡ larger h w
 unfolding reach
@@ -50,38 +37,17 @@ pub reach-some : (h w n : ℕ) → 0 < n → reach h w n ≡ n
 unfolding reach
 reach-some h w n a = rw (ne_eqb n 0 (λ (e : n ≡ 0). absurd (omega arith)))
 
-pub radius-near : (h w n : ℕ) → reach h w n ≤ larger h w → radius_of h w n ≡ reach h w n
+pub radius-min : (h w n : ℕ) → radius_of h w n ≡ min (larger h w) (reach h w n)
 unfolding radius_of
-radius-near h w n a = rw (le-leb (reach h w n) (larger h w) a)
+radius-min h w n =
+    ⊎_elim {C = cond (leb (reach h w n) (larger h w)) (reach h w n) (larger h w) ≡ min (larger h w) (reach h w n)}
+    (λ (a : larger h w < reach h w n). rw (lt-leb (reach h w n) (larger h w) a) (omega arith))
+    (λ (a : reach h w n ≤ larger h w). rw (le-leb (reach h w n) (larger h w) a) (omega arith))
+    (cases_lt (larger h w) (reach h w n))
 
-pub radius-far : (h w n : ℕ) → larger h w < reach h w n → radius_of h w n ≡ larger h w
-unfolding radius_of
-radius-far h w n a = rw (lt-leb (reach h w n) (larger h w) a)
-
-pub radius-most : (h w n : ℕ) → radius_of h w n ≤ larger h w
-radius-most h w n =
-    ⊎_elim {C = radius_of h w n ≤ larger h w}
-    (λ (a : larger h w < reach h w n). omega (arith, radius-far h w n a))
-    (λ (a : reach h w n ≤ larger h w). omega (arith, radius-near h w n a))
-    (which (larger h w) (reach h w n))
-
--- they are a maximum and a minimum
-pub larger-max : (h w : ℕ) → larger h w ≡ max h w
-larger-max h w =
-    ⊎_elim {C = larger h w ≡ max h w}
-    (λ (a : w < h). omega (arith, larger-tall h w a))
-    (λ (a : h ≤ w). omega (arith, larger-wide h w a))
-    (which w h)
-
-pub radius-none : (h w : ℕ) → radius_of h w 0 ≡ larger h w
-radius-none h w = radius-near h w 0 (omega (arith, reach-none h w)) ∙ reach-none h w
-
-pub radius-min : (h w n : ℕ) → 0 < n → radius_of h w n ≡ min (larger h w) n
-radius-min h w n some =
-    ⊎_elim {C = radius_of h w n ≡ min (larger h w) n}
-    (λ (a : larger h w < reach h w n). omega (arith, radius-far h w n a, reach-some h w n some))
-    (λ (a : reach h w n ≤ larger h w). omega (arith, radius-near h w n a, reach-some h w n some))
-    (which (larger h w) (reach h w n))
+-- so it is no longer than a side may be
+pub radius-near : {h w k : ℕ} (n : ℕ) → Sides h w → k ≡ radius_of h w n → k ≤ longest_side
+radius-near {h} {w} n sides e = omega (arith, e, radius-min h w n, larger-max h w, sides.tall, sides.wide)
 
 -- ---- an on-pixel within k
 
@@ -108,8 +74,8 @@ module _ {mask : List ℕ} {h w k y x : ℕ} where
   square-found e =
       let j = some-found (λ (j : ℕ). some_below w (λ (i : ℕ). on_at mask w j i && within k y x j i)) h e in
       let i = some-found (λ (i : ℕ). on_at mask w j.0 i && within k y x j.0 i) w j.2 in
-      let both = and-true (on_at mask w j.0 i.0) (within k y x j.0 i.0) i.2 in
-      let near = and-true (leb (apart y j.0) k) (leb (apart x i.0) k) both.1 in
+      let both = and_parts (on_at mask w j.0 i.0) (within k y x j.0 i.0) i.2 in
+      let near = and_parts (leb (apart y j.0) k) (leb (apart x i.0) k) both.1 in
       record {
         row = j.0;
         column = i.0;
@@ -124,10 +90,10 @@ module _ {mask : List ℕ} {h w k y x : ℕ} where
   pub square-is : Site mask h w k y x → in_square mask h w k y x ≡ true
   unfolding in_square within
   square-is s =
-      let near = and_is _ _ (le-leb (apart y s.row) k s.rows) (le-leb (apart x s.column) k s.columns) in
+      let near = and_from _ _ (le-leb (apart y s.row) k s.rows) (le-leb (apart x s.column) k s.columns) in
       some_is (λ (j : ℕ). some_below w (λ (i : ℕ). on_at mask w j i && within k y x j i)) h s.row s.row_in
       (some_is (λ (i : ℕ). on_at mask w s.row i && within k y x s.row i) w s.column s.column_in
-      (and_is _ _ s.lit near))
+      (and_from _ _ s.lit near))
 
 -- so squares grow with k
 pub square-more : (mask : List ℕ) (h w a b y x : ℕ) → a ≤ b → in_square mask h w a y x ≡ true → in_square mask h w b y x ≡ true
@@ -149,7 +115,7 @@ pub square-all : (mask : List ℕ) (h w y x j i : ℕ) → y < h → x < w → j
     → in_square mask h w (larger h w) y x ≡ true
 unfolding apart
 square-all mask h w y x j i a b c d e =
-    let most = larger-most h w in
+    let most = larger-max h w in
     square-is (record { row = j; column = i; row_in = c; column_in = d; lit = e; rows = omega arith; columns = omega arith })
 
 -- a k from the larger side on acts as the larger side
@@ -167,9 +133,11 @@ pub square-radius : (mask : List ℕ) (h w n y x : ℕ) → y < h → x < w
     → in_square mask h w (radius_of h w n) y x ≡ in_square mask h w (reach h w n) y x
 square-radius mask h w n y x a b =
     ⊎_elim {C = in_square mask h w (radius_of h w n) y x ≡ in_square mask h w (reach h w n) y x}
-    (λ (l : larger h w < reach h w n). rw (radius-far h w n l) (sym (square-far mask h w (reach h w n) y x a b (omega arith))))
-    (λ (l : reach h w n ≤ larger h w). rw (radius-near h w n l))
-    (which (larger h w) (reach h w n))
+    (λ (l : larger h w < reach h w n).
+    let e : radius_of h w n ≡ larger h w = omega (arith, radius-min h w n) in
+    rw e (sym (square-far mask h w (reach h w n) y x a b (omega arith))))
+    (λ (l : reach h w n ≤ larger h w). (let e : radius_of h w n ≡ reach h w n = omega (arith, radius-min h w n) in rw e))
+    (cases_lt (larger h w) (reach h w n))
 
 -- what is within a of something within b is within a + b
 pub apart-sum : (p q r a b : ℕ) → apart p q ≤ a → apart q r ≤ b → apart p r ≤ a + b

@@ -11,12 +11,13 @@ use lib.ListN.{length, get_or, drop, get_or-append}
 use lib.Seq.{get_or-append-add, get_or-drop}
 use Rattle.plane.specs.Search.{some_below}
 use Rattle.plane.specs.Plane.{bit, on_at, apart, within, plane_of}
-use Rattle.plane.proofs.Search.{which, some_same, none_is, and_no}
-use Rattle.plane.proofs.Plane.{pixel-in, on_bit, plane-length, plane-at, plane-index, plane-same}
+use Rattle.plane.proofs.Search.{some_same, none_is, and_no}
+use Rattle.std.proofs.lemmas.Bool.{cases_lt}
+use Rattle.plane.proofs.Plane.{pixel-in, on_bit, plane-length, plane-at, plane-index, plane-same, bit-most}
 use Rattle.counts.specs.steps.Window.{in_window}
 use Rattle.row_counts.specs.steps.Rows.{dilated_rows}
 use Rattle.column_counts.specs.steps.Columns.{on_down, column_byte, dilated_columns}
-use Rattle.counts.proofs.Counting.{and_yes, bit-most}
+use Rattle.std.proofs.Math.Bool.{and-true}
 use Rattle.squares.specs.Squares.{reach, in_square, squares_plane}
 use Rattle.squares.specs.steps.Radius.{radius_of}
 use Rattle.squares.specs.Work.{BitOrOld}
@@ -24,7 +25,7 @@ use Rattle.squares.proofs.Laws.{square-radius}
 
 -- a test beside a search goes into it
 spread : (n : ℕ) (p q : ℕ → Bool) (t : Bool) → some_below n (λ (i : ℕ). p i && q i) && t ≡ some_below n (λ (i : ℕ). p i && (t && q i))
-spread n p q true = and_yes (some_below n (λ (i : ℕ). p i && q i))
+spread n p q true = and-true (some_below n (λ (i : ℕ). p i && q i))
 spread n p q false =
     and_no (some_below n (λ (i : ℕ). p i && q i)) ∙ sym (none_is (λ (i : ℕ). p i && false) n (λ i l. and_no (p i)))
 
@@ -86,5 +87,5 @@ work-kept mask h w k {old} {new} e size p = record {
       ∙ behind mask (drop (h * w) old) h w k (i - h * w)
       ∙ get_or-drop (h * w) old (i - h * w) 0 in
       inr (rw back at q))
-      (which i (h * w));
+      (cases_lt i (h * w));
 }

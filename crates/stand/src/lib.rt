@@ -1,5 +1,6 @@
 // The C interface of the copy stand: the cut and its parts, nearest, labels and what stands beside them, on numbers and slices. A slice
 // crosses as a pointer and then its length. Each call answers a number, 0 where it is accepted, and is what the call that it names is.
+// Ground and cut have two symbols each, since C has no Option of a slice.
 #![tactic(auto)]
 
 ghost use Rattle.std.specs.Prelude.{◌≡◌, ℕ, Option, Result};
@@ -7,7 +8,7 @@ ghost use Rattle.plane.specs.declared.answer.Refusal.{Refusal};
 ghost use Rattle.plane.specs.Refusal.{refusal_of_answer};
 ghost use Rattle.geometry.specs.Calls.{NearestCalled, LabelsCalled, SquaresCalled, DistanceCalled, FillCalled};
 ghost use Rattle.card.specs.Card.{Border, card_of};
-ghost use Rattle.keying.specs.Calls.{GroundCalled, GrowthCalled, NextPassCalled};
+ghost use Rattle.keying.specs.Calls.{growth_buffers, cut_buffers, GroundCalled, GrowthCalled, NextPassCalled};
 ghost use Rattle.colour.specs.declared.Rgb.{Rgb};
 ghost use Rattle.stand.specs.Exports.{Returns, CutReturns, labels_values, ground_values, cut_values, next_pass_values};
 
@@ -15,9 +16,11 @@ use colour::{Rgb, Settings};
 use outline::Outcome;
 use plane::answer::{self, Refusal};
 
+// What the calls answer: records of C, with a number for the refusal and 0 in each field that has no value.
+
 // The number of an answer of labels, and the number of parts, 0 where it was declined.
 #[repr(C)]
-#[derive(Drop)]
+#[derive(Clone, Copy, Debug, PartialEq)]
 pub struct StandLabels {
     pub refusal: u32,
     pub parts: u32,
@@ -25,7 +28,7 @@ pub struct StandLabels {
 
 // What the cut answers: its number, whether it was keyed, and the crop box; all but the number 0 where it was declined.
 #[repr(C)]
-#[derive(Drop)]
+#[derive(Clone, Copy, Debug, PartialEq)]
 pub struct StandCut {
     pub refusal: u32,
     pub keyed: bool,
@@ -37,7 +40,7 @@ pub struct StandCut {
 
 // What the search of the ground answers: its number, whether it was found, and the reference, all +0 where it was not.
 #[repr(C)]
-#[derive(Drop)]
+#[derive(Clone, Copy, Debug, PartialEq)]
 pub struct StandGround {
     pub refusal: u32,
     pub found: bool,
@@ -46,84 +49,92 @@ pub struct StandGround {
 
 // What a look at the coming pass answers: its number, and how many pixels would join, 0 where it was declined.
 #[repr(C)]
-#[derive(Drop)]
+#[derive(Clone, Copy, Debug, PartialEq)]
 pub struct StandNextPass {
     pub refusal: u32,
     pub joins: u64,
 }
 
 // The values of an answer, as they cross.
-fn labels_values(answer: Result<u32, Refusal>) -> StandLabels
-    ensures { result ≡ labels_values answer }
-{
-    match answer {
-        Ok(parts) => StandLabels { refusal: 0, parts },
-        Err(refusal) => StandLabels {
-            refusal: refusal.into(),
-            parts: 0,
-        },
+impl From<Result<u32, Refusal>> for StandLabels {
+    ghost from_gives = { λ a r. r ≡ labels_values a };
+
+    fn from(answer: Result<u32, Refusal>) -> Self {
+        match answer {
+            Ok(parts) => StandLabels { refusal: 0, parts },
+            Err(refusal) => StandLabels {
+                refusal: refusal.into(),
+                parts: 0,
+            },
+        }
     }
 }
 
-fn ground_values(answer: Result<Option<Rgb>, Refusal>) -> StandGround
-    ensures { result ≡ ground_values answer }
-{
-    let none = Rgb {
-        r: 0.0,
-        g: 0.0,
-        b: 0.0,
-    };
-    match answer {
-        Ok(Some(reference)) => StandGround {
-            refusal: 0,
-            found: true,
-            reference,
-        },
-        Ok(None) => StandGround {
-            refusal: 0,
-            found: false,
-            reference: none,
-        },
-        Err(refusal) => StandGround {
-            refusal: refusal.into(),
-            found: false,
-            reference: none,
-        },
+impl From<Result<Option<Rgb>, Refusal>> for StandGround {
+    ghost from_gives = { λ a r. r ≡ ground_values a };
+
+    fn from(answer: Result<Option<Rgb>, Refusal>) -> Self {
+        let none = Rgb {
+            r: 0.0,
+            g: 0.0,
+            b: 0.0,
+        };
+        match answer {
+            Ok(Some(reference)) => StandGround {
+                refusal: 0,
+                found: true,
+                reference,
+            },
+            Ok(None) => StandGround {
+                refusal: 0,
+                found: false,
+                reference: none,
+            },
+            Err(refusal) => StandGround {
+                refusal: refusal.into(),
+                found: false,
+                reference: none,
+            },
+        }
     }
 }
 
-fn cut_values(answer: Result<Outcome, Refusal>) -> StandCut
-    ensures { result ≡ cut_values answer }
-{
-    match answer {
-        Ok(cut) => StandCut {
-            refusal: 0,
-            keyed: cut.keyed,
-            y0: cut.crop.y0,
-            y1: cut.crop.y1,
-            x0: cut.crop.x0,
-            x1: cut.crop.x1,
-        },
-        Err(refusal) => StandCut {
-            refusal: refusal.into(),
-            keyed: false,
-            y0: 0,
-            y1: 0,
-            x0: 0,
-            x1: 0,
-        },
+impl From<Result<Outcome, Refusal>> for StandCut {
+    ghost from_gives = { λ a r. r ≡ cut_values a };
+
+    fn from(answer: Result<Outcome, Refusal>) -> Self {
+        match answer {
+            Ok(cut) => StandCut {
+                refusal: 0,
+                keyed: cut.keyed,
+                y0: cut.crop.y0,
+                y1: cut.crop.y1,
+                x0: cut.crop.x0,
+                x1: cut.crop.x1,
+            },
+            Err(refusal) => StandCut {
+                refusal: refusal.into(),
+                keyed: false,
+                y0: 0,
+                y1: 0,
+                x0: 0,
+                x1: 0,
+            },
+        }
     }
 }
 
-fn next_pass_values(answer: Result<u64, Refusal>) -> StandNextPass
-    ensures { result ≡ next_pass_values answer }
-{
-    match answer {
-        Ok(joins) => StandNextPass { refusal: 0, joins },
-        Err(refusal) => StandNextPass {
-            refusal: refusal.into(),
-            joins: 0,
-        },
+impl From<Result<u64, Refusal>> for StandNextPass {
+    ghost from_gives = { λ a r. r ≡ next_pass_values a };
+
+    fn from(answer: Result<u64, Refusal>) -> Self {
+        match answer {
+            Ok(joins) => StandNextPass { refusal: 0, joins },
+            Err(refusal) => StandNextPass {
+                refusal: refusal.into(),
+                joins: 0,
+            },
+        }
     }
 }
 
@@ -157,7 +168,7 @@ pub extern "C" fn stand_labels(
         parents.old labels.old a
         parents.new labels.new) result }
 {
-    labels_values(geometry::label4(mask, h, w, parents, labels))
+    geometry::label4(mask, h, w, parents, labels).into()
 }
 
 // geometry::binary_dilation8
@@ -226,29 +237,16 @@ pub extern "C" fn stand_cut(
     weights: &mut [f64],
 ) -> StandCut
     ensures { CutReturns colours.now alpha.now h w Border settings
-        (record {
-          mask = mask.entry.now;
-          weights = weights.old;
-          nearest = nearest.old;
-          shallow = shallow.old;
-          deep = deep.old;
-          marks = marks.old;
-        }) result
-        (record {
-          mask = mask.exit.now;
-          weights = weights.new;
-          nearest = nearest.new;
-          shallow = shallow.new;
-          deep = deep.new;
-          marks = marks.new;
-        }) }
+        (cut_buffers mask.old weights.old nearest.old shallow.old deep.old marks.old) result
+        (cut_buffers mask.new weights.new nearest.new shallow.new deep.new marks.new) }
 {
-    cut_values(keying::subject(
-        colours, alpha, h, w, settings, nearest, shallow, deep, marks, mask, weights,
-    ))
+    keying::subject(
+        colours, alpha, h, w, None, settings, nearest, shallow, deep, marks, mask, weights,
+    )
+    .into()
 }
 
-// keying::subject_with_colour
+// keying::subject with a text
 #[unsafe(no_mangle)]
 pub extern "C" fn stand_cut_with_colour(
     colours: &[f64],
@@ -265,26 +263,24 @@ pub extern "C" fn stand_cut_with_colour(
     weights: &mut [f64],
 ) -> StandCut
     ensures { CutReturns colours.now alpha.now h w (card_of text.now) settings
-        (record {
-          mask = mask.entry.now;
-          weights = weights.old;
-          nearest = nearest.old;
-          shallow = shallow.old;
-          deep = deep.old;
-          marks = marks.old;
-        }) result
-        (record {
-          mask = mask.exit.now;
-          weights = weights.new;
-          nearest = nearest.new;
-          shallow = shallow.new;
-          deep = deep.new;
-          marks = marks.new;
-        }) }
+        (cut_buffers mask.old weights.old nearest.old shallow.old deep.old marks.old) result
+        (cut_buffers mask.new weights.new nearest.new shallow.new deep.new marks.new) }
 {
-    cut_values(keying::subject_with_colour(
-        colours, alpha, h, w, text, settings, nearest, shallow, deep, marks, mask, weights,
-    ))
+    keying::subject(
+        colours,
+        alpha,
+        h,
+        w,
+        Some(text),
+        settings,
+        nearest,
+        shallow,
+        deep,
+        marks,
+        mask,
+        weights,
+    )
+    .into()
 }
 
 // keying::flat_background
@@ -301,10 +297,10 @@ pub extern "C" fn stand_ground(
         work.old out.old a
         work.new out.new) result }
 {
-    ground_values(keying::flat_background(colours, h, w, tolerance, work, out))
+    keying::flat_background(colours, h, w, None, tolerance, work, out).into()
 }
 
-// keying::flat_background_with_colour
+// keying::flat_background with a text
 #[unsafe(no_mangle)]
 pub extern "C" fn stand_ground_with_colour(
     colours: &[f64],
@@ -319,7 +315,7 @@ pub extern "C" fn stand_ground_with_colour(
         work.old out.old a
         work.new out.new) result }
 {
-    ground_values(keying::flat_background_with_colour(colours, h, w, text, tolerance, work, out))
+    keying::flat_background(colours, h, w, Some(text), tolerance, work, out).into()
 }
 
 // keying::unmix_fringe
@@ -339,20 +335,8 @@ pub extern "C" fn stand_growth(
 ) -> u32
     ensures { Returns refusal_of_answer (λ (a : Result Unit Refusal).
         GrowthCalled colours.now background.now h w reference passes
-        (record {
-          out = out.entry.now;
-          nearest = nearest.old;
-          shallow = shallow.old;
-          deep = deep.old;
-          marks = marks.old;
-        }) a
-        (record {
-          out = out.exit.now;
-          nearest = nearest.new;
-          shallow = shallow.new;
-          deep = deep.new;
-          marks = marks.new;
-        })) result }
+        (growth_buffers out.old nearest.old shallow.old deep.old marks.old) a
+        (growth_buffers out.new nearest.new shallow.new deep.new marks.new)) result }
 {
     answer::refusal_of(keying::unmix_fringe(
         colours, background, h, w, reference, passes, nearest, shallow, deep, marks, out,
@@ -375,22 +359,11 @@ pub extern "C" fn stand_next_pass(
 ) -> StandNextPass
     ensures { Returns next_pass_values (λ (a : Result ℕ Refusal).
         NextPassCalled colours.now background.now h w reference
-        (record {
-          out = out.entry.now;
-          nearest = nearest.old;
-          shallow = shallow.old;
-          deep = deep.old;
-          marks = marks.old;
-        }) a colours.exit.now background.exit.now
-        (record {
-          out = out.exit.now;
-          nearest = nearest.new;
-          shallow = shallow.new;
-          deep = deep.new;
-          marks = marks.new;
-        })) result }
+        (growth_buffers out.old nearest.old shallow.old deep.old marks.old) a colours.exit.now background.exit.now
+        (growth_buffers out.new nearest.new shallow.new deep.new marks.new)) result }
 {
-    next_pass_values(keying::next_pass(
+    keying::next_pass(
         colours, background, h, w, reference, nearest, shallow, deep, marks, out,
-    ))
+    )
+    .into()
 }

@@ -10,14 +10,13 @@ use native.Mathlib.Numerals.{add-one}
 use native.Mathlib.Omega.{arith}
 use lib.Dec.{leb}
 use lib.ListN.{length, get_or, take, drop, length-append, drop_of_length-le, get_or-eq_default}
-use lib.Seq.{take-suc, drop-cons, take-take}
+use lib.Seq.{take-suc, drop-cons}
 use borrow.Author.Tests.{le-leb, lt-leb, leb-true}
 use Rattle.std.specs.Char.{is_ascii_digit}
 use Rattle.std.specs.List.{prefix_len, take_while}
 use Rattle.std.proofs.lemmas.List.{take_min}
 use Rattle.std.proofs.lemmas.List.Folds.{length-prefix_len}
-use Rattle.plane.proofs.Search.{which, either, and_is}
-use Rattle.plane.proofs.Refusal.{and-true}
+use Rattle.std.proofs.lemmas.Bool.{and_from, and_parts, cases_Bool, cases_lt}
 use Rattle.text.specs.Decimal.{is_digit, all_digits, value_from, value_of, digits_upto, decimal_upto, decimal}
 
 -- ---- digits
@@ -29,7 +28,7 @@ pub record Digit (b : ℕ) : Type 0 where
 pub digit-is : (b : ℕ) → is_digit b ≡ true → Digit b
 unfolding is_digit
 digit-is b e =
-    let a = and-true (leb 48 b) (leb b 57) e in
+    let a = and_parts (leb 48 b) (leb b 57) e in
     record { least = leb-true 48 b a.0; most = leb-true b 57 a.1 }
 
 module _ (text : List ℕ) where
@@ -42,7 +41,7 @@ module _ (text : List ℕ) where
       let z : get_or text at 0 ≡ 0 = get_or-eq_default text 0 l in
       let d = digit-is (get_or text at 0) e in
       absurd (omega (arith, d.least)))
-      (which at (length text))
+      (cases_lt at (length text))
 
   pub digits-most : (k at : ℕ) → digits_upto k text at ≤ k
   unfolding digits_upto
@@ -83,11 +82,11 @@ module _ (text : List ℕ) where
             (⊎_elim {C = at + suc n ≤ length text}
             (λ (z : n < 1). omega arith)
             (λ (z : 1 ≤ n). let q = r.inside z in omega arith)
-            (which n 1));
-        all = rw (d, drop-cons text at 0 l) (and_is _ _ d r.all);
+            (cases_lt n 1));
+        all = rw (d, drop-cons text at 0 l) (and_from _ _ d r.all);
       })
       (λ (d : is_digit (get_or text at 0) ≡ false). record { inside = λ g. absurd (let z : 1 ≤ 0 = rw d at g in omega arith); all = rw d })
-      (either (is_digit (get_or text at 0)))
+      (cases_Bool (is_digit (get_or text at 0)))
 
 -- they are counted up to the first byte that is none
 digits-front : (most : ℕ) (text : List ℕ) (at : ℕ) → digits_upto most text at ≡ prefix_len is_ascii_digit (take most (drop at text))
@@ -102,9 +101,9 @@ digits-front (suc most) text at =
     (⊎_elim {C = cond (is_digit b) (suc (prefix_len is_ascii_digit rest)) 0 ≡ prefix_len is_ascii_digit (b ∷ rest)}
     (λ (d : is_digit b ≡ true). rw d (omega arith))
     (λ (d : is_digit b ≡ false). rw d)
-    (either (is_digit b))))
+    (cases_Bool (is_digit b))))
     (λ (l : length text ≤ at). rw (digits-past text (suc most) at l, drop_of_length-le text l))
-    (which at (length text))
+    (cases_lt at (length text))
 
 pub digits-counted : (most : ℕ) (text : List ℕ) (at n k : ℕ) → n ≡ min most (length (drop at text))
     → k ≡ length (take_while is_ascii_digit (take n (drop at text))) → k ≡ digits_upto most text at
@@ -129,15 +128,15 @@ value-more l i g = ap (λ (k : ℕ). value_of (take k l)) (add-one i) ∙ ap val
 pub digit_at : (l : List ℕ) (i : ℕ) → all_digits l ≡ true → i < length l → is_digit (get_or l i 0) ≡ true
 unfolding all_digits
 digit_at [] i e g = absurd (omega arith)
-digit_at (b ∷ l) zero e g = (and-true (is_digit b) (all_digits l) e).0
-digit_at (b ∷ l) (suc i) e g = digit_at l i (and-true (is_digit b) (all_digits l) e).1 (omega arith)
+digit_at (b ∷ l) zero e g = (and_parts (is_digit b) (all_digits l) e).0
+digit_at (b ∷ l) (suc i) e g = digit_at l i (and_parts (is_digit b) (all_digits l) e).1 (omega arith)
 
 -- i digits have a value below 10 ^ i
 pub value-below : (v k : ℕ) (l : List ℕ) → all_digits l ≡ true → v < 10 ^ k → value_from v l < 10 ^ (k + length l)
 unfolding value_from all_digits
 value-below v k [] e g = rw (add-zero k) g
 value-below v k (b ∷ l) e g =
-    let a = and-true (is_digit b) (all_digits l) e in
+    let a = and_parts (is_digit b) (all_digits l) e in
     let d = digit-is b a.0 in
     let s : k + suc (length l) ≡ suc k + length l = omega arith in
     let n : 10 * v + (b - 48) < 10 ^ suc k = rw (pow-succ' 10 k) (omega (arith, d.most)) in
@@ -158,7 +157,7 @@ enough (suc k) (suc m) n a b =
     ⊎_elim {C = decimal_upto (suc k) n ≡ decimal_upto (suc m) n}
     (λ (l : n < 10). rw (lt-leb 10 n l))
     (λ (l : 10 ≤ n). rw (le-leb 10 n l, enough k m (n / 10) (tenth-less n k l a) (tenth-less n m l b)))
-    (which n 10)
+    (cases_lt n 10)
 
 pub decimal-one : (n : ℕ) → n < 10 → decimal n ≡ (48 + n) ∷ []
 unfolding decimal decimal_upto
@@ -185,7 +184,7 @@ by-tenths P one more n = upto n n (omega arith)
     upto : (k n : ℕ) → n ≤ k → P n
     upto zero n g = one n (omega arith)
     upto (suc k) n g =
-        ⊎_elim {C = P n} (λ (l : n < 10). one n l) (λ (l : 10 ≤ n). more n l (upto k (n / 10) (tenth-less n k l g))) (which n 10)
+        ⊎_elim {C = P n} (λ (l : n < 10). one n l) (λ (l : 10 ≤ n). more n l (upto k (n / 10) (tenth-less n k l g))) (cases_lt n 10)
 
 -- reading what was written gives the number back
 pub decimal-value : (n : ℕ) → value_of (decimal n) ≡ n

@@ -8,7 +8,7 @@ ghost use Rattle.text.specs.Decimal.{all_digits, digits_upto, value_of, number_u
 
 use std::io::{ErrorKind, Read};
 
-// The byte at a place, 0 past the end.
+// The byte at a place, 0 past the end. No Option: the definitions of the picture read 0 there, so each reader would put 0 for None.
 pub fn byte_at(text: &[u8], at: usize) -> u8
     ensures { result ≡ get_or text.now at 0 }
 {
@@ -22,7 +22,7 @@ fn leading_digits(text: &[u8]) -> usize
     text.iter().take_while(|b| b.is_ascii_digit()).count()
 }
 
-// How many digits stand from a place on, at most so many.
+// How many digits stand from a place on, at most so many. Not one chain with `skip` and `take`: its count did not prove.
 pub fn digits(text: &[u8], at: usize, most: usize) -> usize
     ensures { result ≡ digits_upto most text.now at }
 {
@@ -33,7 +33,7 @@ pub fn digits(text: &[u8], at: usize, most: usize) -> usize
     leading_digits(&rest[..most.min(rest.len())])
 }
 
-// The value of digits.
+// The value of digits. By hand: `parse` reads a `str` and can decline, and here are bytes that are digits.
 fn value(digits: &[u8]) -> u64
     requires { (all_digits digits.now ≡ true) × (length digits.now ≤ 19) }
     ensures { result ≡ value_of digits.now }
@@ -45,7 +45,8 @@ fn value(digits: &[u8]) -> u64
     v
 }
 
-// The number that stands at a place, of at most so many digits; 0 where there is none.
+// The number that stands at a place, of at most so many digits; 0 where there is none. No Option: its reader has tested before that
+// digits stand there, and would have a None that never comes.
 pub fn read_number(text: &[u8], at: usize, most: usize) -> u64
     requires { most ≤ 19 }
     ensures { result ≡ number_upto most text.now at }
@@ -57,7 +58,8 @@ pub fn read_number(text: &[u8], at: usize, most: usize) -> u64
     value(&text[at..at + n])
 }
 
-// A page of text: a buffer, and the place in it where the next byte is written.
+// A page of text: a buffer, and the place in it where the next byte is written. It stands in memory that is lent, and not in a String,
+// since the programs have no heap; so numbers are written by hand as well.
 #[derive(Drop)]
 pub struct Page<'a> {
     pub out: &'a mut [u8],

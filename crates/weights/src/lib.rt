@@ -9,6 +9,8 @@ ghost use Rattle.colour.specs.Settings.{on_of};
 ghost use Rattle.outline.specs.Cut.{weights_of};
 ghost use Rattle.weights.specs.steps.Weight.{on_weight, weight_for};
 
+use std::array;
+
 // Whether some alpha reaches the threshold.
 pub fn some_reach(alpha: &[u8], threshold: i64) -> bool
     ensures { result ≡ some_below (length alpha.now) (λ (i : ℕ). on_of (get_or alpha.now i 0) threshold) }
@@ -18,7 +20,8 @@ pub fn some_reach(alpha: &[u8], threshold: i64) -> bool
         .fold(false, |found, a| found | colour::reaches(*a, threshold))
 }
 
-// The mask of the alpha that reaches the threshold.
+// The mask of the alpha that reaches the threshold. The loops of this file write by an index: after `iter_mut().zip(..)` or
+// `enumerate()` it is not known what was written.
 pub fn reach(alpha: &[u8], threshold: i64, mask: &mut [u8])
     requires { length mask.old ≡ length alpha.now }
     ensures { mask.new ≡ mask_of (length alpha.now)
@@ -40,11 +43,7 @@ fn on_weight(alpha: u8) -> f64
 fn on_weights() -> [f64; 256]
     ensures { result ≡ table on_weight 0 256 }
 {
-    let mut out = [0.0; 256];
-    for v in 0..256 {
-        out[v] = on_weight(v as u8);
-    }
-    out
+    array::from_fn(|v| on_weight(v as u8))
 }
 
 // The weight of a pixel.

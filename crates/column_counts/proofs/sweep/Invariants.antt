@@ -9,6 +9,6 @@ use Rattle.column_counts.proofs.sweep.Given as goal
 abbrev pub invariant-loop-y : goal.invariant-loop-y
 invariant-loop-y l =
     let s = l.strip in record {
-      counted : Counted (λ (x : ℕ). running s.h s.k (on_strip s x) l.y) l.t l.low l.rest;
-      written : Swept s.plane.now s.h s.w s.k s.c (s.c + s.n) l.y l.out;
+      counted : Counted (λ (x : ℕ). running s.size.h s.k (on_strip s x) l.y) l.t l.low l.rest;
+      written : Swept s.plane.now s.size.h s.size.w s.k s.c (s.c + s.n) l.y l.out;
     }

@@ -2,7 +2,7 @@
 -- Assumes nothing.
 use Rattle.std.specs.Prelude.{◌≡◌, ℕ, ◌+◌, ◌*◌, ◌<◌, ◌≤◌, Bool, List, length, take, drop, slice_index}
 use Rattle.plane.specs.Plane.{bit, on_at, table, plane_of}
-use Rattle.plane.specs.steps.Sides.{longest_side, Sides}
+use Rattle.plane.specs.steps.Sides.{longest_side}
 use Rattle.counts.specs.steps.Window.{in_window}
 use Rattle.counts.specs.steps.Parts.{full_byte, rest_of, Split}
 
@@ -45,10 +45,3 @@ balanced_rest low rest = table (λ (x : ℕ). rest_of (slice_index low x + slice
 pub record Balanced (t : ℕ) (low rest : List ℕ) (u : ℕ) (low' rest' : List ℕ) : Type 0 where
   pub few : u ≤ 125
   pub kept : (value : ℕ → ℕ) → Counted value t low rest → Counted value u low' rest'
-
--- a plane with its sides and a k, and the plane that is written
-pub record ColumnPlanes (plane : List ℕ) (h w k : ℕ) (out : List ℕ) : Type 0 where
-  pub sides : Sides h w
-  pub near : k ≤ longest_side
-  pub size : h * w ≤ length plane
-  pub out_size : length out ≡ h * w

@@ -11,7 +11,7 @@ pub use Rattle.column_counts.specs.steps.Columns.{Counted}
 
 -- whether pixel j of the strip's column x is on
 abbrev pub on_strip : Strip → ℕ → ℕ → Bool
-on_strip s x j = on_down s.plane.now s.w (s.c + x) j
+on_strip s x j = on_down s.plane.now s.size.w (s.c + x) j
 
 -- the same of a row that may be there
 abbrev pub moves : Strip → Option ℕ → ℕ → Bool
@@ -25,13 +25,13 @@ pub record MovedRow (s : Strip) (j : Option ℕ) (change : Change) (low low' : L
 -- the bytes of a strip, the window's next row y, and a line for its pixels,
 pub record Following (s : Strip) (y : ℕ) (low out : List ℕ) : Type 0 where
   pub size : length low ≡ s.n
-  pub row : y < s.h
+  pub row : y < s.size.h
   pub line : length out ≡ s.n
 
 -- and the bytes after a row has entered, and one has left: a pixel is on where its byte is not 0
 pub record Followed (s : Strip) (y : ℕ) (low low' out : List ℕ) : Type 0 where
   pub each : (x : ℕ) → x < length low
-      → slice_index low' x ≡ changed (changed (slice_index low x) (enters s.h s.k (on_strip s x) y) 1) (leaves s.k (on_strip s x) y) 255
+      → slice_index low' x ≡ changed (changed (slice_index low x) (enters s.size.h s.k (on_strip s x) y) 1) (leaves s.k (on_strip s x) y) 255
   pub tested : out ≡ mask_of (length low) (is_on low')
 
 -- lines of one length
@@ -43,12 +43,12 @@ pub record Lines (enter leave low out : List ℕ) : Type 0 where
 -- the running counts before the step to row y,
 pub record Slidable (s : Strip) (y t : ℕ) (low rest out : List ℕ) : Type 0 where
   pub following : Following s y low out
-  pub counted : Counted (λ (x : ℕ). running s.h s.k (on_strip s x) y) t low rest
+  pub counted : Counted (λ (x : ℕ). running s.size.h s.k (on_strip s x) y) t low rest
 
 -- and after it: in each column the count of row y's window, and a pixel that tells whether it is above 0
 pub record Slid (s : Strip) (y t : ℕ) (low rest out : List ℕ) : Type 0 where
   pub few : t ≤ 127
-  pub counted : Counted (λ (x : ℕ). window_count s.h s.k y (on_strip s x)) t low rest
+  pub counted : Counted (λ (x : ℕ). window_count s.size.h s.k y (on_strip s x)) t low rest
   pub tested : out ≡ mask_of (length low) (is_on low)
 
 -- in a plane that is written, the first c columns are, and of the first d columns the first r rows
@@ -61,4 +61,4 @@ pub record Swept (plane : List ℕ) (h w k c d r : ℕ) (new : List ℕ) : Type 
 pub record Start (s : Strip) (low rest out : List ℕ) : Type 0 where
   pub size : length low ≡ s.n
   pub zeros : Counted (λ (x : ℕ). 0) 0 low rest
-  pub written : Swept s.plane.now s.h s.w s.k s.c s.c 0 out
+  pub written : Swept s.plane.now s.size.h s.size.w s.k s.c s.c 0 out

@@ -1,7 +1,6 @@
 -- `cutfile::cutcard` meets its contract.
 -- Assumes nothing.
 use mathlib.Core.Path.{◌≡◌, sym, ap, ◌∙◌}
-use borrow.Author.Tests.{lt-leb}
 use native.Mathlib.Omega.{arith}
 use Rattle.std.proofs.Common.{Option}
 use Rattle.plane.specs.Refusal.{number_of}
@@ -10,19 +9,9 @@ use Rattle.pam_header.specs.declared.Header.{Header}
 use Rattle.pam_header.specs.Header.{header_of}
 use Rattle.pam.specs.steps.File.{file_refusal}
 use Rattle.pbm.proofs.Lengths.{refusal-short}
-use Rattle.cutfile.specs.Cutcard.{most_text, text_under}
+use Rattle.cutfile.specs.Cutcard.{text_under}
 use Rattle.cutfile.proofs.Texts.{card-declined, card-picture, file-small, whole}
 use Rattle.cutfile.proofs.cutcard.Goals as goal
-
-pub returns-then-out-lt-MOST_TEXT : goal.returns-then-out-lt-MOST_TEXT
-returns-then-out-lt-MOST_TEXT c =
-    record { answer = rw (lt-leb most_text _ c.if-out-lt-MOST_TEXT.true); out_is = rw (lt-leb most_text _ c.if-out-lt-MOST_TEXT.true) }
-
-pub write_picture-requires : goal.write_picture-requires
-write_picture-requires c =
-    let e = c.in-Ok.ensures in
-    let passed = ap (λ (h : Option Header). file_refusal h c.args.input.now) e.header ∙ sym e.number in
-    (e.header, passed, c.if-out-lt-MOST_TEXT.false)
 
 pub write_refusal-requires : goal.write_refusal-requires
 write_refusal-requires c =

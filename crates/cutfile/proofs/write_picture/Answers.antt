@@ -1,97 +1,86 @@
 -- `cutfile::write_picture` meets its contract.
 -- Assumes nothing.
-use mathlib.Core.Path.{sym}
+use mathlib.Core.Path.{◌≡◌, refl, sym, ◌∙◌}
 use Prim.Native.Nat.{◌*◌, ◌≤◌}
 use native.Mathlib.Omega.{arith}
-use mir.Facts.{Fits-le, Fits-lit}
+use lib.Seq.{length-take-le}
+use Rattle.std.specs.Prelude.{List, Some, ℕ}
+use Rattle.text.proofs.Written.{wrote_as}
 use Rattle.pam_header.specs.declared.Header.{Header}
+use Rattle.pam_header.proofs.Sizes.{header-small}
 use Rattle.pam.specs.Picture.{most_pixels}
-use Rattle.cutfile.proofs.Pictures.{room_most}
-use Rattle.pam_header.proofs.Sizes.{Small, header-small}
-use Rattle.pam.proofs.Files.{FileOk, file-ok, SidesOk, sides-of}
-use Rattle.cutfile.proofs.Texts.{part-long}
-use Rattle.cutfile.proofs.write_picture.Tie as tie
-use Rattle.cutfile.proofs.write_picture.Reads as reads
-use Rattle.cutfile.proofs.write_picture.Lts as lts
+use Rattle.pam.specs.steps.File.{file_refusal}
+use Rattle.pam.proofs.Files.{file-ok}
+use Rattle.cutfile.proofs.Pictures.{said}
 use Rattle.cutfile.proofs.write_picture.Goals as goal
 
-abbrev At-After-alpha : Type 0
-At-After-alpha = lts.After-alpha tie.the-claims reads.Pre reads.Post tie.handed_clauses
-
-abbrev At-Start : Type 0
-At-Start = lts.Start tie.the-claims reads.Pre reads.Post tie.handed_clauses
-
--- the header, from where the call began: its pixels are few, and its sides accepted
-module _ (c : At-Start) where
-  abbrev header : Header
-  header = c.args.header
-
-  known : Small header
-  known = header-small c.args.input.now header (sym c.requires.0)
-
-  passed : FileOk header c.args.input.now
-  passed = file-ok header c.args.input.now c.requires.1
-
-  few : header.height * header.width ≤ most_pixels
-  few = passed.few
-
-  sides : SidesOk header.height header.width
-  sides = sides-of header known passed.few
-
--- where the call began, from where the parts of the buffers are taken
-begun : At-After-alpha → At-Start
-begun c = c.before.before.before.before
-
-pub slice_bounds-mask-end : goal.slice_bounds-mask-end
-unfolding begun
-slice_bounds-mask-end c = omega (arith, few (begun c.before.before.before.before.before))
-
-pub slice_bounds-weights-end : goal.slice_bounds-weights-end
-unfolding begun
-slice_bounds-weights-end c = omega (arith, few (begun c.before.before.before.before.before.before))
-
-pub read_and_cut-requires : goal.read_and_cut-requires
-unfolding begun
-read_and_cut-requires c =
-    let b = begun c.before.before.before.before.before.before.before.before in
-    let r = sides b in
-    let n = few b in
-    let room = room_most (header b).height (header b).width r.some_rows r.some_columns n in record {
-      body_le_most_header = (known b).body_most;
-      room = record {
-        some_rows = r.some_rows;
-        some_columns = r.some_columns;
-        tall = r.tall;
-        wide = r.wide;
-        few = n;
-        colours_long = part-long _ _ (omega (arith, n));
-        alpha_long = part-long _ _ n;
-        nearest_long = room;
-        shallow_long = room;
-        deep_long = room;
-        marks_long = room;
-        mask_long = part-long _ _ n;
-        weights_long = part-long _ _ n;
-        out_long = b.requires.2;
-      };
-    }
+-- the pixels of a file that is accepted are few
+few : (header : Header) (input : List ℕ) → file_refusal (Some header) input ≡ 0 → header.height * header.width ≤ most_pixels
+few header input e = (file-ok header input e).few
 
 pub overflow_mul-n : goal.overflow_mul-n
-overflow_mul-n c =
-    Fits-le (few c.before.before.before) (Fits-lit tt)
+overflow_mul-n c = omega (arith, few _ _ c.requires.passed)
 
-pub overflow_mul-m : goal.overflow_mul-m
-overflow_mul-m c =
-    omega (arith, few c.before.before.before)
+pub overflow_mul-colours : goal.overflow_mul-colours
+overflow_mul-colours c = omega (arith, few _ _ c.requires.passed)
 
 pub slice_bounds-colours-end : goal.slice_bounds-colours-end
-slice_bounds-colours-end c =
-    omega (arith, few c.before.before.before)
+slice_bounds-colours-end c = omega (arith, few _ _ c.requires.passed)
+
+pub slice_bounds-colours-end-2 : goal.slice_bounds-colours-end-2
+slice_bounds-colours-end-2 c = sym (length-take-le _ _ (omega (arith, few _ _ c.requires.passed)))
 
 pub slice_bounds-alpha-end : goal.slice_bounds-alpha-end
-slice_bounds-alpha-end c =
-    omega (arith, few c.before.before.before.before)
+slice_bounds-alpha-end c = few _ _ c.requires.passed
 
-pub returns : goal.returns
-returns c =
-    c.read_and_cut.ensures
+pub slice_bounds-alpha-end-2 : goal.slice_bounds-alpha-end-2
+slice_bounds-alpha-end-2 c = sym (length-take-le _ _ (few _ _ c.requires.passed))
+
+pub slice_bounds-mask-end : goal.slice_bounds-mask-end
+slice_bounds-mask-end c = few _ _ c.requires.passed
+
+pub slice_bounds-mask-end-2 : goal.slice_bounds-mask-end-2
+slice_bounds-mask-end-2 c = sym (length-take-le _ _ (few _ _ c.requires.passed))
+
+pub slice_bounds-weights-end : goal.slice_bounds-weights-end
+slice_bounds-weights-end c = few _ _ c.requires.passed
+
+pub slice_bounds-weights-end-2 : goal.slice_bounds-weights-end-2
+slice_bounds-weights-end-2 c = sym (length-take-le _ _ (few _ _ c.requires.passed))
+
+pub colours-requires : goal.colours-requires
+colours-requires c =
+    ((header-small _ _ (sym c.requires.header_is)).body_most, few _ _ c.requires.passed, length-take-le _ _ (omega (arith, few _ _ c.requires.passed)))
+
+pub alpha-requires : goal.alpha-requires
+alpha-requires c =
+    ((header-small _ _ (sym c.requires.header_is)).body_most, few _ _ c.requires.passed, length-take-le _ _ (few _ _ c.requires.passed))
+
+pub write_mask-requires-clause-mask_len : goal.write_mask-requires-clause-mask_len
+write_mask-requires-clause-mask_len c =
+    let small = header-small _ _ (sym c.requires.header_is) in
+    (small.width_some, c.subject-answer.auto.mask ∙ length-take-le _ _ (few _ _ c.requires.passed))
+
+pub write_mask-requires-clause-out_len : goal.write_mask-requires-clause-out_len
+write_mask-requires-clause-out_len c =
+    let s = said _ _ _ c.requires.header_is c.requires.passed c.colours.ensures.out_after c.alpha.ensures c.colours.ensures.out_in_range
+    (refl, refl, refl, refl, refl, refl) c.settings_of.ensures c.subject-answer.ensures c.in-Ok.is in
+    omega (arith, s.1, c.requires.out_len)
+
+pub write_refusal-requires : goal.write_refusal-requires
+write_refusal-requires c =
+    let s = said _ _ _ c.requires.header_is c.requires.passed c.colours.ensures.out_after c.alpha.ensures c.colours.ensures.out_in_range
+    (refl, refl, refl, refl, refl, refl) c.settings_of.ensures c.subject-answer.ensures c.in-Err.is in
+    rw c.into.ensures (omega (arith, s.1, c.requires.out_len))
+
+pub returns-in-Ok : goal.returns-in-Ok
+returns-in-Ok c =
+    let s = said _ _ _ c.requires.header_is c.requires.passed c.colours.ensures.out_after c.alpha.ensures c.colours.ensures.out_in_range
+    (refl, refl, refl, refl, refl, refl) c.settings_of.ensures c.subject-answer.ensures c.in-Ok.is in
+    wrote_as s.0 c.write_mask.ensures
+
+pub returns-in-Err : goal.returns-in-Err
+returns-in-Err c =
+    let s = said _ _ _ c.requires.header_is c.requires.passed c.colours.ensures.out_after c.alpha.ensures c.colours.ensures.out_in_range
+    (refl, refl, refl, refl, refl, refl) c.settings_of.ensures c.subject-answer.ensures c.in-Err.is in
+    wrote_as s.0 (rw c.into.ensures at c.write_refusal.ensures)

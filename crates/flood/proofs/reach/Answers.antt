@@ -1,30 +1,41 @@
 -- `flood::reach` meets its contract. The loop's invariant: the flood of the plane that was passed goes on.
 -- Assumes nothing.
-use Rattle.std.proofs.Common.{ap, arith}
-use Rattle.flood.specs.steps.Flood.{state}
-use Rattle.flood.proofs.Room.{total, spread-total}
+use Rattle.std.proofs.Common.{refl, ap, arith}
+use Rattle.flood.specs.steps.Flood.{state_of}
+use Rattle.flood.proofs.Room.{total, spread-total, same-twice}
 use Rattle.flood.proofs.Reached.{first-going, spread-ready, spread-going, ground-marked}
 use Rattle.flood.proofs.reach.Goals as goal
 
-pub loop-top-init : goal.loop-top-init
-loop-top-init c =
+pub loop-stack-init : goal.loop-stack-init
+loop-stack-init c =
     let a = c.args in
-    first-going a.out.now a.h a.w c.requires.closed a.stack.now c.requires.stack_len _ c.seed_border-top.ensures
+    record {
+      going = first-going a.out.now a.size.h a.size.w a.size.sides c.requires.closed a.stack.now c.requires.stack_len _ c.seed_border.ensures.seeded;
+      same_buffer = record { reference = refl; size = refl };
+    }
 
-pub spread-top-requires : goal.spread-top-requires
-spread-top-requires c = spread-ready _ c.args.h _ c.requires.closed _ c.loop-top.invariant c.loop-top-test.true
+pub spread-requires : goal.spread-requires
+spread-requires c = spread-ready _ c.args.size.h _ c.args.size.sides c.requires.closed _ c.loop-stack.invariant.going c.loop-stack-test.true
 
-pub loop-top-smaller : goal.loop-top-smaller
+pub loop-stack-smaller : goal.loop-stack-smaller
 unfolding total
-loop-top-smaller c =
-    let l = c.loop-top in
-    let ready = spread-ready _ c.args.h _ c.requires.closed (state l.top l.stack l.out) l.invariant c.loop-top-test.true in
-    omega (arith, ap total c.spread-top.ensures, spread-total ready)
+loop-stack-smaller c =
+    let l = c.loop-stack in
+    let size = c.args.size in
+    let ready = spread-ready _ size.h _ size.sides c.requires.closed (state_of l.stack l.out) l.invariant.going c.loop-stack-test.true in
+    omega (arith, ap total c.spread.ensures.spread, spread-total ready)
 
-pub loop-top-preserved : goal.loop-top-preserved
-loop-top-preserved c = spread-going _ _ _ c.requires.closed _ c.loop-top.invariant c.loop-top-test.true c.spread-top.ensures
+pub loop-stack-preserved : goal.loop-stack-preserved
+loop-stack-preserved c =
+    let i = c.loop-stack.invariant in
+    let v = c.spread.ensures in
+    record {
+      going = spread-going _ _ _ c.args.size.sides c.requires.closed _ i.going c.loop-stack-test.true v.spread;
+      same_buffer = same-twice i.same_buffer v.same_buffer;
+    }
 
 pub returns : goal.returns
 returns c =
-    let l = c.loop-top in
-    ground-marked _ c.args.h c.args.w c.requires.closed (state l.top l.stack l.out) l.invariant (omega arith)
+    let l = c.loop-stack in
+    let size = c.args.size in
+    ground-marked _ size.h size.w size.sides c.requires.closed (state_of l.stack l.out) l.invariant.going (omega arith)

@@ -1,12 +1,16 @@
 -- `flood::reach` meets its contract.
 -- Assumes nothing.
 use Rattle.std.proofs.Common.{◌+◌}
-use Rattle.flood.specs.steps.Flood.{state, waiting}
+use Rattle.plane.specs.steps.Buffer.{SameBuffer}
+use Rattle.flood.specs.steps.Flood.{state_of, waiting}
 use Rattle.flood.proofs.Reached.{Going}
 use Rattle.flood.proofs.reach.Given as goal
 
-abbrev pub invariant-loop-top : goal.invariant-loop-top
-invariant-loop-top l = Going l.fn.out l.h l.w (state l.top l.stack l.out)
+abbrev pub invariant-loop-stack : goal.invariant-loop-stack
+invariant-loop-stack l = record {
+  going : Going l.fn.out l.size.h l.size.w (state_of l.stack l.out);
+  same_buffer : SameBuffer l.initial.stack.pixels l.stack.pixels;
+}
 
-abbrev pub decreases-loop-top : goal.decreases-loop-top
-decreases-loop-top l = l.top + waiting l.out
+abbrev pub decreases-loop-stack : goal.decreases-loop-stack
+decreases-loop-stack l = l.stack.top + waiting l.out

@@ -1,11 +1,13 @@
 -- The flood from the border, which the contracts of its functions cite.
 -- The plane holds 0 where a pixel is not close, 1 where it is and no step came yet, 2 where it is ground.
 -- Assumes nothing.
-use Rattle.std.specs.Prelude.{◌≡◌, ℕ, ◌+◌, ◌-◌, ◌*◌, ◌%◌, ◌<◌, ◌≤◌, Option, Some, None, cond, List, [], ◌∷◌, length, ◌==◌, nat_eq, nat_le, nat_lt, slice_index, slice_set}
+use Rattle.std.specs.Prelude.{◌≡◌, ℕ, ◌+◌, ◌-◌, ◌*◌, ◌%◌, ◌<◌, ◌≤◌, ◌==◌, nat_eq, nat_le, nat_lt, Option, Some, None, cond}
+use Rattle.std.specs.Prelude.{List, [], ◌∷◌, length, slice_index, slice_set}
 use Rattle.std.specs.Bool.{then_some}
 use Rattle.plane.specs.Plane.{bit, table}
-use Rattle.plane.specs.steps.Sides.{longest_side, Sides}
+use Rattle.plane.specs.steps.Sides.{longest_side}
 use Rattle.plane.specs.Search.{count_below}
+use Rattle.flood.specs.declared.Stack.{Stack}
 
 -- the height of the stack, the stack, and the plane
 pub record State : Type 0 where
@@ -15,6 +17,10 @@ pub record State : Type 0 where
 
 abbrev pub state : ℕ → List ℕ → List ℕ → State
 state top stack plane = record { top = top; stack = stack; plane = plane }
+
+-- that of the stack and the plane that the functions are passed
+abbrev pub state_of : Stack → List ℕ → State
+state_of stack plane = state stack.top stack.pixels.now plane
 
 -- pixel q becomes ground and is pushed
 unfoldable pub pushed : ℕ → State → State
@@ -78,6 +84,5 @@ pub record Spreads (w : ℕ) (s : State) : Type 0 where
 
 -- a plane of 0 and 1
 pub record Closed (plane : List ℕ) (h w : ℕ) : Type 0 where
-  pub sides : Sides h w
   pub output : length plane ≡ h * w
   pub bits : (k : ℕ) → slice_index plane k ≤ 1

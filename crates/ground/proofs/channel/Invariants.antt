@@ -6,4 +6,5 @@ use Rattle.outline.specs.Border.{border_list, channel_at}
 use Rattle.ground.proofs.channel.Given as goal
 
 abbrev pub invariant-loop-k : goal.invariant-loop-k
-invariant-loop-k l = take l.k (floats_of l.work) ≡ map (channel_at l.colours l.c) (take l.k (border_list l.h l.w))
+invariant-loop-k l =
+    take l.k (floats_of l.work) ≡ map (channel_at l.picture.colours.now l.c) (take l.k (border_list l.picture.size.h l.picture.size.w))

@@ -6,4 +6,4 @@ use Rattle.outline.specs.Ground.{is_close}
 use Rattle.ground.proofs.close_plane.Given as goal
 
 abbrev pub invariant-loop-i : goal.invariant-loop-i
-invariant-loop-i l = (k : ℕ) → k < l.i → slice_index l.out k ≡ bit (is_close l.colours l.reference l.tolerance k)
+invariant-loop-i l = (k : ℕ) → k < l.i → slice_index l.out k ≡ bit (is_close l.picture.colours.now l.reference.colour l.tolerance k)

@@ -1,11 +1,11 @@
 -- `ground::mostly` meets its contract. The loop's invariant: `count` and what of the rest of the border list is on make the whole.
 -- Assumes nothing.
-use Rattle.std.proofs.Common.{◌≡◌, ℕ, ◌+◌, ◌≤◌, ◌<◌, not, eqb, List, length, get_or, drop, add-one, arith, drop_of_length-le, drop-cons, rules}
+use Rattle.std.proofs.Common.{◌≡◌, ℕ, ◌+◌, ◌≤◌, ◌<◌, not, eqb, List, length, get_or, drop, add-one, ◌∙◌, arith, drop_of_length-le, drop-cons}
 use Rattle.plane.specs.Plane.{on, bit}
 use Rattle.plane.specs.Mask.{is_on}
+use Rattle.plane.proofs.Plane.{from_bool-bit, bit-most}
 use Rattle.outline.specs.Border.{border_list}
 use Rattle.outline.specs.Ground.{count_on}
-use Rattle.ground.proofs.Answers.{bit-most}
 use Rattle.ground.proofs.mostly.Goals as goal
 
 -- the rest of a list begins with its pixel k, and is nothing in the end
@@ -22,10 +22,10 @@ pub loop-k-preserved : goal.loop-k-preserved
 unfolding bit
 loop-k-preserved c =
     let l = c.loop-k in
-    let a = c.args in
-    let test = not (eqb (get_or a.mask.now c.border_pixel-i.result 0) 0) in
-    let more = rest a.mask.now (border_list a.h a.w) l.k (omega arith) c.border_pixel-i.ensures in
-    let added : c.from-count.result ≡ bit test = search rules in
+    let mask = c.args.mask in
+    let test = not (eqb (get_or mask.pixels.now c.border_pixel-i.result 0) 0) in
+    let more = rest mask.pixels.now (border_list mask.size.h mask.size.w) l.k (omega arith) c.border_pixel-i.ensures in
+    let added : c.from-count.result ≡ bit test = c.from-count.ensures ∙ from_bool-bit test in
     record {
       few = omega (arith, bit-most test);
       so_far = omega (arith, l.invariant.so_far);
@@ -34,7 +34,7 @@ loop-k-preserved c =
 pub returns : goal.returns
 returns c =
     let l = c.loop-k in
-    let a = c.args in
-    let border = border_list a.h a.w in
-    let e : l.count ≡ count_on a.mask.now border = omega (arith, l.invariant.so_far, none_left a.mask.now border l.k (omega arith)) in
+    let pixels = c.args.mask.pixels.now in
+    let border = border_list c.args.mask.size.h c.args.mask.size.w in
+    let e : l.count ≡ count_on pixels border = omega (arith, l.invariant.so_far, none_left pixels border l.k (omega arith)) in
     rw (c.border_count-total.ensures, e)

@@ -6,7 +6,9 @@ use Rattle.outline.specs.Ground.{count_on}
 use Rattle.ground.proofs.mostly.Given as goal
 
 abbrev pub invariant-loop-k : goal.invariant-loop-k
-invariant-loop-k l = record {
-  few : l.count ≤ l.k;
-  so_far : count_on l.mask (border_list l.h l.w) ≡ l.count + count_on l.mask (drop l.k (border_list l.h l.w));
-}
+invariant-loop-k l =
+    let border = border_list l.mask.size.h l.mask.size.w in
+    record {
+      few : l.count ≤ l.k;
+      so_far : count_on l.mask.pixels.now border ≡ l.count + count_on l.mask.pixels.now (drop l.k border);
+    }

@@ -3,7 +3,7 @@
 use Rattle.std.proofs.Common.{ap, ◌∙◌}
 use borrow.Author.Tests.{eq-eqb}
 use Rattle.plane.specs.Plane.{bit}
-use Rattle.growth.proofs.Marks.{from_bool-bit}
+use Rattle.plane.proofs.Plane.{from_bool-bit}
 use Rattle.growth.proofs.last_mark.Goals as goal
 
 pub returns : goal.returns

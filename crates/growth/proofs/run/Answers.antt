@@ -14,7 +14,7 @@ loop-preserved c =
       planes = search rules;
       grown =
           l.invariant.grown
-          ∙ growth-more p.colours.now p.reference p.h p.w l.back (a.passes - l.counter) (a.passes - (l.counter + 1)) _ (omega arith)
+          ∙ growth-more p.colours.now p.reference p.size.h p.size.w l.back (a.passes - l.counter) (a.passes - (l.counter + 1)) _ (omega arith)
           (sym c.pass.ensures.value ∙ c.if-not-pass.false) c.pass.ensures.back_after;
     }
 
@@ -25,10 +25,10 @@ returns c =
     let l = c.loop in
     c.tidy.ensures ∙ elim c.loop-test.branch [
       | else-loop-test w ↦
-          rw w.back-is (growth-done p.colours.now p.reference p.h p.w l.back (a.passes - l.counter) _ (omega arith) l.invariant.planes.back_long)
+          rw w.back-is (growth-done p.colours.now p.reference p.size.h p.size.w l.back (a.passes - l.counter) _ (omega arith) l.invariant.planes.back_long)
           ∙ sym l.invariant.grown
       | then-loop-test+then-not-pass w ↦
-          growth-last p.colours.now p.reference p.h p.w l.back (a.passes - l.counter) _ _ (omega arith) (omega (arith, c.loop-test.auto.back, l.invariant.planes.back_long))
+          growth-last p.colours.now p.reference p.size.h p.size.w l.back (a.passes - l.counter) _ _ (omega arith) (omega (arith, c.loop-test.auto.back, l.invariant.planes.back_long))
           (sym w.pass.ensures.value ∙ w.if-not-pass.true) (w.back-is ∙ w.pass.ensures.back_after)
           ∙ sym l.invariant.grown
     ]

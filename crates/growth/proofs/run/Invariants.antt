@@ -8,7 +8,7 @@ use Rattle.growth.proofs.run.Given as goal
 abbrev pub invariant-loop : goal.invariant-loop
 invariant-loop l =
     let p = l.photo in record {
-      planes : Planes p.h p.w l.nearest l.shallow l.deep l.marks l.back;
-      grown : growth_of p.colours.now p.reference p.h p.w l.passes l.initial.back
-          ≡ growth_of p.colours.now p.reference p.h p.w (l.passes - l.counter) l.back;
+      planes : Planes p.size.h p.size.w l.nearest l.shallow l.deep l.marks l.back;
+      grown : growth_of p.colours.now p.reference p.size.h p.size.w l.passes l.initial.back
+          ≡ growth_of p.colours.now p.reference p.size.h p.size.w (l.passes - l.counter) l.back;
     }

@@ -5,7 +5,7 @@ use Rattle.plane.specs.Search.{some_below}
 use Rattle.plane.specs.Mask.{is_on}
 use Rattle.plane.proofs.Search.{some_more}
 use Rattle.plane.proofs.InPlace.{changed-none, changed-more, changed-end}
-use Rattle.growth.specs.steps.Marks.{waits, search_mark}
+use Rattle.growth.specs.steps.Marks.{waits, near_deep, search_mark}
 use Rattle.growth.proofs.search.Goals as goal
 
 pub loop-i-init : goal.loop-i-init
@@ -17,7 +17,7 @@ unfolding search_mark is_on
 loop-i-preserved c =
     let l = c.loop-i in
     let a = c.args in
-    let mark : ℕ → ℕ = search_mark a.photo.colours.now a.photo.reference a.deep.now a.photo.h a.photo.w a.marks.now in
+    let mark : ℕ → ℕ = search_mark a.photo.colours.now a.photo.reference (near_deep a.deep) a.marks.now in
     let v = c.search_mark-m.result in
     let same : get_or l.marks l.i 0 ≡ get_or a.marks.now l.i 0 = l.invariant.changed.back l.i (omega arith) in
     let e : v ≡ mark l.i = rw (← same) c.search_mark-m.ensures in record {

@@ -6,7 +6,7 @@ use Rattle.plane.specs.Search.{some_below}
 use Rattle.plane.specs.Mask.{is_on, mask_of}
 use Rattle.plane.proofs.Search.{some_more}
 use Rattle.plane.proofs.InPlace.{changed-none, changed-more, changed-end}
-use Rattle.growth.proofs.Marks.{from_bool-bit}
+use Rattle.plane.proofs.Plane.{from_bool-bit}
 use Rattle.growth.proofs.settle.Goals as goal
 
 pub loop-i-init : goal.loop-i-init

@@ -4,7 +4,7 @@ use Rattle.std.proofs.Common.{ℕ, ap, ◌∙◌, arith}
 use Rattle.plane.specs.Plane.{on, bit}
 use Rattle.plane.specs.Mask.{is_on, mask_of}
 use Rattle.plane.proofs.InPlace.{changed-more, changed-end}
-use Rattle.growth.proofs.Marks.{from_bool-bit}
+use Rattle.plane.proofs.Plane.{from_bool-bit}
 use Rattle.growth.proofs.tidy.Goals as goal
 
 pub loop-b-preserved : goal.loop-b-preserved

@@ -6,20 +6,20 @@ use Rattle.labels.proofs.label.Goals as goal
 
 pub returns-then-n-m : goal.returns-then-n-m
 returns-then-n-m c =
-    let g = c.requires in
+    let whole = c.args.mask.whole in
     let n = c.flatten-n.ensures in
-    let long = c.scan-m.auto.labels ∙ g.output in
+    let long = c.scan-m.auto.labels ∙ c.requires.output in
     record {
-      value = n.count ∙ roots-all g.input c.scan-m.ensures;
-      labels_after = labels-stay g.input c.scan-m.ensures n c.if-n-m.true long;
+      value = n.count ∙ roots-all whole c.scan-m.ensures;
+      labels_after = labels-stay whole c.scan-m.ensures n c.if-n-m.true long;
     }
 
 pub returns : goal.returns
 returns c =
-    let g = c.requires in
+    let whole = c.args.mask.whole in
     let n = c.flatten-n.ensures in
-    let long = c.scan-m.auto.labels ∙ g.output in
+    let long = c.scan-m.auto.labels ∙ c.requires.output in
     record {
-      value = n.count ∙ roots-all g.input c.scan-m.ensures;
-      labels_after = numbers-are g.input c.scan-m.ensures n long c.rename.auto.labels c.rename.ensures;
+      value = n.count ∙ roots-all whole c.scan-m.ensures;
+      labels_after = numbers-are whole c.scan-m.ensures n long c.rename.auto.labels c.rename.ensures;
     }

@@ -8,7 +8,7 @@ use Rattle.labels.proofs.scan_row.Goals as goal
 pub loop-x-init : goal.loop-x-init
 unfolding left_at diag_at
 loop-x-init c =
-    let e : c.args.y * c.args.w + 0 ≡ c.args.y * c.args.w = omega arith in
+    let e : c.args.y * c.args.mask.size.w + 0 ≡ c.args.y * c.args.mask.size.w = omega arith in
     record {
       so_far = rw e c.requires.so_far;
       to_left = refl;
@@ -21,7 +21,7 @@ place-l-requires c =
     let l = c.loop-x in
     let i = l.invariant in
     let g = still-given c.requires.given i.same_buffer.size l.auto.labels in
-    placeable g c.args.y l.x l.trees.count c.requires.row c.loop-x-test.true i.so_far i.to_left c.upper-up.ensures
+    placeable c.args.mask g c.args.y l.x l.trees.count c.requires.row c.loop-x-test.true i.so_far i.to_left c.upper-up.ensures
 
 pub loop-x-preserved : goal.loop-x-preserved
 loop-x-preserved c =
@@ -29,7 +29,7 @@ loop-x-preserved c =
     let i = l.invariant in
     let f = c.place-l.ensures in
     let g = still-given c.requires.given i.same_buffer.size l.auto.labels in
-    let more = row_next g c.args.y l.x l.trees.count c.requires.row c.loop-x-test.true i.so_far c.place-l.result in
+    let more = row_next c.args.mask g c.args.y l.x l.trees.count c.requires.row c.loop-x-test.true i.so_far c.place-l.result in
     let n = more i.to_left c.upper-up.ensures i.above_left f.placed in
     record {
       so_far = rw f.count_after n.0;

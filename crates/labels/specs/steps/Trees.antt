@@ -1,20 +1,17 @@
 -- Provisional labels and the trees that join them, which the contracts of the functions of `label` cite.
 -- Assumes nothing.
 use Rattle.std.specs.Prelude.{◌≡◌, Bool, true, false, cond, ◌&&◌, ◌⊎◌, List, ℕ, ◌+◌, ◌*◌, ◌-◌, ◌≤◌, ◌<◌, eqb, ltb, length, get_or, set}
-use Rattle.std.specs.Borrow.{MutBor}
-use Rattle.plane.specs.steps.Sides.{Sides}
+use Rattle.plane.specs.declared.size.Mask.{Mask}
 use Rattle.plane.specs.Search.{count_below}
 use Rattle.plane.specs.Mask.{is_on}
 use Rattle.plane.specs.Box.{lesser_of}
 use Rattle.labels.specs.Labels.{beside, Joined, renamed, is_first}
 
--- what a call of `label` is given: planes of h * w pixels, and work space of one number more; labels are stored in 32 bits
-pub record Given (mask parents labels : List ℕ) (h w : ℕ) : Type 0 where
-  pub sides : Sides h w
-  pub few : h * w < 4294967296
-  pub input : length mask ≡ h * w
-  pub output : length labels ≡ h * w
-  pub room : h * w < length parents
+-- what a call of `label` is lent for n pixels: a label for each, and work space of one number more; labels are stored in 32 bits
+pub record Given (parents labels : List ℕ) (n : ℕ) : Type 0 where
+  pub few : n < 4294967296
+  pub output : length labels ≡ n
+  pub room : n < length parents
 
 -- ---- trees of labels
 
@@ -33,11 +30,6 @@ pub record Forest (parents : List ℕ) (m : ℕ) (rep : ℕ → ℕ) : Type 0 wh
 pub record Trees (parents : List ℕ) (m : ℕ) : Type 0 where
   pub rep : ℕ → ℕ
   pub forest : Forest parents m rep
-
--- a reference before and after a call: it still leads to the same buffer
-pub record SameBuffer (old new : MutBor (List ℕ)) : Type 0 where
-  pub reference : new.ghost_name ≡ old.ghost_name
-  pub size : length new.now ≡ length old.now
 
 -- r is the root of l, and every label keeps its root
 pub record Found (old new : List ℕ) (m l r : ℕ) : Type 0 where
@@ -106,10 +98,10 @@ pub record Scanned (mask labels parents : List ℕ) (h w t m : ℕ) : Type 0 whe
   pub starts : (k : ℕ) → k < t → is_first mask h w k ≡ true → seed (get_or labels k 0) ≡ k
 
 -- what `scan_row` is given: the rows above row y are scanned
-pub record RowsDone (mask labels parents : List ℕ) (h w y m : ℕ) : Type 0 where
-  pub given : Given mask parents labels h w
-  pub row : y < h
-  pub so_far : Scanned mask labels parents h w (y * w) m
+pub record RowsDone (mask : Mask) (labels parents : List ℕ) (y m : ℕ) : Type 0 where
+  pub given : Given parents labels (mask.size.h * mask.size.w)
+  pub row : y < mask.size.h
+  pub so_far : Scanned mask.pixels.now labels parents mask.size.h mask.size.w (y * mask.size.w) m
 
 -- ---- the numbers of the trees
 

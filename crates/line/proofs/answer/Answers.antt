@@ -3,7 +3,7 @@
 use Rattle.std.proofs.Common.{◌≡◌, ℕ, zero, suc, ◌+◌, ◌-◌, ◌≤◌, ◌<◌, List, length, get_or}
 use Rattle.std.proofs.Common.{refl, sym, ap, ◌∙◌, ⊎_elim, arith, rules, add-one}
 use borrow.Rule.Slice.PartMut.{put_mid}
-use Rattle.plane.proofs.Search.{which}
+use Rattle.std.proofs.lemmas.Bool.{cases_lt}
 use Rattle.line.specs.steps.Envelope.{Segments, InSegment}
 use Rattle.line.proofs.Part.{put_length, put_front, put_part, put_back}
 use Rattle.line.proofs.answer.Invariants.{Answered}
@@ -30,7 +30,7 @@ module _ {old out stack : List ℕ} {count base q end : ℕ} (p : Segments old s
       let m = l.ends h in
       omega arith)
       (λ (h : count ≤ q). (let m = l.whole (omega arith) in let r = p.inside (q - 1) (omega arith) in omega arith))
-      (which q count)
+      (cases_lt q count)
 
   -- and no answer stands there yet
   start-kept : get_or out (q - 1) 0 ≡ get_or old (q - 1) 0
@@ -76,7 +76,7 @@ module _ {old out stack : List ℕ} {count base q end : ℕ} (p : Segments old s
           whole = λ e. absurd (omega arith);
           answered = λ x g h.
               ⊎_elim (λ (z : x < end). in_top x g z)
-              (λ (z : end ≤ x). rw (put_back 0 from end out new fits join x z) (l.answered x z h)) (which x end);
+              (λ (z : end ≤ x). rw (put_back 0 from end out new fits join x z) (l.answered x z h)) (cases_lt x end);
           before = λ i g. put_front 0 from end out new fits join i g ∙ l.before i (omega arith);
         }
 

@@ -3,6 +3,7 @@
 -- Assumes nothing.
 use Rattle.std.specs.Prelude.{ℕ, ◌+◌, ◌*◌, ◌-◌, ◌/◌, ◌≤◌, ◌<◌, ◌≡◌, List, length, get_or, slice_index}
 use Rattle.line.specs.steps.Line.{most_cost, most_length, Site, value_at}
+use Rattle.line.specs.steps.Lent.{Lent}
 
 -- i is the first best site for x among the first u places
 pub record Leads (costs : List ℕ) (u x i : ℕ) : Type 0 where
@@ -23,9 +24,7 @@ pub record Stack (costs : List ℕ) (s t : ℕ → ℕ) (u count : ℕ) : Type 0
 
 -- u is a site, and the stack is that of the places before it: its starts stand in out
 pub record Ready (out costs stack : List ℕ) (count u : ℕ) : Type 0 where
-  pub short : length costs ≤ most_length
-  pub out_long : length out ≡ length costs
-  pub stack_long : length costs ≤ length stack
+  pub lent : Lent out costs stack
   pub inside : u < length costs
   pub cost : Site costs u
   pub whole : Stack costs (slice_index stack) (slice_index out) u count

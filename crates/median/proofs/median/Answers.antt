@@ -1,20 +1,13 @@
 -- `median::median` meets its contract.
 -- Assumes nothing.
-use Rattle.std.proofs.Common.{◌≡◌, ℕ, ◌+◌, ◌-◌, ◌/◌, ◌≤◌, List, length, ap, ◌∙◌, arith}
+use Rattle.std.proofs.Common.{◌≡◌, ℕ, ◌-◌, ◌/◌, length, ap, ◌∙◌, arith}
 use Rattle.colour.specs.Number.{plus_zero, half_of}
 use Rattle.median.specs.Median.{placed, lower_middle, upper_middle, median_of}
 use Rattle.median.specs.steps.Values.{floats_of}
-use Rattle.median.proofs.Values.{floats-length, floats-held}
+use Rattle.median.proofs.Values.{floats-held}
 use Rattle.median.proofs.Places.{placed-good}
 use Rattle.median.proofs.Laws.{signs-gone}
 use Rattle.median.proofs.median.Goals as goal
-
--- the places of the two middle values
-lower-place : (v : List ℕ) → length v / 4 - 1 ≡ length (floats_of v) / 2 - 1
-lower-place v = omega (arith, floats-length v)
-
-upper-place : (v : List ℕ) → 2 ≤ length (floats_of v) → length v / 4 - 1 + 1 ≡ length (floats_of v) / 2
-upper-place v h = omega (arith, floats-length v)
 
 pub returns : goal.returns
 unfolding median_of lower_middle upper_middle
@@ -26,9 +19,9 @@ returns c =
     let y = placed l (length l / 2) in
     let good = placed-good l (floats-held v) c.requires.ok in
     let lower : c.select-lo.result ≡ plus_zero x =
-    c.select-lo.ensures ∙ ap (λ (k : ℕ). plus_zero (placed l k)) (lower-place v) in
+    c.select-lo.ensures ∙ ap (λ (n : ℕ). plus_zero (placed l (n / 2 - 1))) c.count.ensures in
     let upper : c.next_place-hi.result ≡ plus_zero y =
-    c.next_place-hi.ensures ∙ ap (λ (k : ℕ). plus_zero (placed l k)) (upper-place v some) in
+    c.next_place-hi.ensures ∙ ap (λ (k : ℕ). plus_zero (placed l k)) (omega arith) in
     let halved : c.half.result ≡ half_of c.select-lo.result c.next_place-hi.result = c.half.ensures in
     c.plus_zero.ensures
     ∙ ap plus_zero (halved ∙ rw (lower, upper))

@@ -1,10 +1,9 @@
 -- What the steps of the selection answer.
 -- Assumes nothing.
-use Rattle.std.specs.Prelude.{◌≡◌, true, cond, ◌&&◌, List, [], ◌∷◌, ℕ, ◌+◌, ◌≤◌, ◌<◌, length, Float}
+use Rattle.std.specs.Prelude.{◌≡◌, true, cond, ◌&&◌, List, [], ◌∷◌, ℕ, ◌+◌, ◌≤◌, length, Float}
 use Rattle.std.specs.Float.Ieee.{lt, le}
-use Rattle.colour.specs.Number.{one64, plus_zero}
+use Rattle.colour.specs.Number.{one64}
 use Rattle.colour.specs.Colour.{colours_ok}
-use Rattle.median.specs.Median.{placed}
 
 -- how many numbers are at or below t
 unfoldable pub at_most : Float → List Float → ℕ
@@ -24,14 +23,3 @@ least_above t (x ∷ l) = nearer t x (least_above t l)
 pub record Channel (l : List Float) : Type 0 where
   pub some : 2 ≤ length l
   pub ok : colours_ok l ≡ true
-
--- numbers from 0 to 1, and a place among them
-pub record Place (l : List Float) (k : ℕ) : Type 0 where
-  pub inside : k < length l
-  pub ok : colours_ok l ≡ true
-
--- numbers from 0 to 1, two places among them, and the number at the first, a zero as +0
-pub record Neighbours (l : List Float) (k : ℕ) (lo : Float) : Type 0 where
-  pub inside : k + 1 < length l
-  pub ok : colours_ok l ≡ true
-  pub first : lo ≡ plus_zero (placed l k)

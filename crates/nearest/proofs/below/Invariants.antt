@@ -5,4 +5,4 @@ use Rattle.nearest.specs.steps.Stages.{BelowFrom}
 use Rattle.nearest.proofs.below.Given as goal
 
 abbrev pub invariant-loop-y : goal.invariant-loop-y
-invariant-loop-y l = (l.at ≡ l.y * l.w) × BelowFrom l.mask l.h l.w l.y l.work
+invariant-loop-y l = (l.at ≡ l.y * l.mask.size.w) × BelowFrom l.mask.pixels.now l.mask.size.h l.mask.size.w l.y l.work

@@ -1,56 +1,48 @@
 -- `nearest::nearest_distances` meets its contract.
 -- Assumes nothing.
-use Rattle.std.proofs.Common.{◌<◌, ◌∙◌, arith, length-append, length-drop}
-use Rattle.std.proofs.lemmas.List.{places}
+use Rattle.std.proofs.Common.{◌≡◌, ℕ, ◌-◌, ◌*◌, ◌<◌, ◌∙◌, take, refl, arith, length-take}
+use Rattle.plane.proofs.Plane.{row_in}
 use Rattle.nearest.specs.Nearest.{distance_plane}
 use Rattle.nearest.proofs.Laws.{distance_most}
 use Rattle.nearest.proofs.Stages.{swept-start}
-use Rattle.nearest.proofs.Rows.{rows_next, rows_end, Row, row_at, row_no-higher, near_no-higher, Passed, row_passed}
-use Rattle.nearest.proofs.nearest_distances.Goals.{In-loop-y, After-line}
+use Rattle.nearest.proofs.Rows.{rows_next, rows_end, distance_is, at-front}
 use Rattle.nearest.proofs.nearest_distances.Goals as goal
-
-row : (c : In-loop-y) → Row c.args.mask.now c.args.h c.args.w c.loop-y.y c.loop-y.plane c.loop-y.near
-row c = row_at c.requires.sides c.loop-y-test.true (omega arith) c.loop-y.invariant.1
-
-passed : (c : After-line)
-    → Passed c.args.mask.now c.args.h c.args.w c.loop-y.y c.loop-y.plane c.nearer_line.new.near c.costs_line.new.costs c.line.new.out
-passed c =
-    row_passed (row (goal.at-After-line c).In-loop-y) c.nearer_line.new.near c.costs_line.new.costs c.line.new.out (omega arith)
-    (omega arith) c.nearer_line.ensures c.costs_line.ensures c.line.ensures
 
 pub loop-y-init : goal.loop-y-init
 loop-y-init c =
-    let p = c.split_at_mut-plane.ensures in
-    let q = c.split_at_mut-near.ensures in (
-      omega arith,
-      rw (p.front, q.front, p.back) (swept-start c.args.mask.now c.args.h c.args.w c.below.new.work c.below.ensures),
-      (λ j x l. absurd (omega arith)),
-    )
-
-pub nearer_line-requires-clause-row_low : goal.nearer_line-requires-clause-row_low
-nearer_line-requires-clause-row_low c = row_no-higher (row (goal.at.nearer_line-requires-clause-row_low c).In-loop-y)
-
-pub nearer_line-requires-clause-near_low : goal.nearer_line-requires-clause-near_low
-nearer_line-requires-clause-near_low c = near_no-higher (row (goal.at.nearer_line-requires-clause-near_low c).In-loop-y)
+    let m = c.args.mask in
+    let p = c.split_at_mut-plane.ensures in record {
+      long = omega arith;
+      lines_long = omega arith;
+      swept = rw (p.front, p.back, c.area.ensures) (swept-start m.pixels.now m.size.h m.size.w c.below.new.work c.below.ensures);
+      distances = λ j x l. absurd (omega arith);
+    }
 
 pub distances_line-requires-clause-low : goal.distances_line-requires-clause-low
-distances_line-requires-clause-low c = λ x l.
-    (let p = passed (goal.at.distances_line-requires-clause-low c).After-line in
-    let g : x < c.args.w = omega arith in
-    let e = p.distances x g in
-    omega (arith, distance_most c.args.mask.now c.args.h c.args.w c.loop-y.y x c.loop-y-test.true g, c.requires.low))
+distances_line-requires-clause-low c =
+    let m = c.args.mask in
+    let w = m.size.w in
+    let fits = row_in c.loop-y.y m.size.h w c.loop-y-test.true in
+    λ x l.
+    (let g : x < w = omega (arith, length-take {A = ℕ}) in
+    let n : 2 * w - w ≡ w = omega arith in
+    let e = distance_is c.choose.ensures (take w c.choose.new.plane) (at-front _ w) w refl x g in
+    rw (n, e) (omega (arith, distance_most m.pixels.now m.size.h w c.loop-y.y x c.loop-y-test.true g, c.requires.low)))
 
 pub loop-y-preserved : goal.loop-y-preserved
 loop-y-preserved c =
-    let p = passed (goal.at.loop-y-preserved c).After-line in
-    let r = row (goal.at.loop-y-preserved c).In-loop-y in
-    let fits = r.fits in (
-      simp (length-append, length-drop) (omega arith),
-      p.next _ (λ i l. grind (arith, places)),
-      rows_next 0 _ c.args.w c.loop-y.out c.distances_line.new.out c.loop-y.y c.loop-y.invariant.2 (omega arith) (omega arith)
-          (λ x g. c.distances_line.ensures x (omega arith) ∙ p.distances x g),
-    )
+    let w = c.args.mask.size.w in
+    let fits = row_in c.loop-y.y c.args.mask.size.h w c.loop-y-test.true in record {
+      long = omega arith;
+      lines_long = omega arith;
+      swept = c.choose.ensures.next;
+      distances =
+          rows_next 0 _ w c.loop-y.out c.distances_line.new.out c.loop-y.y c.loop-y.invariant.distances (omega arith) (omega arith)
+          (λ x g.
+          c.distances_line.ensures x (omega arith) ∙ distance_is c.choose.ensures (take w c.choose.new.plane) (at-front _ w) _ (omega arith) x g);
+    }
 
 pub returns : goal.returns
 unfolding distance_plane
-returns c = rows_end 0 _ c.args.w c.args.h c.loop-y.out c.loop-y.y c.loop-y.invariant.2 c.loop-y-test.false (omega arith)
+returns c =
+    rows_end 0 _ c.args.mask.size.w c.args.mask.size.h c.loop-y.out c.loop-y.y c.loop-y.invariant.distances c.loop-y-test.false (omega arith)

@@ -8,6 +8,11 @@ use Rattle.nearest.proofs.nearest_planes.Given as goal
 
 abbrev pub invariant-loop-y : goal.invariant-loop-y
 invariant-loop-y l =
-    (length l.plane ≡ l.h * l.w) × Swept l.mask l.h l.w l.y l.plane l.near
-    × Rows (pos 0) (λ (j x : ℕ). row_of (nearest l.mask l.h l.w j x)) l.w l.rows l.y
-    × Rows (pos 0) (λ (j x : ℕ). column_of (nearest l.mask l.h l.w j x)) l.w l.cols l.y
+    let mask = l.mask.pixels.now in
+    let h = l.mask.size.h in
+    let w = l.mask.size.w in record {
+      long : length l.plane ≡ h * w;
+      swept : Swept mask h w l.y l.plane l.lines;
+      rows : Rows (pos 0) (λ (j x : ℕ). row_of (nearest mask h w j x)) w l.rows l.y;
+      cols : Rows (pos 0) (λ (j x : ℕ). column_of (nearest mask h w j x)) w l.cols l.y;
+    }

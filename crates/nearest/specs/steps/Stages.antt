@@ -1,12 +1,12 @@
 -- The two stages of the computation, which the contracts of its parts cite:
 -- along the columns, in two sweeps over the rows; then along each row, by the line pass.
 -- Assumes nothing.
-use Rattle.std.specs.Prelude.{ℕ, zero, suc, ◌+◌, ◌*◌, ◌-◌, ◌≤◌, ◌<◌, ◌≡◌, Bool, cond, ◌||◌, List, length, eqb, ltb, get_or}
+use Rattle.std.specs.Prelude.{ℕ, zero, suc, ◌+◌, ◌*◌, ◌-◌, ◌≤◌, ◌<◌, ◌≡◌, Bool, cond, ◌||◌, List, length, take, drop, eqb, ltb, get_or}
 use Rattle.std.proofs.Math.Option.{Option, none, some}
 use Rattle.plane.specs.Plane.{on_at, apart}
 use Rattle.line.specs.steps.FirstLeast.{first_least}
 use Rattle.line.specs.steps.Line.{most_length}
-use Rattle.nearest.specs.Nearest.{row_cost}
+use Rattle.nearest.specs.Nearest.{row_cost, nearest, distance}
 
 -- stands for the row of a column that has no on-pixel
 abbrev pub no_row : ℕ
@@ -75,3 +75,12 @@ IsRow near i = i < length near → get_or near i 0 < most_length
 -- the squared distance of column i's on-pixel from (y, x), from the column's cost
 unfoldable pub distance_in : List ℕ → ℕ → ℕ → ℕ → ℕ
 distance_in costs y x i = cond (ltb i (length costs)) (get_or costs i 0 + apart x i * apart x i) (suc y * suc y + x * x)
+
+-- row y is passed: the plane holds its chosen columns from `at` on, and what it held before that; of the lines the first holds the nearest
+-- on-rows of row y, and the second what they cost
+pub record Passed (mask : List ℕ) (h w y at : ℕ) (old plane lines : List ℕ) : Type 0 where
+  pub next : Swept mask h w (y + 1) plane lines
+  pub before : (i : ℕ) → i < at → get_or plane i 0 ≡ get_or old i 0
+  pub chosen : (x : ℕ) → x < w → IsRow (take w lines) (get_or plane (at + x) 0)
+  pub pixels : (x : ℕ) → x < w → pixel_in (take w lines) (get_or plane (at + x) 0) ≡ nearest mask h w y x
+  pub distances : (x : ℕ) → x < w → distance_in (take w (drop w lines)) y x (get_or plane (at + x) 0) ≡ distance mask h w y x

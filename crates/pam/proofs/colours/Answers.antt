@@ -31,7 +31,7 @@ returns c =
     let done = l.invariant in
     let whole = changed-end nan _ _ l.out l.k done (omega (arith, done.size)) in
     let place : ℕ → ℕ = λ (k : ℕ). a.body + (4 * (k / 3) + k % 3) in
-    let byte = c.shared_slice_known-1.given in record {
+    let byte = c.type_inv.input in record {
       out_after = whole ∙ ap (table (channel a.input.now a.body) 0) c.requires.2;
       out_in_range = colours-all l.out
           (λ k g.

@@ -5,7 +5,7 @@ use Prim.Native.Nat.{◌-◌}
 use native.Mathlib.Omega.{arith}
 use lib.ListN.{length}
 use Rattle.std.proofs.Common.{None, Some}
-use Rattle.pam_header.proofs.Lines.{read_from, first_is, first-not, read-nothing, read-line, read-end, read_on}
+use Rattle.pam_header.proofs.Lines.{nothing-seen, read_from, first_is, first-not, read-nothing, read-line, read-end, read_on}
 use Rattle.pam_header.proofs.header_in.Goals as goal
 
 pub returns-in_err-rest : goal.returns-in_err-rest
@@ -16,8 +16,9 @@ loop-end-init c =
     let front = c.args.front.now in
     let rest = c.in_ok-rest.rest.now in
     let g = c.in_ok-rest.ensures.cases in
+    let none = nothing-seen c.default-seen.result c.default-seen.ensures in
     let n : length front - length rest ≡ 3 = omega (arith, g.2) in
-    (omega (arith, g.2), rw (n, g.1) (first_is front g.0))
+    (omega (arith, g.2), rw (none, n, g.1) (first_is front g.0))
 
 pub returns : goal.returns
 returns c =

@@ -1,54 +1,27 @@
 -- `refusals::growth_lengths` meets its contract.
 -- Assumes nothing.
-use mathlib.Core.Path.{◌≡◌, sym, ◌∙◌}
-use mathlib.Core.Bool.{true}
-use Prim.Native.Nat.{◌*◌, ◌≤◌}
-use native.Mathlib.Omega.{arith}
-use borrow.Author.Tests.{eq-eqb, ne_eqb}
-use Rattle.plane.specs.Refusal.{refusal_of, answer_for, sides_ok}
-use Rattle.plane.proofs.Refusal.{joined, sides-are, accepted-area}
-use Rattle.outline.specs.Refusal.{growth_lengths}
-use Rattle.refusals.proofs.growth_lengths.Tie as tie
-use Rattle.refusals.proofs.growth_lengths.Reads as reads
-use Rattle.refusals.proofs.growth_lengths.Lts as lts
+use Rattle.std.proofs.lemmas.Result.{err_from_is_err_and}
+use Rattle.plane.specs.steps.Judged.{tests_of}
+use Rattle.plane.proofs.Refusal.{declined-so}
+use Rattle.plane.proofs.Judged.{after-sides}
+use Rattle.outline.specs.Refusal.{work_tests, growth_lengths}
 use Rattle.refusals.proofs.growth_lengths.Goals as goal
 
-abbrev At-Else1 : Type 0
-At-Else1 = lts.Else1 tie.the-claims reads.Pre reads.Post
+pub returns-in_err-size-clause-refusal : goal.returns-in_err-size-clause-refusal
+unfolding growth_lengths work_tests
+returns-in_err-size-clause-refusal c =
+    let p = err_from_is_err_and c.from_residual.result c.from_residual.ensures.1 in
+    rw (p.1, p.2) (declined-so _ _ c.in_err-size.ensures.refusal)
 
--- the sides are accepted
-ok : (c : At-Else1) → sides_ok c.args.h c.args.w ≡ true
-ok c = sym c.sides_ok.ensures ∙ c.if-not-sides_ok.false
+pub returns-in_err-judge-clause-refusal : goal.returns-in_err-judge-clause-refusal
+unfolding growth_lengths work_tests tests_of
+returns-in_err-judge-clause-refusal c =
+    let p = err_from_is_err_and c.from_residual-in_err-judge.result c.from_residual-in_err-judge.ensures.1 in
+    let s = c.in_ok-size.ensures in
+    rw (p.1, p.2) (after-sides _ _ s.refusal (rw (← s.size.0, ← s.size.1, ← c.room-room.ensures, ← c.area-n.ensures) c.in_err-judge.ensures))
 
-small : (c : At-Else1) → c.args.h * c.args.w ≤ 4294967296
-small c = accepted-area _ _ (ok c)
-
-pub returns-then-not-sides_ok : goal.returns-then-not-sides_ok
-unfolding growth_lengths refusal_of answer_for
-returns-then-not-sides_ok c = rw (sym c.sides_ok.ensures ∙ c.if-not-sides_ok.true)
-
-pub returns-then-out-n : goal.returns-then-out-n
-unfolding growth_lengths refusal_of answer_for
-returns-then-out-n c = rw (joined, ok c.before.before, c.if-colours-n.true, ne_eqb _ _ c.if-out-n.true)
-
-pub returns-then-colours-n : goal.returns-then-colours-n
-unfolding growth_lengths refusal_of answer_for
-returns-then-colours-n c =
-    rw (joined, ← c.room.ensures, ok c.before.before.before.before, c.if-colours-n.true, eq-eqb _ _ c.if-out-n.false)
-    c.work_lengths.ensures
-
-pub returns : goal.returns
-unfolding growth_lengths refusal_of answer_for
-returns c = rw (joined, ok c.before, c.if-colours-n.false)
-
-pub overflow_mul-n : goal.overflow_mul-n
-overflow_mul-n c =
-    omega (arith, small c)
-
-pub overflow_mul-n-2 : goal.overflow_mul-n-2
-overflow_mul-n-2 c =
-    omega (arith, small c)
-
-pub room-requires : goal.room-requires
-room-requires c =
-    sides-are _ _ (ok c.before.before)
+pub returns-clause-refusal : goal.returns-clause-refusal
+unfolding growth_lengths work_tests tests_of
+returns-clause-refusal c =
+    let s = c.in_ok-size.ensures in
+    after-sides _ _ s.refusal (rw (← s.size.0, ← s.size.1, ← c.room-room.ensures, ← c.area-n.ensures) c.in_ok-judge.ensures)

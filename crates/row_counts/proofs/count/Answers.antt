@@ -4,9 +4,9 @@ use Rattle.std.proofs.Common.{◌≡◌, ◌+◌, length, refl, ◌∙◌, arith
 use Rattle.plane.specs.Search.{count_below}
 use Rattle.plane.specs.Plane.{on}
 use Rattle.plane.specs.Mask.{is_on}
-use Rattle.plane.proofs.Plane.{from_bool-bit}
+use Rattle.plane.proofs.Plane.{from_bool-bit, bit-most}
 use Rattle.plane.proofs.Search.{count_most}
-use Rattle.counts.proofs.Counting.{bit-most, count-more}
+use Rattle.counts.proofs.Counting.{count-more}
 use Rattle.row_counts.proofs.count.Goals as goal
 
 pub overflow_add-n : goal.overflow_add-n

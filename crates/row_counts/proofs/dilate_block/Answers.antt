@@ -5,7 +5,7 @@ use Rattle.std.proofs.Common.{◌+◌, ◌-◌, length, sym, refl, ◌∙◌, ad
 use Rattle.plane.specs.Mask.{is_on}
 use Rattle.counts.proofs.Counting.{running-most}
 use Rattle.counts.proofs.Put.{part_length}
-use Rattle.row_counts.proofs.RowLaws.{block-long, block-steppable, same-part, same-value, reached-none, reached-run, reached-all}
+use Rattle.row_counts.proofs.RowLaws.{block-long, block-steppable, same-part, same-value, reached-run, reached-all}
 use Rattle.row_counts.proofs.dilate_block.Goals as goal
 
 pub row_steps-requires : goal.row_steps-requires
@@ -22,9 +22,6 @@ returns-then-not-any c =
       out_after = c.fill.ensures.after (λ y e. e) ∙ rw c.from.ensures (same-part c.row_steps.ensures size inside none c.args.n start);
     }
 
-pub loop-x-init : goal.loop-x-init
-loop-x-init c = record { within = omega arith; reached = reached-none c.requires }
-
 pub run-v-requires : goal.run-v-requires
 run-v-requires c =
     let l = c.loop-x in
@@ -38,8 +35,8 @@ run-v-requires c =
           omega (
             arith,
             l.invariant.reached.value,
-            c.requires.wide,
-            running-most (length a.row.now) a.k (is_on a.row.now) (a.c + x) (omega (arith, c.requires.inside)),
+            a.row.wide,
+            running-most (length a.row.pixels.now) a.row.k (is_on a.row.pixels.now) (a.c + x) (omega (arith, c.requires.inside)),
           );
     }
 

@@ -6,4 +6,4 @@ use Rattle.row_counts.proofs.RowLaws.{Reached}
 use Rattle.row_counts.proofs.dilate_block.Given as goal
 
 abbrev pub invariant-loop-x : goal.invariant-loop-x
-invariant-loop-x l = record { within : l.x ≤ l.m; reached : Reached l.row l.k l.c l.m l.v l.out l.x }
+invariant-loop-x l = record { within : l.x ≤ l.m; reached : Reached l.row.pixels.now l.row.k l.c l.m l.v l.out l.x }

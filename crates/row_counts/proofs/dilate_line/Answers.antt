@@ -1,26 +1,12 @@
 -- `row_counts::dilate_line` meets its contract. The loop's invariant: n is the running value before column c, and the pixels before c are
 -- written.
 -- Assumes nothing.
-use Rattle.std.proofs.Common.{◌-◌, refl, arith}
-use Rattle.counts.proofs.Put.{part_length}
+use Rattle.std.proofs.Common.{refl, arith}
 use Rattle.row_counts.proofs.RowLaws.{written-none, written-more, written-all}
 use Rattle.row_counts.proofs.dilate_line.Goals as goal
 
 pub loop-c-init : goal.loop-c-init
-loop-c-init c = record { within = omega arith; written = written-none c.min.ensures c.count-n.ensures c.requires.size }
-
-pub dilate_block-n-requires : goal.dilate_block-n-requires
-dilate_block-n-requires c =
-    let l = c.loop-c in
-    let e = c.min-e.ensures in
-    let long = part_length l.out l.c (c.min-e.result - l.c) (omega (arith, c.requires.size)) in
-    record {
-      wide = c.requires.wide;
-      near = c.requires.near;
-      inside = omega (arith, long);
-      short = omega (arith, long);
-      value = l.invariant.written.value;
-    }
+loop-c-init c = record { within = omega arith; written = written-none c.min.ensures c.count-n.ensures c.requires }
 
 pub loop-c-preserved : goal.loop-c-preserved
 loop-c-preserved c =

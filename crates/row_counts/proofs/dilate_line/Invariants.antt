@@ -6,4 +6,4 @@ use Rattle.row_counts.proofs.RowLaws.{Written}
 use Rattle.row_counts.proofs.dilate_line.Given as goal
 
 abbrev pub invariant-loop-c : goal.invariant-loop-c
-invariant-loop-c l = record { within : l.c ≤ length l.row; written : Written l.row l.k l.n l.out l.c }
+invariant-loop-c l = record { within : l.c ≤ length l.row.pixels.now; written : Written l.row.pixels.now l.row.k l.n l.out l.c }

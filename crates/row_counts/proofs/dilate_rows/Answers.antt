@@ -1,10 +1,9 @@
 -- `row_counts::dilate_rows` meets its contract. The loop's invariant: the buffer holds the first y rows, and then what it held before.
 -- Assumes nothing.
-use Rattle.std.proofs.Common.{◌≡◌, ℕ, ◌+◌, ◌-◌, ◌*◌, ◌++◌, drop, sym, ap, ◌∙◌, zero-mul, arith}
+use Rattle.std.proofs.Common.{◌≡◌, ℕ, ◌+◌, ◌-◌, ◌*◌, ◌++◌, drop, ap, ◌∙◌, zero-mul, arith}
 use Rattle.plane.specs.Plane.{rows_upto, plane_of}
-use Rattle.plane.proofs.Plane.{row_in, table-length, put-row}
+use Rattle.plane.proofs.Plane.{table-length, put-row}
 use Rattle.row_counts.specs.steps.Rows.{dilated_rows}
-use Rattle.counts.proofs.Put.{part_length}
 use Rattle.row_counts.proofs.RowLaws.{row_is}
 use Rattle.row_counts.proofs.dilate_rows.Invariants.{row_of}
 use Rattle.row_counts.proofs.dilate_rows.Goals as goal
@@ -13,29 +12,23 @@ pub loop-y-init : goal.loop-y-init
 unfolding rows_upto
 loop-y-init c = rw zero-mul
 
-pub dilate_line-requires : goal.dilate_line-requires
-dilate_line-requires c =
-    let l = c.loop-y in
-    let s = l.y * c.args.w in
-    let m = s + c.args.w - s in
-    let here = row_in l.y c.args.h c.args.w c.loop-y-test.true in
-    let row = part_length c.args.mask.now s m (omega (arith, c.requires.mask_size)) in
-    let out = part_length l.out s m (omega (arith, c.requires.out_size)) in
-    record { wide = omega (arith, row, c.requires.sides.wide); near = c.requires.near; size = out ∙ sym row }
-
 pub loop-y-preserved : goal.loop-y-preserved
 loop-y-preserved c =
     let l = c.loop-y in
     let a = c.args in
-    let s = l.y * a.w in
-    let q : s + a.w - s ≡ a.w = omega arith in
-    let made = row_is a.mask.now a.h a.w a.k l.y (s + a.w - s) c.requires.mask_size c.loop-y-test.true q in
-    put-row (row_of a.mask.now a.w a.k) a.w (λ y. table-length _ 0 a.w) l.y _ a.out.now l.out _ l.invariant q (c.dilate_line.ensures ∙ made)
+    let mask = a.mask in
+    let w = mask.size.w in
+    let s = l.y * w in
+    let q : s + w - s ≡ w = omega arith in
+    let made = row_is mask.pixels.now mask.size.h w a.k l.y mask.whole c.loop-y-test.true in
+    put-row (row_of mask.pixels.now w a.k) w (λ y. table-length _ 0 w) l.y _ a.out.now l.out _ l.invariant q
+    (c.dilate_line.ensures ∙ rw c.row.ensures.value made)
 
 pub returns : goal.returns
 unfolding dilated_rows plane_of
 returns c =
     let l = c.loop-y in
     let a = c.args in
-    let e : l.y ≡ a.h = omega arith in
-    l.invariant ∙ ap (λ (y : ℕ). rows_upto y (row_of a.mask.now a.w a.k) ++ drop (y * a.w) a.out.now) e
+    let w = a.mask.size.w in
+    let e : l.y ≡ a.mask.size.h = omega arith in
+    l.invariant ∙ ap (λ (y : ℕ). rows_upto y (row_of a.mask.pixels.now w a.k) ++ drop (y * w) a.out.now) e

@@ -10,4 +10,4 @@ abbrev pub row_of : List ℕ → ℕ → ℕ → ℕ → List ℕ
 row_of mask w k y = table (λ (x : ℕ). bit (in_window w k x (on_at mask w y))) 0 w
 
 abbrev pub invariant-loop-y : goal.invariant-loop-y
-invariant-loop-y l = l.out ≡ rows_upto l.y (row_of l.mask l.w l.k) ++ drop (l.y * l.w) l.initial.out
+invariant-loop-y l = let w = l.mask.size.w in l.out ≡ rows_upto l.y (row_of l.mask.pixels.now w l.k) ++ drop (l.y * w) l.initial.out

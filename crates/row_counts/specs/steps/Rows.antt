@@ -1,9 +1,9 @@
 -- The line pass along a row: the running count block by block, by its changes at each column.
 -- Assumes nothing.
-use Rattle.std.specs.Prelude.{◌≡◌, ℕ, zero, suc, ◌+◌, ◌*◌, ◌%◌, ◌<◌, ◌≤◌, List, length, nat_lt, slice_index}
+use Rattle.std.specs.Prelude.{◌≡◌, ℕ, zero, suc, ◌+◌, ◌%◌, ◌<◌, ◌≤◌, List, length, nat_lt, slice_index}
 use Rattle.plane.specs.Plane.{on, bit, on_at, table, plane_of}
 use Rattle.plane.specs.Mask.{is_on, mask_of}
-use Rattle.plane.specs.steps.Sides.{longest_side, Sides}
+use Rattle.plane.specs.steps.Sides.{longest_side}
 use Rattle.counts.specs.Running.{window_count, enters, leaves, running}
 use Rattle.counts.specs.steps.Window.{in_window}
 use Rattle.counts.specs.steps.Parts.{step_of}
@@ -39,9 +39,7 @@ pub record Changing (enter leave steps : List ℕ) : Type 0 where
   pub steps_size : length steps ≡ length enter
 
 -- columns from column c on of a row, with a step for each, all 0
-pub record Steppable (row : List ℕ) (k c : ℕ) (steps : List ℕ) : Type 0 where
-  pub wide : length row ≤ longest_side
-  pub near : k ≤ longest_side
+pub record Steppable (row : List ℕ) (c : ℕ) (steps : List ℕ) : Type 0 where
   pub inside : c + length steps ≤ length row
   pub zeros : (i : ℕ) → i < length steps → slice_index steps i ≡ 0
 
@@ -57,21 +55,6 @@ pub record Runnable (steps : List ℕ) (n : ℕ) (out : List ℕ) : Type 0 where
 
 -- at most 256 columns from column c on, and the running value before them
 pub record Block (row : List ℕ) (k c n : ℕ) (out : List ℕ) : Type 0 where
-  pub wide : length row ≤ longest_side
-  pub near : k ≤ longest_side
   pub inside : c + length out ≤ length row
   pub short : length out ≤ 256
   pub value : n ≡ running (length row) k (is_on row) c
-
--- a row, and the row that is written
-pub record Rows (row : List ℕ) (k : ℕ) (out : List ℕ) : Type 0 where
-  pub wide : length row ≤ longest_side
-  pub near : k ≤ longest_side
-  pub size : length out ≡ length row
-
--- a mask with its sides and a k, and the buffer for the rows
-pub record RowPlanes (mask : List ℕ) (h w k : ℕ) (out : List ℕ) : Type 0 where
-  pub sides : Sides h w
-  pub near : k ≤ longest_side
-  pub mask_size : length mask ≡ h * w
-  pub out_size : h * w ≤ length out

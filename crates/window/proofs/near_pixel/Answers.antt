@@ -28,15 +28,16 @@ module _ {deep nearest : List ℕ} {h w : ℕ} (made : Made deep nearest h w) (s
       (ap (λ (p : List ℕ). get_or p i 0) made.indices ∙ indices-at deep h w sides.some_columns i inside)
 
 pub bounds-plane-i : goal.bounds-plane-i
-bounds-plane-i c = in_plane (c.requires.made _ c.in-Some.is) c.requires.sides c.args.i c.requires.i_bound
+bounds-plane-i c = in_plane (c.requires.made _ c.in-Some.is) c.args.deep.size.sides c.args.i c.requires.i_bound
 
 pub is_near-requires-clause-j_bound : goal.is_near-requires-clause-j_bound
 is_near-requires-clause-j_bound c =
     let a = c.args in
-    let l = b-in (c.requires.made _ c.in-Some.is) c.requires.sides a.i c.requires.i_bound in
-    let r = row_of (get_or c.in-Some.plane.now a.i 0) a.h a.w c.requires.sides.some_columns l in
-    omega (arith, c.requires.sides.tall)
+    let size = a.deep.size in
+    let l = b-in (c.requires.made _ c.in-Some.is) size.sides a.i c.requires.i_bound in
+    let r = row_of (get_or c.in-Some.plane.now a.i 0) size.h size.w size.sides.some_columns l in
+    omega (arith, size.sides.tall)
 
 pub returns-in-Some : goal.returns-in-Some
 returns-in-Some c =
-    c.then_some.ensures ∙ rw c.is_near.ensures (answer (c.requires.made _ c.in-Some.is) c.requires.sides c.args.i c.requires.i_bound)
+    c.then_some.ensures ∙ rw c.is_near.ensures (answer (c.requires.made _ c.in-Some.is) c.args.deep.size.sides c.args.i c.requires.i_bound)

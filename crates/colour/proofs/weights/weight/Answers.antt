@@ -9,4 +9,4 @@ use Rattle.colour.proofs.weights.weight.Goals as goal
 
 pub returns : goal.returns
 unfolding weights weight_of of_bits div of_int
-returns c = weights-at c.args.v (omega arith)
+returns c = rw c.from.ensures (weights-at c.args.v (omega arith))

@@ -10,4 +10,4 @@ use Rattle.geometry.proofs.fill.colours_from.Given as goal
 
 abbrev pub invariant-loop-i : goal.invariant-loop-i
 invariant-loop-i l =
-    (length l.out ≡ length l.initial.out) × (l.out ≡ rows_upto l.i (colour_row l.colours l.h l.w l.indices l.some) ++ drop (l.i * 3) l.initial.out)
+    (length l.out ≡ length l.initial.out) × (l.out ≡ rows_upto l.i (colour_row l.colours l.fn.size l.indices) ++ drop (l.i * 3) l.initial.out)
