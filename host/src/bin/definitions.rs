@@ -71,10 +71,8 @@ use Rattle.colour.specs.Colour.{difference_of, close_to, colour_ok, colours_ok, 
 use Rattle.colour.specs.Join.{joins_of}
 use Rattle.colour.specs.Settings.{passes_of, on_of}
 use Rattle.colour.specs.Weight.{weight_of}
-use Rattle.card.specs.declared.Card.{Card}
-use Rattle.card.specs.declared.Card.TheVariants.{Border}
 use Rattle.card.specs.Hex.{hex_of, all_hex}
-use Rattle.card.specs.Card.{is_colour_text, text_channel, text_colour, card_of}
+use Rattle.card.specs.Card.{Card, Border, is_colour_text, text_channel, text_colour, card_of}
 use Rattle.median.specs.Median.{insert, sorted, placed, lower_middle, upper_middle, median_of}
 use Rattle.outline.specs.Border.{row_pixels, inner_column, border_list, listed, on_border}
 use Rattle.outline.specs.Border.{channel_at, colour_at, reference_channel, reference_of}
