@@ -16,11 +16,12 @@ use Rattle.colour.proofs.Range.{rgb-from}
 use Rattle.colour.proofs.Bytes.{byte-ok}
 use Rattle.card.specs.Hex.{hex_of, all_hex}
 use Rattle.card.specs.Card.{is_colour_text, text_channel, text_colour, card_of, Given, Unreadable}
-use Rattle.card.specs.steps.Named.{colour_named, card_with, card_given}
-use Rattle.std.specs.Prelude.{Option, Some, None}
+use Rattle.card.specs.declared.Card.{Card as CardValue}
+use Rattle.card.specs.declared.Card.TheVariants as card
+use Rattle.card.specs.steps.Named.{colour_named, defined_card}
+use Rattle.std.specs.Prelude.{Some, None}
 use Rattle.std.specs.Bool.{then_some}
 use Rattle.colour.specs.declared.Rgb.{Rgb}
-use Rattle.colour.specs.declared.picture.Reference.{Reference}
 use Rattle.card.specs.steps.Range.{card_ok}
 
 -- every byte of a text of digits is one
@@ -62,13 +63,14 @@ card-ok text =
     (λ (e : is_colour_text text ≡ false). rw e)
     (cases_Bool (is_colour_text text))
 
--- and so is that on which a reference is given, or none
-pub given-ok : (given : Option Reference) → card_ok (card_given given) ≡ true
-given-ok None = refl
-given-ok (Some reference) = reference.in_range
+-- and so is every card of the code
+pub defined-ok : (on : CardValue) → card_ok (defined_card on) ≡ true
+defined-ok card.Border = refl
+defined-ok (card.Given reference) = reference.in_range
+defined-ok card.Unreadable = refl
 
 -- a text that names a colour is the card on which it is given, and any other is unreadable
-pub card-named : (text : List ℕ) (c : Rgb) → Some c ≡ colour_named text → card_of text ≡ card_with (Some c)
+pub card-named : (text : List ℕ) (c : Rgb) → Some c ≡ colour_named text → card_of text ≡ Given c
 unfolding card_of colour_named
 card-named text c e = at (is_colour_text text) e
   where

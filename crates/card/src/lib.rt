@@ -1,14 +1,23 @@
-// The card that a picture was taken on: the colour that a text of six hexadecimal digits names.
+// The card that a picture was taken on: whether its colour is given, and the colour that a text of six hexadecimal digits names.
 #![tactic(auto)]
 
 ghost use Rattle.std.specs.Prelude.{◌≡◌, true, ◌<◌};
 ghost use Rattle.card.specs.Hex.{all_hex};
-ghost use Rattle.card.specs.Card.{is_colour_text, text_channel};
-ghost use Rattle.card.specs.steps.Named.{colour_named, colour_given};
+ghost use Rattle.card.specs.Card.{is_colour_text, text_channel, card_of, is_readable};
+ghost use Rattle.card.specs.steps.Named.{colour_named, colour_given, defined_card};
 ghost use Rattle.card.specs.steps.Digit.{digit_of};
 
 use colour::Rgb;
 use colour::picture::Reference;
+
+// Where the reference colour comes from: the picture's border, where none is given; the colour that is given; or a text was given that
+// names no colour.
+#[derive(Clone, Copy)]
+pub enum Card {
+    Border,
+    Given(Reference),
+    Unreadable,
+}
 
 // The value of a hexadecimal digit, in either case.
 fn hex(b: u8) -> Option<u32>
@@ -50,4 +59,21 @@ pub fn colour_named(text: &[u8]) -> Option<Reference>
     let b = channel(text, 2);
     let colour = Rgb { r, g, b };
     Some(Reference { colour })
+}
+
+// The card of a text: its colour where it is six hexadecimal digits.
+pub fn card_of(text: &[u8]) -> Card
+    ensures { defined_card result ≡ card_of text.now }
+{
+    match colour_named(text) {
+        Some(named) => Card::Given(named),
+        None => Card::Unreadable,
+    }
+}
+
+// Whether a card can be cut on: no colour was given, or one that can be read.
+pub fn readable(card: Card) -> bool
+    ensures { result ≡ is_readable (defined_card card) }
+{
+    !matches!(card, Card::Unreadable)
 }

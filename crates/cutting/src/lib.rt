@@ -3,12 +3,13 @@
 #![tactic(auto)]
 
 ghost use Rattle.std.specs.Prelude.{◌≡◌, ◌*◌, length};
-ghost use Rattle.card.specs.steps.Named.{card_given};
+ghost use Rattle.card.specs.steps.Named.{defined_card};
 ghost use Rattle.outline.specs.Border.{reference_on};
 ghost use Rattle.outline.specs.Ground.{is_found};
 ghost use Rattle.outline.specs.Cut.{is_keyed, cut_mask, margin, crop_of};
 ghost use Rattle.cutting.specs.steps.Key.{keyed_plane, KeyRoom};
 
+use card::Card;
 use colour::Settings;
 use colour::picture::{Picture, Reference};
 use plane::Box;
@@ -49,7 +50,7 @@ fn key(
 pub fn cut_mask(
     picture: Picture,
     alpha: &[u8],
-    given: Option<Reference>,
+    card: Card,
     s: Settings,
     nearest: &mut [u32],
     shallow: &mut [u8],
@@ -60,16 +61,16 @@ pub fn cut_mask(
     requires room { KeyRoom picture.size nearest.old shallow.old deep.old marks.old mask.old }
     requires alpha_len { length alpha.now ≡ picture.size.h * picture.size.w }
     ensures value { let p = picture.entry in result ≡ is_keyed p.colours.now alpha.now p.size.h p.size.w
-        (reference_on (card_given given) p.colours.now p.size.h p.size.w) s }
+        (reference_on (defined_card card) p.colours.now p.size.h p.size.w) s }
     ensures mask_after { let p = picture.entry in mask.new ≡ cut_mask p.colours.now alpha.now p.size.h p.size.w
-        (reference_on (card_given given) p.colours.now p.size.h p.size.w) s }
+        (reference_on (defined_card card) p.colours.now p.size.h p.size.w) s }
 {
     weights::reach(alpha, s.alpha_threshold, mask);
     let sought = s.key_bg & !plane::some_off(mask);
     if sought {
         let tolerance = s.key_bg_tolerance;
         let passes = colour::passes(s);
-        let reference = ground::reference_on(picture, given, nearest);
+        let reference = ground::reference_on(picture, card, nearest);
         return key(
             picture, reference, tolerance, passes, nearest, shallow, deep, marks, mask,
         );

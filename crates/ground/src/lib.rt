@@ -6,11 +6,12 @@
 ghost use Rattle.std.specs.Prelude.{◌≡◌, true, ◌*◌, ◌<◌, ◌≤◌, leb, length};
 ghost use Rattle.plane.specs.Refusal.{room_for};
 ghost use Rattle.colour.specs.Colour.{colour_ok};
-ghost use Rattle.card.specs.steps.Named.{card_given};
+ghost use Rattle.card.specs.steps.Named.{defined_card};
 ghost use Rattle.outline.specs.Border.{border_list, reference_channel, reference_of, reference_on};
 ghost use Rattle.outline.specs.Ground.{close_plane, count_on, ground_plane};
 ghost use Rattle.outline.specs.Answer.{found_reference};
 
+use card::Card;
 use colour::Rgb;
 use colour::picture::{self, Picture, Reference};
 use plane::size::Mask;
@@ -45,14 +46,14 @@ pub fn reference(picture: Picture, work: &mut [u32]) -> Reference
     Reference { colour }
 }
 
-// The reference: the colour that is given for the card, or else that of the border.
-pub fn reference_on(picture: Picture, given: Option<Reference>, work: &mut [u32]) -> Reference
+// The reference on a card: the colour that is given, or else that of the border.
+pub fn reference_on(picture: Picture, card: Card, work: &mut [u32]) -> Reference
     requires room { room_for picture.size.h picture.size.w ≤ length work.old }
-    ensures { let p = picture.entry in result.colour ≡ reference_on (card_given given) p.colours.now p.size.h p.size.w }
+    ensures { let p = picture.entry in result.colour ≡ reference_on (defined_card card) p.colours.now p.size.h p.size.w }
 {
-    match given {
-        Some(named) => named,
-        None => reference(picture, work),
+    match card {
+        Card::Given(named) => named,
+        Card::Border | Card::Unreadable => reference(picture, work),
     }
 }
 
@@ -111,21 +112,21 @@ pub fn ground_from(
     Some(reference.colour)
 }
 
-// The same for the colour that is given for the card, or else for the reference of the border.
+// The same for the reference on a card.
 pub fn flat_ground(
     picture: Picture,
-    given: Option<Reference>,
+    card: Card,
     tolerance: f64,
     work: &mut [u32],
     out: &mut [u8],
 ) -> Option<Rgb>
     requires room { room_for picture.size.h picture.size.w ≤ length work.old }
     requires out_len { length out.old ≡ picture.size.h * picture.size.w }
-    ensures value { let p = picture.entry in let on = reference_on (card_given given) p.colours.now p.size.h p.size.w in
+    ensures value { let p = picture.entry in let on = reference_on (defined_card card) p.colours.now p.size.h p.size.w in
         result ≡ found_reference p.colours.now p.size.h p.size.w on tolerance }
-    ensures out_after { let p = picture.entry in let on = reference_on (card_given given) p.colours.now p.size.h p.size.w in
+    ensures out_after { let p = picture.entry in let on = reference_on (defined_card card) p.colours.now p.size.h p.size.w in
         out.new ≡ ground_plane p.colours.now p.size.h p.size.w on tolerance }
 {
-    let reference = reference_on(picture, given, work);
+    let reference = reference_on(picture, card, work);
     ground_from(picture, reference, tolerance, work, out)
 }

@@ -2,7 +2,7 @@
 -- Assumes nothing.
 use mathlib.Core.Path.{◌≡◌, refl, sym, ap, ◌∙◌}
 use mathlib.Core.Bool.{Bool, true}
-use mathlib.Core.List.{List, [], ◌∷◌}
+use mathlib.Core.List.{List}
 use Prim.Native.Nat.{ℕ, ◌*◌, ◌≤◌}
 use lib.IntN.{ℤ}
 use lib.ListN.{length}
@@ -11,21 +11,18 @@ use borrow.Author.Tests.{eqb-true, leb-true}
 use Rattle.plane.specs.declared.size.Size.{Size}
 use Rattle.plane.specs.declared.Box.{Box}
 use Rattle.std.specs.Prelude.{Ok, Err}
-use Rattle.std.specs.Float.Ieee.Scale.{finite}
-use Rattle.plane.specs.Search.{some_below}
-use Rattle.plane.specs.Mask.{is_on}
 use Rattle.plane.specs.declared.answer.Refusal.{Refusal}
 use Rattle.plane.specs.Refusal.{Test, refusal_of, room_for, done_for}
-use Rattle.plane.proofs.Refusal.{passed, passed_first, accepted, is-accepted, is-declined, same-refusal, declined-so, written, kept}
+use Rattle.plane.proofs.Refusal.{passed, passed_first, accepted, is-declined, same-refusal, declined-so, written, kept}
 use Rattle.colour.specs.declared.Rgb.{Rgb}
 use Rattle.colour.specs.declared.Settings.{Settings}
 use Rattle.colour.specs.Colour.{colours_ok}
 use Rattle.colour.specs.Settings.{at_least_zero}
-use Rattle.card.specs.Card.{Card, Border, is_readable}
+use Rattle.card.specs.Card.{Card}
 use Rattle.outline.specs.Border.{reference_on}
 use Rattle.outline.proofs.CutLaws.{Taken, taken}
 use Rattle.outline.specs.Growth.{growth_of}
-use Rattle.outline.specs.Cut.{alpha_mask, is_keyed, cut_mask, weights_of, crop_of, margin, cut_of}
+use Rattle.outline.specs.Cut.{is_keyed, cut_mask, weights_of, crop_of, margin, cut_of}
 use Rattle.outline.specs.Calls.{Buffers, refusal_in, HeldIn}
 use Rattle.outline.specs.Refusal.{work_tests, ground_lengths, growth_lengths, cut_lengths, picture_tests, cut_contents}
 use Rattle.outline.specs.Refusal.{ground_refusal, growth_refusal, cut_refusal}
@@ -81,36 +78,18 @@ pub growth-ok : (size : Size) (colours : List Float) (background : List ℕ) (h 
     → (size.h ≡ h) × (size.w ≡ w) → growth_refusal_in colours background h w reference b ≡ 0 → GrowthOk colours background size.h size.w b
 growth-ok size colours background h w reference b s e = rw (s.0, s.1) (growth-lent colours background h w reference b e)
 
--- ---- the tests of ground and cut: the lengths, and where these are accepted, what stands in the buffers
+-- ---- the tests of ground and cut: the lengths, and where these are accepted, what stands in the buffers on the card that was judged
 
 module _ (colours : List Float) (h w : ℕ) (card : Card) (t : Float) (work out : List ℕ) where
   abbrev ground-lengths : List Test
   ground-lengths = ground_lengths h w (length colours) (length out) (length work)
 
-  ground-by-picture : refusal_of ground-lengths ≡ 0
-      → refusal_of (picture_tests card colours t) ≡ ground_refusal_in colours h w card t work out
+  pub ground-by-picture : {on : Card} → on ≡ card → refusal_of ground-lengths ≡ 0
+      → refusal_of (picture_tests on colours t) ≡ ground_refusal_in colours h w card t work out
   unfolding ground_refusal
-  ground-by-picture e = sym (passed_first ground-lengths _ (unfold ground_lengths in refl) e)
-
--- the card of an accepted text is readable
-pub read : (card : Card) → Ok tt ≡ done_for (refusal_of ((11, is_readable card) ∷ [])) → is_readable card ≡ true
-read card e = (passed ((11, is_readable card) ∷ []) refl (is-accepted _ _ _ e)).0
-
--- a picture whose card is readable is declined for the same as one without a text
-pub ground-by-read : (colours : List Float) (h w : ℕ) (card : Card) (t : Float) (work out : List ℕ) → is_readable card ≡ true
-    → refusal_of (ground_lengths h w (length colours) (length out) (length work)) ≡ 0
-    → refusal_of (picture_tests Border colours t) ≡ ground_refusal_in colours h w card t work out
-unfolding refusal_of picture_tests
-ground-by-read colours h w card t work out r e = ap (λ (b : Bool). refusal_of ((11, b) ∷ (4, colours_ok colours) ∷ (5, finite t) ∷ [])) (sym r)
-    ∙ ground-by-picture colours h w card t work out e
-
--- a text that names no colour is declined once the lengths are accepted
-pub ground-unread : (colours : List Float) (h w : ℕ) (card : Card) (t : Float) (work out : List ℕ) {r : Refusal}
-    → refusal_of (ground_lengths h w (length colours) (length out) (length work)) ≡ 0
-    → Err r ≡ done_for (refusal_of ((11, is_readable card) ∷ [])) → Err r ≡ done_for (ground_refusal_in colours h w card t work out)
-unfolding picture_tests
-ground-unread colours h w card t work out e f =
-    declined-so ((11, is_readable card) ∷ []) _ f ∙ ap done_for (ground-by-picture colours h w card t work out e)
+  ground-by-picture is e =
+      ap (λ (k : Card). refusal_of (picture_tests k colours t)) is
+      ∙ sym (passed_first ground-lengths _ (unfold ground_lengths in refl) e)
 
 module _ (colours : List Float) (alpha : List ℕ) (h w : ℕ) (card : Card) (s : Settings) (b : Buffers) where
   abbrev pub cut-lengths : List Test
@@ -122,28 +101,13 @@ module _ (colours : List Float) (alpha : List ℕ) (h w : ℕ) (card : Card) (s 
   unfolding cut_lengths work_tests
   alpha_long e = let p = passed _ refl e in eqb-true _ _ p.1.1.0
 
-  cut-by-contents : refusal_of cut-lengths ≡ 0
-      → refusal_of (cut_contents card colours alpha (length alpha) s) ≡ refusal_in colours alpha h w card s b
+  pub cut-by-contents : {on : Card} → on ≡ card → refusal_of cut-lengths ≡ 0
+      → refusal_of (cut_contents on colours alpha (length alpha) s) ≡ refusal_in colours alpha h w card s b
   unfolding cut_refusal
-  cut-by-contents e =
-      ap (λ (n : ℕ). refusal_of (cut_contents card colours alpha n s)) (alpha_long e)
+  cut-by-contents is e =
+      ap (λ (k : Card). refusal_of (cut_contents k colours alpha (length alpha) s)) is
+      ∙ ap (λ (n : ℕ). refusal_of (cut_contents card colours alpha n s)) (alpha_long e)
       ∙ sym (passed_first cut-lengths _ (unfold cut_lengths work_tests in refl) e)
-
-pub cut-by-read : (colours : List Float) (alpha : List ℕ) (h w : ℕ) (card : Card) (s : Settings) (b : Buffers) → is_readable card ≡ true
-    → refusal_of (cut-lengths colours alpha h w card s b) ≡ 0
-    → refusal_of (cut_contents Border colours alpha (length alpha) s) ≡ refusal_in colours alpha h w card s b
-unfolding cut_contents picture_tests
-cut-by-read colours alpha h w card s b r e =
-    ap (λ (q : Bool). refusal_of ((11, q) ∷ (4, colours_ok colours) ∷ (5, finite s.key_bg_tolerance)
-    ∷ (6, some_below (length alpha) (is_on (alpha_mask alpha (length alpha) s))) ∷ [])) (sym r)
-    ∙ cut-by-contents colours alpha h w card s b e
-
-pub cut-unread : (colours : List Float) (alpha : List ℕ) (h w : ℕ) (card : Card) (s : Settings) (b : Buffers) {r : Refusal}
-    → refusal_of (cut-lengths colours alpha h w card s b) ≡ 0
-    → Err r ≡ done_for (refusal_of ((11, is_readable card) ∷ [])) → Err r ≡ done_for (refusal_in colours alpha h w card s b)
-unfolding cut_contents picture_tests
-cut-unread colours alpha h w card s b e f =
-    declined-so ((11, is_readable card) ∷ []) _ f ∙ ap done_for (cut-by-contents colours alpha h w card s b e)
 
 -- what an accepted cut was lent, by the sides that it goes on with
 pub cut-ok : (size : Size) (colours : List Float) (alpha : List ℕ) (h w : ℕ) (card : Card) (s : Settings) (b : Buffers)

@@ -2,30 +2,26 @@
 // and sides come flat, as the C interface lends them. Ground and cut may be given a text that names the card's colour.
 #![tactic(auto)]
 
-ghost use Rattle.std.specs.Prelude.{◌≡◌, [], ◌∷◌, IfOk};
-ghost use Rattle.plane.specs.Refusal.{refusal_of, done_for};
-ghost use Rattle.plane.specs.steps.Judged.{done};
-ghost use Rattle.card.specs.Card.{is_readable};
-ghost use Rattle.card.specs.steps.Named.{card_given};
+ghost use Rattle.std.specs.Prelude.{◌≡◌};
+ghost use Rattle.card.specs.steps.Named.{defined_card};
 ghost use Rattle.keying.specs.Calls.{card_in, growth_buffers, cut_buffers, GroundCalled, GrowthCalled, NextPassCalled, Called};
 
-use colour::picture::{Picture, Reference};
+use card::Card;
+use colour::picture::Picture;
 use colour::{Rgb, Settings};
 use outline::Outcome;
 use plane::answer::Refusal;
 use plane::size::Mask;
 use refusals::WorkLengths;
 
-// The colour of the card that a text names; none without a text.
-fn card_colour(text: Option<&[u8]>) -> Result<Option<Reference>, Refusal>
-    ensures refusal { done result ≡ done_for (refusal_of ((11, is_readable (card_in text.entry)) ∷ [])) }
-    ensures card { IfOk result (λ given. card_given given ≡ card_in text.entry) }
+// The card of a call: the one whose colour the text names, and without a text one of no known colour.
+fn card_lent(text: Option<&[u8]>) -> Card
+    ensures { defined_card result ≡ card_in text.entry }
 {
-    let Some(text) = text else {
-        return Ok(None);
-    };
-    let named = card::colour_named(text).ok_or(Refusal::CardColour)?;
-    Ok(Some(named))
+    match text {
+        Some(text) => card::card_of(text),
+        None => Card::Border,
+    }
 }
 
 // The ground of a picture, as a mask, and the colour that it was compared with: the card's, where a text of six hexadecimal digits names
@@ -42,10 +38,10 @@ pub fn flat_background(
     ensures { GroundCalled colours.now h w (card_in text.entry) tolerance work.old out.old result work.new out.new }
 {
     let size = refusals::ground_lengths(h, w, colours.len(), out.len(), work.len())?;
-    let given = card_colour(text)?;
-    refusals::picture_refusal(colours, tolerance)?;
+    let card = card_lent(text);
+    refusals::picture_refusal(card, colours, tolerance)?;
     let picture = Picture { colours, size };
-    Ok(ground::flat_ground(picture, given, tolerance, work, out))
+    Ok(ground::flat_ground(picture, card, tolerance, work, out))
 }
 
 // The background after at most p passes of growth, written as 0 and 1; a negative p counts as 0.
@@ -141,8 +137,8 @@ pub fn subject(
         weights.len(),
         work,
     )?;
-    let card = card_colour(text)?;
-    refusals::cut_contents(colours, alpha, s)?;
+    let card = card_lent(text);
+    refusals::cut_contents(card, colours, alpha, s)?;
     let picture = Picture { colours, size };
     let keyed = cutting::cut_mask(picture, alpha, card, s, nearest, shallow, deep, marks, mask);
     weights::weights(mask, alpha, weights);

@@ -9,10 +9,11 @@ ghost use Rattle.std.specs.Prelude.{◌≡◌, length, IfOk};
 ghost use Rattle.plane.specs.Refusal.{refusal_of, done_for};
 ghost use Rattle.plane.specs.steps.Accepted.{HasSides};
 ghost use Rattle.plane.specs.steps.Judged.{done};
-ghost use Rattle.card.specs.Card.{Border};
+ghost use Rattle.card.specs.steps.Named.{defined_card};
 ghost use Rattle.colour.specs.Colour.{rgb_ok};
 ghost use Rattle.outline.specs.Refusal.{ground_lengths, growth_lengths, cut_lengths, picture_tests, cut_contents, growth_refusal};
 
+use card::Card;
 use colour::{Rgb, Settings};
 use plane::answer::{self, Refusal};
 use plane::size::Size;
@@ -111,10 +112,12 @@ pub fn cut_lengths(
     Ok(size)
 }
 
-// What a picture is declined for whose card is readable: its colours, then the tolerance.
-pub fn picture_refusal(colours: &[f64], tolerance: f64) -> Result<(), Refusal>
-    ensures { result ≡ done_for (refusal_of (picture_tests Border colours.now tolerance)) }
+// What a picture is declined for: a text that names no card's colour, its colours, then the tolerance. The card is judged apart, so that
+// no colour is read where it is unreadable.
+pub fn picture_refusal(card: Card, colours: &[f64], tolerance: f64) -> Result<(), Refusal>
+    ensures { result ≡ done_for (refusal_of (picture_tests (defined_card card) colours.now tolerance)) }
 {
+    answer::judge(&[(card::readable(card), Refusal::CardColour)])?;
     answer::judge(&[
         (colour::colours_ok(colours), Refusal::Colours),
         (colour::is_finite(tolerance), Refusal::Tolerance),
@@ -122,10 +125,10 @@ pub fn picture_refusal(colours: &[f64], tolerance: f64) -> Result<(), Refusal>
 }
 
 // What a cut is declined for once its lengths are accepted: the picture, then an alpha that nowhere reaches the threshold.
-pub fn cut_contents(colours: &[f64], alpha: &[u8], s: Settings) -> Result<(), Refusal>
-    ensures { result ≡ done_for (refusal_of (cut_contents Border colours.now alpha.now (length alpha.now) s)) }
+pub fn cut_contents(card: Card, colours: &[f64], alpha: &[u8], s: Settings) -> Result<(), Refusal>
+    ensures { result ≡ done_for (refusal_of (cut_contents (defined_card card) colours.now alpha.now (length alpha.now) s)) }
 {
-    picture_refusal(colours, s.key_bg_tolerance)?;
+    picture_refusal(card, colours, s.key_bg_tolerance)?;
     answer::judge(&[(
         weights::some_reach(alpha, s.alpha_threshold),
         Refusal::Alpha,

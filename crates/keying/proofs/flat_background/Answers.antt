@@ -5,7 +5,7 @@ use Rattle.std.proofs.Common.{Ok}
 use Rattle.std.proofs.lemmas.Result.{err_from_is_err_and}
 use Rattle.plane.specs.Refusal.{done_for}
 use Rattle.plane.proofs.Refusal.{accepted, is-accepted, written}
-use Rattle.keying.proofs.Accepted.{read, ground-ok, ground-by-read, ground-unread, ground-refused, ground-wrong-lengths}
+use Rattle.keying.proofs.Accepted.{ground-ok, ground-by-picture, ground-refused, ground-wrong-lengths}
 use Rattle.keying.proofs.flat_background.Goals as goal
 
 pub returns-in_err-size : goal.returns-in_err-size
@@ -14,28 +14,20 @@ returns-in_err-size c =
     let p = err_from_is_err_and c.from_residual.result c.from_residual.ensures.1 in
     rw (p.1, p.2) (ground-wrong-lengths a.colours.now a.h a.w _ a.tolerance a.work.now a.out.now c.in_err-size.ensures.refusal)
 
-pub returns-in_err-given : goal.returns-in_err-given
-returns-in_err-given c =
-    let a = c.args in
-    let p = err_from_is_err_and c.from_residual-in_err-given.result c.from_residual-in_err-given.ensures.1 in
-    let z = is-accepted _ _ _ c.in_ok-size.ensures.refusal in
-    rw (p.1, p.2)
-    (ground-refused _ _ _ _ _ _ _ (ground-unread a.colours.now a.h a.w _ a.tolerance a.work.now a.out.now z c.in_err-given.ensures.refusal))
-
 -- the number that the picture gets is the call's
 pub returns-in_err-picture_refusal : goal.returns-in_err-picture_refusal
 returns-in_err-picture_refusal c =
     let a = c.args in
     let p = err_from_is_err_and c.from_residual-in_err-picture_refusal.result c.from_residual-in_err-picture_refusal.ensures.1 in
     let z = is-accepted _ _ _ c.in_ok-size.ensures.refusal in
-    let n = ground-by-read a.colours.now a.h a.w _ a.tolerance a.work.now a.out.now (read _ c.in_ok-given.ensures.refusal) z in
+    let n = ground-by-picture a.colours.now a.h a.w _ a.tolerance a.work.now a.out.now c.card_lent-card.ensures z in
     rw (p.1, p.2) (ground-refused _ _ _ _ _ _ _ (c.in_err-picture_refusal.ensures ∙ ap done_for n))
 
 pub invariant_of-picture : goal.invariant_of-picture
 invariant_of-picture c =
     let a = c.args in
     let z = is-accepted _ _ _ c.in_ok-size.ensures.refusal in
-    let n = ground-by-read a.colours.now a.h a.w _ a.tolerance a.work.now a.out.now (read _ c.in_ok-given.ensures.refusal) z in
+    let n = ground-by-picture a.colours.now a.h a.w _ a.tolerance a.work.now a.out.now c.card_lent-card.ensures z in
     let k = ground-ok c.in_ok-size.size _ _ _ _ _ _ _ c.in_ok-size.ensures.size (sym n ∙ is-accepted _ _ _ c.in_ok-picture_refusal.ensures) in
     record { whole = k.input; in_range = k.range }
 
@@ -43,7 +35,7 @@ pub flat_ground-requires : goal.flat_ground-requires
 flat_ground-requires c =
     let a = c.args in
     let z = is-accepted _ _ _ c.in_ok-size.ensures.refusal in
-    let n = ground-by-read a.colours.now a.h a.w _ a.tolerance a.work.now a.out.now (read _ c.in_ok-given.ensures.refusal) z in
+    let n = ground-by-picture a.colours.now a.h a.w _ a.tolerance a.work.now a.out.now c.card_lent-card.ensures z in
     let k = ground-ok c.in_ok-size.size _ _ _ _ _ _ _ c.in_ok-size.ensures.size (sym n ∙ is-accepted _ _ _ c.in_ok-picture_refusal.ensures) in
     record { room = k.room; out_len = k.output }
 
@@ -52,10 +44,10 @@ returns c =
     let a = c.args in
     let s = c.in_ok-size.ensures.size in
     let z = is-accepted _ _ _ c.in_ok-size.ensures.refusal in
-    let n = ground-by-read a.colours.now a.h a.w _ a.tolerance a.work.now a.out.now (read _ c.in_ok-given.ensures.refusal) z in
+    let n = ground-by-picture a.colours.now a.h a.w _ a.tolerance a.work.now a.out.now c.card_lent-card.ensures z in
     let y = sym n ∙ is-accepted _ _ _ c.in_ok-picture_refusal.ensures in
     record {
-      answer = ap Ok (c.flat_ground.ensures.value ∙ rw (s.0, s.1, c.in_ok-given.ensures.card)) ∙ sym (accepted _ _ y);
-      out_is = c.flat_ground.ensures.out_after ∙ rw (s.0, s.1, c.in_ok-given.ensures.card) (sym (written _ _ _ y));
+      answer = ap Ok (c.flat_ground.ensures.value ∙ rw (s.0, s.1, c.card_lent-card.ensures)) ∙ sym (accepted _ _ y);
+      out_is = c.flat_ground.ensures.out_after ∙ rw (s.0, s.1, c.card_lent-card.ensures) (sym (written _ _ _ y));
       kept = λ bad. absurd (bad y);
     }
