@@ -1,77 +1,71 @@
-// What a case is: the planes that it gives, and what it asks of them.
-ghost use Rattle.std.specs.Prelude.{◌≡◌, ◌↔◌, ◌*◌, vec_len, IsSome, IfSome};
+// What a case is: its kind, the sides of its planes, the planes, and what its line asks of a picture.
+ghost use Rattle.std.specs.Prelude.{◌≡◌, ◌↔◌, ◌*◌, ◌≤◌, length, IsSome, IfSome};
 
+use crate::kind::Kind;
 use colour::Settings;
-use plane::size::Size;
 
-// A value for each pixel, row after row.
-#[derive(Drop)]
-pub struct Plane<T> {
-    pub size: Size,
-    pub pixels: Vec<T>,
-    ghost whole: { vec_len pixels ≡ size.h * size.w },
+// The most pixels of a plane. Every array for a plane is as long, since there is no heap.
+pub const MOST_PIXELS: usize = 1296;
+
+// The sides of a plane that is neither empty nor too large.
+#[derive(Clone, Copy, Debug, PartialEq, Eq)]
+pub struct Sides {
+    pub h: usize,
+    pub w: usize,
+    ghost some: { 1 ≤ h * w },
+    ghost few: { h * w ≤ 1296 },
 }
 
-// A byte for each pixel, 0 for off.
-pub type Mask = Plane<u8>;
-
-impl<T: Drop> Plane<T> {
-    // The plane with these values, if there is one for each pixel.
-    pub(crate) fn new(size: Size, pixels: Vec<T>) -> Option<Self>
-        ensures whole { IsSome result ↔ (vec_len pixels ≡ size.h * size.w) }
-        ensures value { IfSome result (λ plane. (plane.size ≡ size) × (plane.pixels ≡ pixels)) }
+impl Sides {
+    // These sides, if a plane of them is neither empty nor too large.
+    pub(crate) fn new(h: usize, w: usize) -> Option<Self>
+        ensures fit { IsSome result ↔ ((1 ≤ h * w) × (h * w ≤ 1296)) }
+        ensures value { IfSome result (λ sides. (sides.h ≡ h) × (sides.w ≡ w)) }
     {
-        if pixels.len() == size.area() {
-            Some(Plane { size, pixels })
-        } else {
-            None
+        let area = h.checked_mul(w)?;
+        if area == 0 || MOST_PIXELS < area {
+            return None;
         }
+        Some(Sides { h, w })
     }
+
+    // How many pixels a plane has.
+    pub(crate) fn area(self) -> usize
+        ensures { result ≡ self.h * self.w }
+    {
+        self.h * self.w
+    }
+}
+
+// A case: the text from its line on, its kind, and the sides of its planes.
+#[derive(Clone, Copy)]
+pub struct Case<'a> {
+    pub text: &'a [u8],
+    pub kind: Kind,
+    pub sides: Sides,
+}
+
+// A byte for each pixel, row after row, 0 for off.
+#[derive(Clone, Copy)]
+pub struct Mask<'a> {
+    pub pixels: &'a [u8],
+    pub sides: Sides,
+    ghost whole: { length pixels.now ≡ sides.h * sides.w },
 }
 
 // Three channels for each pixel, side by side as the calls are lent them, and its alpha.
-#[derive(Drop)]
-pub struct Picture {
-    pub size: Size,
-    pub colours: Vec<f64>,
-    pub alpha: Vec<u8>,
-    ghost colours_whole: { vec_len colours ≡ 3 * (size.h * size.w) },
-    ghost alpha_whole: { vec_len alpha ≡ size.h * size.w },
+#[derive(Clone, Copy)]
+pub struct Picture<'a> {
+    pub colours: &'a [f64],
+    pub alpha: &'a [u8],
+    pub sides: Sides,
+    ghost colours_whole: { length colours.now ≡ 3 * (sides.h * sides.w) },
+    ghost alpha_whole: { length alpha.now ≡ sides.h * sides.w },
 }
 
-impl Picture {
-    // The picture with these numbers, if there are three channels and an alpha for each pixel.
-    pub(crate) fn new(size: Size, colours: Vec<f64>, alpha: Vec<u8>) -> Option<Self>
-        ensures whole { IsSome result ↔ ((vec_len colours ≡ 3 * (size.h * size.w)) × (vec_len alpha ≡ size.h * size.w)) }
-        ensures value { IfSome result (λ picture. (picture.size ≡ size) × (picture.colours ≡ colours) × (picture.alpha ≡ alpha)) }
-    {
-        if colours.len() == 3 * size.area() && alpha.len() == size.area() {
-            Some(Picture {
-                size,
-                colours,
-                alpha,
-            })
-        } else {
-            None
-        }
-    }
-}
-
-// What is computed, and of what; the text of the card's colour where the case gives one.
-#[derive(Drop)]
-pub enum Task<'a> {
-    Labels(Mask),
-    Squares(Mask, u64),
-    Nearest(Mask),
-    Ground(Picture, f64, Option<&'a str>),
-    Cut(Picture, Settings, Option<&'a str>),
-    Pair(Picture, Picture, Settings, Option<&'a str>),
-    Following(Picture, Settings, Option<&'a str>),
-}
-
-// A case: its line, and what that line and those after it ask for.
-#[derive(Drop)]
-pub struct Case<'a> {
-    pub line: &'a str,
-    pub task: Task<'a>,
+// What the line of a case asks of a picture: the settings, and the text of the card's colour where the case gives one.
+#[derive(Clone, Copy)]
+pub struct Request<'a> {
+    pub settings: Settings,
+    pub card: Option<&'a [u8]>,
 }

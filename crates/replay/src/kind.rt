@@ -1,8 +1,6 @@
 // The kinds of cases.
-ghost use Rattle.replay.specs.steps.Kind.{Names};
-
-use crate::error::Unread;
-use std::str::FromStr;
+ghost use Rattle.std.specs.Prelude.{◌≡◌};
+ghost use Rattle.replay.specs.steps.Kind.{kind_of};
 
 // What a case asks for.
 #[derive(Clone, Copy, Debug, PartialEq, Eq)]
@@ -16,22 +14,19 @@ pub enum Kind {
     Following,
 }
 
-impl FromStr for Kind {
-    type Err = Unread;
-
-    ghost from_str_gives = { Names };
-
-    // The kind with this word.
-    fn from_str(word: &str) -> Result<Self, Unread> {
-        match word {
-            "L" => Ok(Kind::Labels),
-            "S" => Ok(Kind::Squares),
-            "N" => Ok(Kind::Nearest),
-            "G" | "g" => Ok(Kind::Ground),
-            "C" | "c" => Ok(Kind::Cut),
-            "P" | "p" => Ok(Kind::Pair),
-            "F" | "f" => Ok(Kind::Following),
-            _ => Err(Unread::Malformed),
+impl Kind {
+    // The kind that the first byte of a line names. There is one for every byte: what is no letter of a kind is a cut.
+    pub(crate) fn of(byte: u8) -> Self
+        ensures { result ≡ kind_of byte }
+    {
+        match byte {
+            b'L' => Kind::Labels,
+            b'S' => Kind::Squares,
+            b'N' => Kind::Nearest,
+            b'G' | b'g' => Kind::Ground,
+            b'P' | b'p' => Kind::Pair,
+            b'F' | b'f' => Kind::Following,
+            _ => Kind::Cut,
         }
     }
 }

@@ -1,223 +1,244 @@
-// The cases of a text: each is read from its line and those after it. That reading goes on (GoesOn) is a clause of seven functions: it
-// speaks of before and after.
-ghost use Rattle.std.specs.Prelude.{◌≡◌, length};
-ghost use Rattle.std.specs.Iterator.{at_most};
-ghost use Rattle.std.specs.Str.Iter.{lines_rest};
-ghost use Rattle.replay.specs.steps.Reading.{GoesOn};
+// What is read from a case. Nothing is declined here: every text has an answer, and where a word or a plane is not what it should be,
+// what can be read of it counts, and 0 for the rest.
+ghost use Rattle.std.specs.Prelude.{◌<◌, ◌≤◌, length, IfSome};
 
-use crate::case::{Case, Mask, Picture, Plane, Task};
-use crate::error::Unread;
+use crate::case::{Case, Request, Sides};
 use crate::kind::Kind;
-use colour::Settings;
-use plane::size::Size;
-use std::alloc::{AllocError, Global};
+use colour::{Rgb, Settings};
+use std::io::{ErrorKind, Read};
 use std::num;
-use std::str::Lines;
 
-// The cases of a text, in order.
-#[derive(Drop)]
-pub struct Cases<'a> {
-    alloc: Global,
-    lines: Lines<'a>,
-}
+// The colour of an entry that a palette has not.
+pub(crate) const BLACK: Rgb = Rgb {
+    r: 0.0,
+    g: 0.0,
+    b: 0.0,
+};
 
-// What a character of a picture stands for.
+// The colours and the alphas that the characters of a picture stand for, from `0` on.
 #[derive(Clone, Copy)]
-struct Entry {
-    colour: [f64; 3],
-    alpha: u8,
+pub struct Palette<'a> {
+    pub colours: &'a [Rgb],
+    pub alphas: &'a [u8],
 }
 
-impl<'a> Iterator for Cases<'a> {
-    type Item = Result<Case<'a>, AllocError>;
-
-    ghost remaining = { λ cases. at_most (length (lines_rest cases.lines)) };
-
-    // A line that begins no case is the end.
-    fn next(&mut self) -> Option<Result<Case<'a>, AllocError>> {
-        let line = self.lines.next()?;
-        match self.case(line) {
-            Ok(case) => Some(Ok(case)),
-            Err(Unread::Malformed) => None,
-            Err(Unread::Memory(error)) => Some(Err(error)),
+// Bytes from a reader, until it ends, a read fails or buf is full; how many. A read that a signal cuts short is made again.
+pub(crate) fn fill<R: Read>(reader: &mut R, buf: &mut [u8]) -> usize
+    ensures { result ≤ length buf.new }
+{
+    let mut done = 0;
+    // A read that a signal cuts short reads nothing, so the number of rounds ends the loop.
+    for _ in 0..u64::MAX {
+        if buf.len() <= done {
+            break;
         }
+        match reader.read(&mut buf[done..]) {
+            Ok(0) => break,
+            Ok(n) => done += n,
+            Err(e) => {
+                if e.kind() != ErrorKind::Interrupted {
+                    break;
+                }
+            }
+        }
+    }
+    done
+}
+
+// How many bytes there are up to the first that is at most `last`, that one among them; all where there is none. A word ends with a
+// byte that is at most a space, and a line with one that is at most a newline.
+fn piece(text: &[u8], last: u8) -> usize
+    ensures { result ≤ length text.now }
+{
+    match text.iter().position(|byte| *byte <= last) {
+        Some(i) => i + 1,
+        None => text.len(),
     }
 }
 
-impl<'a> Cases<'a> {
-    // All cases of a text.
-    pub(crate) fn new(alloc: Global, text: &'a str) -> Self
-        ensures { lines_rest result.lines ≡ text.now }
-    {
-        let lines = text.lines();
-        Cases { alloc, lines }
-    }
+// The first line, with its end.
+pub(crate) fn line(text: &[u8]) -> &[u8] {
+    &text[..piece(text, b'\n')]
+}
 
-    // The next line; a text that ends here is malformed.
-    fn next_line(&mut self) -> Result<&'a str, Unread>
-        ensures { GoesOn self.old.lines self.new.lines }
-    {
-        self.lines.next().ok_or(Unread::Malformed)
-    }
+// What follows the first line.
+pub(crate) fn after_line(text: &[u8]) -> &[u8] {
+    &text[piece(text, b'\n')..]
+}
 
-    // The next lines, so many of them.
-    fn next_lines(&mut self, count: usize) -> Result<Vec<&'a str>, Unread>
-        ensures { GoesOn self.old.lines self.new.lines }
-    {
-        let mut lines = Vec::new(self.alloc);
-        for _ in 0..count {
-            lines.push(self.next_line()?)?;
+// What follows so many words.
+fn after_words(text: &[u8], count: usize) -> &[u8] {
+    let mut rest = text;
+    for _ in 0..count {
+        rest = &rest[piece(rest, b' ')..];
+    }
+    rest
+}
+
+// The bytes of a word that ends: the last one is not taken, also where no space or newline ends the word.
+fn word(text: &[u8]) -> &[u8] {
+    &text[..piece(text, b' ').saturating_sub(1)]
+}
+
+// The number that a text begins with, of at most 19 digits; 0 where there is none. By hand: `parse` reads a `str` and declines.
+fn number(text: &[u8]) -> u64 {
+    let mut n = 0u64;
+    for byte in &text[..text.len().min(19)] {
+        if !byte.is_ascii_digit() {
+            break;
         }
-        Ok(lines)
+        n = 10 * n + u64::from(*byte - b'0');
     }
+    n
+}
 
-    // The case with this line; what else it has stands in the next lines.
-    fn case(&mut self, line: &'a str) -> Result<Case<'a>, Unread>
-        ensures { GoesOn self.old.lines self.new.lines }
-    {
-        let words: Vec<&'a str> = line.split(' ').collect(self.alloc)?;
-        let [kind, h, w, count, others @ ..] = words.as_slice() else {
-            return Err(Unread::Malformed);
+// The number that is n below -1; n is taken modulo 2^63.
+fn below(n: u64) -> i64 {
+    -1 - (n % 0x8000_0000_0000_0000) as i64
+}
+
+// The number that a text begins with: n is taken modulo 2^63, and -n is n - 1 below -1, so that both ends of i64 can be read.
+fn signed(text: &[u8]) -> i64 {
+    if let [b'-', digits @ ..] = text {
+        return match number(digits) {
+            0 => 0,
+            n => below(n - 1),
         };
-        let size = Size::new(h.parse()?, w.parse()?)?;
-        let card = card(kind, others);
-        let task = self.task(kind.parse()?, size, count.parse()?, others, card)?;
-        Ok(Case { line, task })
     }
+    (number(text) % 0x8000_0000_0000_0000) as i64
+}
 
-    // What the line asks for, with the planes that follow it. The parameters are the words of the line, as far as they are read.
-    fn task(
-        &mut self,
-        kind: Kind,
-        size: Size,
-        count: u64,
-        words: &[&'a str],
-        card: Option<&'a str>,
-    ) -> Result<Task<'a>, Unread>
-        ensures { GoesOn self.old.lines self.new.lines }
-    {
-        match kind {
-            Kind::Labels => Ok(Task::Labels(self.mask(size)?)),
-            Kind::Squares => Ok(Task::Squares(self.mask(size)?, count)),
-            Kind::Nearest => Ok(Task::Nearest(self.mask(size)?)),
-            Kind::Ground => {
-                let tolerance = tolerance(words)?;
-                let palette = self.palette(count)?;
-                Ok(Task::Ground(self.picture(&palette, size)?, tolerance, card))
-            }
-            Kind::Cut => {
-                let settings = settings(words)?;
-                let palette = self.palette(count)?;
-                Ok(Task::Cut(self.picture(&palette, size)?, settings, card))
-            }
-            Kind::Pair => {
-                let settings = settings(words)?;
-                let palette = self.palette(count)?;
-                let first = self.picture(&palette, size)?;
-                let second = self.picture(&palette, size)?;
-                Ok(Task::Pair(first, second, settings, card))
-            }
-            // As a cut but for the variant: with one arm for both the kind would be asked twice.
-            Kind::Following => {
-                let settings = settings(words)?;
-                let palette = self.palette(count)?;
-                Ok(Task::Following(self.picture(&palette, size)?, settings, card))
-            }
-        }
-    }
+// Whether a text begins with 1.
+fn flag(text: &[u8]) -> bool {
+    text.first() == Some(&b'1')
+}
 
-    // Lines of digits, 0 for off.
-    fn mask(&mut self, size: Size) -> Result<Mask, Unread>
-        ensures { GoesOn self.old.lines self.new.lines }
-    {
-        let mut pixels = Vec::new(self.alloc);
-        for line in &self.next_lines(size.h)? {
-            pixels.extend(line.bytes().map(|digit| u8::from(digit != b'0')))?;
-        }
-        Plane::new(size, pixels).ok_or(Unread::Malformed)
-    }
-
-    // The palette of a case: the colours of so many entries, and a line of their alphas.
-    fn palette(&mut self, count: u64) -> Result<Vec<Entry>, Unread>
-        ensures { GoesOn self.old.lines self.new.lines }
-    {
-        let colours = self.next_lines(usize::try_from(count)?)?;
-        let alphas = self.next_line()?;
-        let mut entries = Vec::new(self.alloc);
-        for (colour, alpha) in colours.iter().zip(alphas.split(' ')) {
-            let colour = channels(*colour)?;
-            let alpha = alpha.parse()?;
-            entries.push(Entry { colour, alpha })?;
-        }
-        Ok(entries)
-    }
-
-    // Lines of characters: `0` is the palette's first entry, and each entry has the character after the one before.
-    fn picture(&mut self, palette: &[Entry], size: Size) -> Result<Picture, Unread>
-        ensures { GoesOn self.old.lines self.new.lines }
-    {
-        let mut colours = Vec::new(self.alloc);
-        let mut alpha = Vec::new(self.alloc);
-        for line in &self.next_lines(size.h)? {
-            for character in line.bytes() {
-                let place = usize::from(character.wrapping_sub(b'0'));
-                let entry = palette.get(place).ok_or(Unread::Malformed)?;
-                colours.extend_from_slice(&entry.colour)?;
-                alpha.push(entry.alpha)?;
-            }
-        }
-        Picture::new(size, colours, alpha).ok_or(Unread::Malformed)
+// The value of a hexadecimal digit, 0 to 9 and a to f.
+fn hex_digit(byte: u8) -> Option<u64>
+    ensures { IfSome result (λ digit. digit < 16) }
+{
+    match byte {
+        b'0'..=b'9' => Some(u64::from(byte - b'0')),
+        b'a'..=b'f' => Some(u64::from(byte - b'a') + 10),
+        _ => None,
     }
 }
 
-// The three channels of a colour.
-fn channels(line: &str) -> Result<[f64; 3], Unread> {
-    let mut words = line.split(' ');
-    let mut channel = || float(words.next().ok_or(Unread::Malformed)?);
-    Ok([channel()?, channel()?, channel()?])
-}
-
-// The number whose bits are these hexadecimal digits; 0 for the bits of a NaN.
-fn float(bits: &str) -> Result<f64, Unread> {
-    let x = num::f64_from_bits_with_nan(u64::from_str_radix(bits, 16)?);
-    Ok(if x.is_nan() { 0.0 } else { x })
-}
-
-// A flag is 1 or 0.
-fn flag(word: &str) -> Result<bool, Unread> {
-    match word {
-        "1" => Ok(true),
-        "0" => Ok(false),
-        _ => Err(Unread::Malformed),
+// The hexadecimal number that a text begins with, of at most 16 digits that count.
+fn hex(text: &[u8]) -> u64 {
+    let mut n = 0u64;
+    for byte in text {
+        let Some(digit) = hex_digit(*byte) else {
+            break;
+        };
+        if 0xfff_ffff_ffff_ffff < n {
+            break;
+        }
+        n = n * 16 + digit;
     }
+    n
 }
 
-// The text of the card's colour, for a kind with a small letter: the word after those of its settings, which may be empty. The letter is
-// asked here again, since `Kind` is one for both.
-fn card<'a>(kind: &str, words: &[&'a str]) -> Option<&'a str> {
-    let place = match kind {
-        "g" => 1,
-        "c" | "p" | "f" => 5,
-        _ => return None,
+// The float whose bits a text begins with; 0 for the bits of a NaN.
+fn float(text: &[u8]) -> f64 {
+    let x = num::f64_from_bits_with_nan(hex(text));
+    if x.is_nan() { 0.0 } else { x }
+}
+
+// The case that a text begins with, where a plane of its sides is neither empty nor too large.
+pub(crate) fn case(text: &[u8]) -> Option<Case<'_>> {
+    let kind = Kind::of(*text.first()?);
+    let h = number(after_words(text, 1));
+    let w = number(after_words(text, 2));
+    let sides = Sides::new(h as usize, w as usize)?;
+    Some(Case { text, kind, sides })
+}
+
+// The number after the sides: of steps for squares, of entries of the palette for a picture.
+pub(crate) fn count(line: &[u8]) -> u64 {
+    number(after_words(line, 3))
+}
+
+// The text of the card's colour: the word after those of the settings. A case has it whose first byte is `a` or one after it, as the
+// small letters are.
+fn card(case: Case<'_>) -> Option<&[u8]> {
+    if *case.text.first()? < b'a' {
+        return None;
+    }
+    let place = if case.kind == Kind::Ground { 5 } else { 9 };
+    Some(word(after_words(case.text, place)))
+}
+
+// What the line of a case asks of a picture.
+pub(crate) fn request(case: Case<'_>) -> Request<'_> {
+    let line = case.text;
+    let settings = Settings {
+        alpha_threshold: signed(after_words(line, 5)),
+        key_bg: flag(after_words(line, 6)),
+        key_bg_fringe: signed(after_words(line, 7)),
+        key_bg_tolerance: float(after_words(line, 4)),
+        crop_to_alpha: flag(after_words(line, 8)),
     };
-    Some(words.get(place).copied().unwrap_or(""))
+    let card = card(case);
+    Request { settings, card }
 }
 
-// The tolerance of a ground.
-fn tolerance(words: &[&str]) -> Result<f64, Unread> {
-    float(words.first().ok_or(Unread::Malformed)?)
+// The colours of a palette and then its alphas, modulo 256; what follows.
+pub(crate) fn entries<'a>(text: &'a [u8], colours: &mut [Rgb], alphas: &mut [u8]) -> &'a [u8] {
+    let mut rest = text;
+    for colour in colours.iter_mut() {
+        *colour = Rgb {
+            r: float(rest),
+            g: float(after_words(rest, 1)),
+            b: float(after_words(rest, 2)),
+        };
+        rest = after_words(rest, 3);
+    }
+    bytes(rest, alphas)
 }
 
-// The settings of a cut.
-fn settings(words: &[&str]) -> Result<Settings, Unread> {
-    let [tolerance, threshold, key, passes, crop, ..] = words else {
-        return Err(Unread::Malformed);
-    };
-    Ok(Settings {
-        alpha_threshold: threshold.parse()?,
-        key_bg: flag(key)?,
-        key_bg_fringe: passes.parse()?,
-        key_bg_tolerance: float(tolerance)?,
-        crop_to_alpha: flag(crop)?,
-    })
+// Numbers, modulo 256; what follows.
+fn bytes<'a>(text: &'a [u8], out: &mut [u8]) -> &'a [u8] {
+    let mut rest = text;
+    for byte in out.iter_mut() {
+        *byte = (number(rest) % 256) as u8;
+        rest = after_words(rest, 1);
+    }
+    rest
+}
+
+// The three channels of pixel i, where there is room for them.
+fn set_colour(colours: &mut [f64], i: usize, colour: Rgb) {
+    if i < colours.len() / 3 {
+        colours[3 * i] = colour.r;
+        colours[3 * i + 1] = colour.g;
+        colours[3 * i + 2] = colour.b;
+    }
+}
+
+// A plane of the palette's characters, as long as alpha; what follows the line of its last pixel. A character below `0` stands between
+// pixels, and one past the palette is black with alpha 0. Pixels that the text ends before stay as they were.
+pub(crate) fn plane<'a>(
+    text: &'a [u8],
+    palette: Palette<'_>,
+    colours: &mut [f64],
+    alpha: &mut [u8],
+) -> &'a [u8] {
+    let mut i = 0;
+    for (at, byte) in text.iter().enumerate() {
+        if alpha.len() <= i {
+            return after_line(&text[at..]);
+        }
+        if let Some(entry) = byte.checked_sub(b'0') {
+            let entry = usize::from(entry);
+            set_colour(
+                colours,
+                i,
+                palette.colours.get(entry).copied().unwrap_or(BLACK),
+            );
+            alpha[i] = palette.alphas.get(entry).copied().unwrap_or(0);
+            i += 1;
+        }
+    }
+    &[]
 }

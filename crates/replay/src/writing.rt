@@ -1,53 +1,64 @@
 // How answers are written.
-use crate::answering::{Agreement, Answer, Pair};
-use crate::calls::{Cut, Place};
-use crate::case::{Mask, Plane};
+use crate::case::{Mask, Sides};
+use outline::Outcome;
 use plane::answer::Refusal;
-use std::{fmt, num};
+use std::{fmt, io, num};
 
-// Lines of as many words as the plane has columns.
+// The label of each pixel.
 #[derive(Clone, Copy)]
-struct Words<'a, T>(&'a Plane<T>);
+pub struct Labels<'a> {
+    pub labels: &'a [u32],
+    pub sides: Sides,
+}
 
-// Lines of as many digits as the mask has columns: 1 for on and 0 for off.
+// The row and the column of each pixel's nearest on-pixel; the row is -1 where no pixel is on, a number as the call writes it and as it
+// is printed.
 #[derive(Clone, Copy)]
-struct Digits<'a>(&'a Mask);
-
-// The lines of a cut, or why it declines.
-#[derive(Clone, Copy)]
-struct CutOrRefusal<'a>(&'a Result<Cut, Refusal>);
-
-// Why a call declines. A type of its own, since the enum is of another crate, as the trait is.
-// cutcard writes the same text to a page, without a heap.
-#[derive(Clone, Copy)]
-struct Refused(Refusal);
+pub struct Places<'a> {
+    pub rows: &'a [i32],
+    pub columns: &'a [i32],
+    pub sides: Sides,
+}
 
 // A line for each run of numbers with the same bits: how many they are, and the bits.
 #[derive(Clone, Copy)]
 struct Runs<'a>(&'a [f64]);
 
-impl<T: fmt::Display> fmt::Display for Words<'_, T> {
+// What stands after pixel i: the line end after the last one of a row, and else what stands between two.
+fn after_pixel(sides: Sides, i: usize, between: &'static str) -> &'static str {
+    if i % sides.w == sides.w - 1 {
+        "\n"
+    } else {
+        between
+    }
+}
+
+// Lines of digits: 1 for on and 0 for off.
+impl fmt::Display for Mask<'_> {
     fn fmt<W: fmt::Write>(&self, f: &mut fmt::Formatter<W>) -> fmt::Result {
-        for row in self.0.pixels.chunks(self.0.size.w) {
-            for (i, pixel) in row.iter().enumerate() {
-                if i != 0 {
-                    f.write_str(" ")?;
-                }
-                write!(f, "{pixel}")?;
-            }
-            writeln!(f)?;
+        for (i, pixel) in self.pixels.iter().enumerate() {
+            f.write_str(if *pixel == 0 { "0" } else { "1" })?;
+            f.write_str(after_pixel(self.sides, i, ""))?;
         }
         Ok(())
     }
 }
 
-impl fmt::Display for Digits<'_> {
+impl fmt::Display for Labels<'_> {
     fn fmt<W: fmt::Write>(&self, f: &mut fmt::Formatter<W>) -> fmt::Result {
-        for row in self.0.pixels.chunks(self.0.size.w) {
-            for pixel in row {
-                f.write_str(if *pixel == 0 { "0" } else { "1" })?;
-            }
-            writeln!(f)?;
+        for (i, label) in self.labels.iter().enumerate() {
+            let after = after_pixel(self.sides, i, " ");
+            write!(f, "{label}{after}")?;
+        }
+        Ok(())
+    }
+}
+
+impl fmt::Display for Places<'_> {
+    fn fmt<W: fmt::Write>(&self, f: &mut fmt::Formatter<W>) -> fmt::Result {
+        for (i, (row, column)) in self.rows.iter().zip(self.columns).enumerate() {
+            let after = after_pixel(self.sides, i, " ");
+            write!(f, "{row},{column}{after}")?;
         }
         Ok(())
     }
@@ -66,38 +77,36 @@ impl fmt::Display for Runs<'_> {
     }
 }
 
-// The bits of a number; those of one NaN for every NaN.
+// The bits of a number; 0 for a NaN.
 fn bits(x: f64) -> u64 {
-    num::f64_to_bits_with_nan(x)
-}
-
-impl fmt::Display for Place {
-    fn fmt<W: fmt::Write>(&self, f: &mut fmt::Formatter<W>) -> fmt::Result {
-        write!(f, "{},{}", self.row, self.column)
+    if x.is_nan() {
+        0
+    } else {
+        num::f64_to_bits_with_nan(x)
     }
 }
 
-impl fmt::Display for Cut {
-    fn fmt<W: fmt::Write>(&self, f: &mut fmt::Formatter<W>) -> fmt::Result {
-        let keyed = u8::from(self.outcome.keyed);
-        let plane::Box { y0, y1, x0, x1 } = self.outcome.crop;
-        writeln!(f, "keyed {keyed} crop {y0} {y1} {x0} {x1}")?;
-        write!(f, "{}{}", Digits(&self.mask), Runs(&self.weights))
-    }
+// Why a call declines.
+pub(crate) fn refused<R: Print>(rt: &R, refusal: Refusal) -> io::Result<()> {
+    let number = u32::from(refusal);
+    print!(rt; "refused {number}\n")
 }
 
-impl fmt::Display for Refused {
-    fn fmt<W: fmt::Write>(&self, f: &mut fmt::Formatter<W>) -> fmt::Result {
-        writeln!(f, "refused {}", u32::from(self.0))
-    }
-}
-
-impl fmt::Display for CutOrRefusal<'_> {
-    fn fmt<W: fmt::Write>(&self, f: &mut fmt::Formatter<W>) -> fmt::Result {
-        match self.0 {
-            Ok(cut) => write!(f, "{cut}"),
-            Err(refusal) => write!(f, "{}", Refused(*refusal)),
+// The lines of a cut, or why it declines.
+pub(crate) fn cut<R: Print>(
+    rt: &R,
+    cut: Result<Outcome, Refusal>,
+    mask: Mask<'_>,
+    weights: &[f64],
+) -> io::Result<()> {
+    match cut {
+        Ok(Outcome { keyed, crop }) => {
+            let keyed = u8::from(keyed);
+            let plane::Box { y0, y1, x0, x1 } = crop;
+            let runs = Runs(weights);
+            print!(rt; "keyed {keyed} crop {y0} {y1} {x0} {x1}\n{mask}{runs}")
         }
+        Err(refusal) => refused(rt, refusal),
     }
 }
 
@@ -106,42 +115,17 @@ fn yes_or_no(holds: bool) -> &'static str {
     if holds { "yes" } else { "no" }
 }
 
-impl fmt::Display for Agreement {
-    fn fmt<W: fmt::Write>(&self, f: &mut fmt::Formatter<W>) -> fmt::Result {
-        writeln!(f, "agree within p + 3: {}", yes_or_no(self.within_three))?;
-        writeln!(f, "agree within p + 4: {}", yes_or_no(self.within_four))
-    }
+// Whether something holds, after a text.
+pub(crate) fn whether<R: Print>(rt: &R, what: &str, holds: bool) -> io::Result<()> {
+    let answer = yes_or_no(holds);
+    print!(rt; "{what}: {answer}\n")
 }
 
-impl fmt::Display for Pair {
-    fn fmt<W: fmt::Write>(&self, f: &mut fmt::Formatter<W>) -> fmt::Result {
-        match &self.agreement {
-            Some(agreement) => write!(f, "{agreement}")?,
-            None => writeln!(f, "absent")?,
-        }
-        write!(
-            f,
-            "{}{}",
-            CutOrRefusal(&self.first),
-            CutOrRefusal(&self.second)
-        )?;
-        writeln!(f, "same mask: {}", yes_or_no(self.same_mask))
-    }
-}
-
-impl fmt::Display for Answer {
-    fn fmt<W: fmt::Write>(&self, f: &mut fmt::Formatter<W>) -> fmt::Result {
-        match self {
-            Answer::Labels(parts, labels) => write!(f, "{parts}\n{}", Words(labels)),
-            Answer::Squares(mask) => write!(f, "{}", Digits(mask)),
-            Answer::Nearest(places) => write!(f, "{}", Words(places)),
-            Answer::Ground(Some(mask)) => write!(f, "found\n{}", Digits(mask)),
-            Answer::Ground(None) => writeln!(f, "absent"),
-            Answer::Cut(cut) => write!(f, "{cut}"),
-            Answer::Pair(pair) => write!(f, "{pair}"),
-            Answer::Following(Some((joins, mask))) => write!(f, "joins {joins}\n{}", Digits(mask)),
-            Answer::Following(None) => writeln!(f, "absent"),
-            Answer::Refused(refusal) => write!(f, "{}", Refused(*refusal)),
-        }
-    }
+// Where two pictures agree, or that there is no ground.
+pub(crate) fn agreement<R: Print>(rt: &R, agreement: Option<(bool, bool)>) -> io::Result<()> {
+    let Some((three, four)) = agreement else {
+        return print!(rt; "absent\n");
+    };
+    whether(rt, "agree within p + 3", three)?;
+    whether(rt, "agree within p + 4", four)
 }

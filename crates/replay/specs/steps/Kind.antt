@@ -1,22 +1,21 @@
--- The words that name the kinds of cases.
+-- The bytes that name the kinds of cases.
 -- Assumes nothing.
-use Rattle.std.specs.Prelude.{◌≡◌, ℕ, List, [], ◌∷◌, Contains, Result, MatchResult, codes}
+use Rattle.std.specs.Prelude.{ℕ, List, Bool, ◌==◌, codes, if◌then◌else◌}
+use Rattle.std.specs.List.{list_any}
 use Rattle.replay.specs.declared.kind.Kind.{Kind}
 use Rattle.replay.specs.declared.kind.Kind.TheVariants.{Labels, Squares, Nearest, Ground, Cut, Pair, Following}
-use Rattle.replay.specs.declared.error.Unread.{Unread}
-use Rattle.replay.specs.declared.error.Unread.TheVariants.{Malformed}
 
--- the words for a kind; the small letter says that the case gives the card's colour
-abbrev pub words_of : Kind → List (List ℕ)
-words_of Labels = codes "L" ∷ []
-words_of Squares = codes "S" ∷ []
-words_of Nearest = codes "N" ∷ []
-words_of Ground = codes "G" ∷ codes "g" ∷ []
-words_of Cut = codes "C" ∷ codes "c" ∷ []
-words_of Pair = codes "P" ∷ codes "p" ∷ []
-words_of Following = codes "F" ∷ codes "f" ∷ []
+-- the byte is one of these letters
+abbrev pub is_among : List ℕ → ℕ → Bool
+is_among letters byte = list_any (λ letter. letter == byte) letters
 
--- the result is the kind with this word, or an error where no kind has it
-abbrev pub Names : List ℕ → Result Kind Unread → Type 0
-Names word r = MatchResult r (λ kind. Contains (words_of kind) word)
-    (λ e. (e ≡ Malformed) × ((kind : Kind) → ¬ Contains (words_of kind) word))
+-- the kind that a byte names: a letter its own kind, of which the small one says that the case gives the card's colour, and every other
+-- byte a cut
+abbrev pub kind_of : ℕ → Kind
+kind_of byte =
+    if is_among (codes "L") byte then Labels else (
+    if is_among (codes "S") byte then Squares else (
+    if is_among (codes "N") byte then Nearest else (
+    if is_among (codes "Gg") byte then Ground else (
+    if is_among (codes "Pp") byte then Pair else (
+    if is_among (codes "Ff") byte then Following else Cut)))))
