@@ -2,7 +2,7 @@
 // and sides come flat, as the C interface lends them. Ground and cut may be given a text that names the card's colour.
 #![tactic(auto)]
 
-ghost use Rattle.std.specs.Prelude.{◌≡◌};
+ghost use Rattle.std.specs.Prelude.{◌≡◌, length};
 ghost use Rattle.card.specs.steps.Named.{defined_card};
 ghost use Rattle.keying.specs.Calls.{card_in, growth_buffers, cut_buffers, GroundCalled, GrowthCalled, NextPassCalled, Called};
 
@@ -44,6 +44,17 @@ pub fn flat_background(
     Ok(ground::flat_ground(picture, card, tolerance, work, out))
 }
 
+// A plane as it is. A loop, since `copy_from_slice` is the C library's `memmove`, and the archive asks no more of a host than `memcpy` and
+// `memset`.
+fn copy(from: &[u8], to: &mut [u8])
+    requires { length from.now ≡ length to.old }
+    ensures { to.new ≡ from.now }
+{
+    for i in 0..to.len() {
+        to[i] = from[i];
+    }
+}
+
 // The background after at most p passes of growth, written as 0 and 1; a negative p counts as 0.
 pub fn unmix_fringe(
     colours: &[f64],
@@ -71,7 +82,7 @@ pub fn unmix_fringe(
     };
     let back = background.len();
     let size = refusals::growth_refusal(colours, back, h, w, reference, out.len(), work)?;
-    out.copy_from_slice(background);
+    copy(background, out);
     let passes = colour::count_of(p);
     growth::grow(
         colours, size, reference, passes, nearest, shallow, deep, marks, out,

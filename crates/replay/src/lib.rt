@@ -151,6 +151,6 @@ fn cases<R: Print>(rt: &R, text: &[u8]) -> io::Result<()> {
 // All of standard input, up to MOST_INPUT bytes. A read that fails counts as the end; a write that fails ends the run.
 pub fn run<R: Input + Print>(rt: &R) -> io::Result<()> {
     let mut input = [0u8; MOST_INPUT];
-    let n = reading::fill(&mut rt.reader(), &mut input);
+    let n = text::read_full(&mut rt.reader(), &mut input);
     cases(rt, &input[..n])
 }

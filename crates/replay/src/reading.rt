@@ -5,7 +5,6 @@ ghost use Rattle.std.specs.Prelude.{◌<◌, ◌≤◌, length, IfSome};
 use crate::case::{Case, Request, Sides};
 use crate::kind::Kind;
 use colour::{Rgb, Settings};
-use std::io::{ErrorKind, Read};
 use std::num;
 
 // The colour of an entry that a palette has not.
@@ -20,29 +19,6 @@ pub(crate) const BLACK: Rgb = Rgb {
 pub struct Palette<'a> {
     pub colours: &'a [Rgb],
     pub alphas: &'a [u8],
-}
-
-// Bytes from a reader, until it ends, a read fails or buf is full; how many. A read that a signal cuts short is made again.
-pub(crate) fn fill<R: Read>(reader: &mut R, buf: &mut [u8]) -> usize
-    ensures { result ≤ length buf.new }
-{
-    let mut done = 0;
-    // A read that a signal cuts short reads nothing, so the number of rounds ends the loop.
-    for _ in 0..u64::MAX {
-        if buf.len() <= done {
-            break;
-        }
-        match reader.read(&mut buf[done..]) {
-            Ok(0) => break,
-            Ok(n) => done += n,
-            Err(e) => {
-                if e.kind() != ErrorKind::Interrupted {
-                    break;
-                }
-            }
-        }
-    }
-    done
 }
 
 // How many bytes there are up to the first that is at most `last`, that one among them; all where there is none. A word ends with a
@@ -80,16 +56,9 @@ fn word(text: &[u8]) -> &[u8] {
     &text[..piece(text, b' ').saturating_sub(1)]
 }
 
-// The number that a text begins with, of at most 19 digits; 0 where there is none. By hand: `parse` reads a `str` and declines.
+// The number that a text begins with, of at most 19 digits; 0 where there is none.
 fn number(text: &[u8]) -> u64 {
-    let mut n = 0u64;
-    for byte in &text[..text.len().min(19)] {
-        if !byte.is_ascii_digit() {
-            break;
-        }
-        n = 10 * n + u64::from(*byte - b'0');
-    }
-    n
+    text::read_number(text, 0, 19)
 }
 
 // The number that is n below -1; n is taken modulo 2^63.

@@ -20,12 +20,12 @@ returns-in_err-size c =
     (growth-refused _ _ _ _ a.reference a.p (growth_buffers a.out.now a.nearest.now a.shallow.now a.deep.now a.marks.now)
     c.in_err-size.ensures.refusal)
 
-pub copy_from_slice-requires : goal.copy_from_slice-requires
-copy_from_slice-requires c =
+pub copy-requires : goal.copy-requires
+copy-requires c =
     let a = c.args in
     let b = growth_buffers a.out.now a.nearest.now a.shallow.now a.deep.now a.marks.now in
     let k = growth-ok c.in_ok-size.size _ _ _ _ a.reference b c.in_ok-size.ensures.size (is-accepted _ _ _ c.in_ok-size.ensures.refusal) in
-    k.out_long ∙ sym k.back_long
+    k.back_long ∙ sym k.out_long
 
 pub grow-requires : goal.grow-requires
 grow-requires c =
@@ -39,7 +39,7 @@ grow-requires c =
       shallow_long = omega (arith, k.shallow_long);
       deep_long = omega (arith, k.deep_long);
       marks_long = omega (arith, k.marks_long);
-      back_long = c.copy_from_slice.auto.self ∙ k.out_long;
+      back_long = c.copy.auto.to ∙ k.out_long;
     }
 
 pub returns : goal.returns
@@ -49,5 +49,5 @@ returns c =
     let t : to_z w64 (of_z w64 a.p) ≡ a.p = search rules in
     growth-made a.colours.now a.background.now a.h a.w a.reference a.p
     (growth_buffers a.out.now a.nearest.now a.shallow.now a.deep.now a.marks.now) _ _ _
-    (is-accepted _ _ _ c.in_ok-size.ensures.refusal) (c.count_of-passes.ensures ∙ ap at_least_zero t) c.copy_from_slice.ensures.after
+    (is-accepted _ _ _ c.in_ok-size.ensures.refusal) (c.count_of-passes.ensures ∙ ap at_least_zero t) c.copy.ensures
     (rw (s.0, s.1) at c.grow.ensures)
