@@ -46,6 +46,30 @@ fn run(compiler: &str, words: &[&str], program: &str) -> Option<String> {
     Some(String::from_utf8(ran.stdout).expect("text"))
 }
 
+/// The archive asks of the C library no more than it always did: a host without the rest still links.
+#[test]
+fn two_names_from_outside() {
+    let output = match Command::new("nm")
+        .arg("-u")
+        .arg(env!("STAND_ARCHIVE"))
+        .output()
+    {
+        Err(e) if e.kind() == ErrorKind::NotFound => {
+            let line = b"skipped: there is no `nm` to read the archive\n";
+            std::io::stderr().write_all(line).unwrap();
+            return;
+        }
+        other => other.expect("nm"),
+    };
+    assert!(output.status.success(), "{:?}", output.status);
+    let text = String::from_utf8(output.stdout).expect("text");
+    let names: Vec<&str> = text
+        .lines()
+        .filter_map(|line| line.trim().strip_prefix("U "))
+        .collect();
+    assert_eq!(names, ["memcpy", "memset"]);
+}
+
 #[test]
 fn five_lines_of_c() {
     if let Some(text) = run("cc", &["-std=c99"], "nearest.c") {

@@ -267,6 +267,16 @@ fn definitions_name_their_rules() {
     assert!(missing.is_empty(), "no rule is named for: {missing:#?}");
 }
 
+/// Whether a crate's definitions have data or a record of this name.
+fn is_definition(owner: &str, name: &str) -> bool {
+    all_files(&format!("crates/{owner}/specs")).iter().any(|p| {
+        let text = read(p);
+        ["data", "record"]
+            .iter()
+            .any(|kind| text.contains(&format!("pub {kind} {name} ")))
+    })
+}
+
 /// The tests that `definitions` writes for the prover name definitions that are there.
 #[test]
 fn the_definitions_that_are_computed_exist() {
@@ -291,6 +301,12 @@ fn the_definitions_that_are_computed_exist() {
         };
         for name in list.trim_end_matches('}').split(", ") {
             assert!(there.contains(name), "{file} has no {name}");
+            if module.starts_with("declared.") {
+                assert!(
+                    !is_definition(owner, name),
+                    "{name} is a definition of {owner}, besides the type of the code"
+                );
+            }
             count += 1;
         }
     }
