@@ -94,13 +94,20 @@ fn look(
     request: Request<'_>,
     background: &mut [u8],
     grown: &mut [u8],
-) -> Result<Option<u64>, Refusal> {
+) -> Result<Option<u64>, Refusal>
+    requires background_len { length background.old ≡ picture.sides.h * picture.sides.w }
+    requires grown_len { length grown.old ≡ picture.sides.h * picture.sides.w }
+{
+    let sides = picture.sides;
     let Some(reference) = calls::ground(picture, request, background)? else {
         return Ok(None);
     };
     let passes = request.settings.key_bg_fringe;
-    calls::grown(picture, background, reference, passes, grown)?;
-    Ok(Some(calls::next_pass(picture, grown, reference, background)?))
+    let pixels = &*background;
+    calls::grown(picture, Mask { pixels, sides }, reference, passes, grown)?;
+    let pixels = &*grown;
+    let joins = calls::next_pass(picture, Mask { pixels, sides }, reference, background)?;
+    Ok(Some(joins))
 }
 
 // The pass that follows.

@@ -73,14 +73,14 @@ pub(crate) fn subject(
 // The background after so many passes of growth.
 pub(crate) fn grown(
     picture: Picture<'_>,
-    background: &[u8],
+    background: Mask<'_>,
     reference: Rgb,
     passes: i64,
     grown: &mut [u8],
 ) -> Result<(), Refusal> {
     keying::unmix_fringe(
         picture.colours,
-        background,
+        background.pixels,
         picture.sides.h,
         picture.sides.w,
         reference,
@@ -96,13 +96,13 @@ pub(crate) fn grown(
 // A look at the pass that comes after a background: how many pixels join, and the background after it.
 pub(crate) fn next_pass(
     picture: Picture<'_>,
-    background: &[u8],
+    background: Mask<'_>,
     reference: Rgb,
     next: &mut [u8],
 ) -> Result<u64, Refusal> {
     keying::next_pass(
         picture.colours,
-        background,
+        background.pixels,
         picture.sides.h,
         picture.sides.w,
         reference,

@@ -1,6 +1,6 @@
 // Replays recorded cases: reads them from standard input, computes each with the public calls, and writes the answers. What is
-// proved is that it ends, stays within its arrays, and lends planes of the lengths that their sides say; what it writes is compared
-// with recorded answers. `run` is its only public function.
+// proved is that it ends, stays within its arrays, and that masks, pictures, labels and places are as long as their sides say; what it
+// writes is compared with recorded answers. `run` is its only public function.
 //
 // A case is a line of words and then text. Of geometry the line is `op h w k`, with op L for labels, S for squares or N for
 // nearest, and h lines of w digits follow, 0 for off. Its answer is the same line and then, for L, the number of parts and h

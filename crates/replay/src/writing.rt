@@ -1,4 +1,6 @@
 // How answers are written.
+ghost use Rattle.std.specs.Prelude.{◌≡◌, ◌*◌, length};
+
 use crate::case::{Mask, Sides};
 use outline::Outcome;
 use plane::answer::Refusal;
@@ -9,6 +11,7 @@ use std::{fmt, io, num};
 pub struct Labels<'a> {
     pub labels: &'a [u32],
     pub sides: Sides,
+    ghost whole: { length labels.now ≡ sides.h * sides.w },
 }
 
 // The row and the column of each pixel's nearest on-pixel; the row is -1 where no pixel is on, a number as the call writes it and as it
@@ -18,6 +21,8 @@ pub struct Places<'a> {
     pub rows: &'a [i32],
     pub columns: &'a [i32],
     pub sides: Sides,
+    ghost rows_whole: { length rows.now ≡ sides.h * sides.w },
+    ghost columns_whole: { length columns.now ≡ sides.h * sides.w },
 }
 
 // A line for each run of numbers with the same bits: how many they are, and the bits.
